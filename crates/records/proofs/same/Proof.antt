@@ -49,7 +49,7 @@ loop-again c =
     (omega arith, omega arith, c .before .before .before .before .loop .inv .2 ∙ same-on (args .a .now) (args .b .now) (c .before .before .before .before .loop .i) (omega arith) (omega arith) (c .if2 .left))
 
 returns-3 : tie.Need-returns-3 Inv-loop μ-loop
-returns-3 c = sym (c .before .loop .inv .2 ∙ same-end _ _ _ (c .before .loop .inv .1) (c .before .loop .inv .0) (c .loop-test .left))
+returns-3 c = sym (c .before .loop .inv .2 ∙ same-end _ _ _ (c .before .loop .inv .1) (c .loop-test .left))
 
 pub same-spec : {M : Type 1} → statement M
 same-spec =

@@ -1,0 +1,120 @@
+// The bytes of a profile: lines, fields, names and numbers.
+ghost use mathlib.Core.Path.{_≡_};
+ghost use mathlib.Core.List.{[]};
+ghost use Prim.Native.Nat.{_+_, _≤_};
+ghost use lib.ListN.{getD, drop};
+ghost use Rattle.laws.specs.Lists.{same};
+ghost use Rattle.text.specs.Text.{fieldsFrom, indexOf, isNameByte, numberOf, nameOf};
+
+// What a field is read as: a number, or nothing that may stand there.
+pub enum Number {
+    Is(u64),
+    Bad,
+}
+
+// The place of the first b from a place on, or the end.
+pub fn find(s: &[u8], from: usize, b: u8) -> usize
+    ensures { λ r. ⌜ r ≡ from + indexOf b (drop from (now (s .entry))) ⌝ }
+{
+    let mut i = from;
+    while i < s.len() {
+        if s[i] == b {
+            return i;
+        }
+        i += 1;
+    }
+    i
+}
+
+// The field of a line that begins at a place, empty where the place is past the end.
+pub fn field_at(line: &[u8], at: usize) -> &[u8]
+    ensures { λ r. ⌜ now r ≡ getD (fieldsFrom (now (line .entry)) at) 0 [] ⌝ }
+{
+    let n = line.len();
+    if n < at {
+        return &line[n..];
+    }
+    let e = find(line, at, b',');
+    &line[at..e]
+}
+
+// Whether two slices hold the same bytes.
+pub fn equal(a: &[u8], b: &[u8]) -> bool
+    ensures { λ r. ⌜ r ≡ same (now (a .entry)) (now (b .entry)) ⌝ }
+{
+    if a.len() != b.len() {
+        return false;
+    }
+    let mut i = 0;
+    while i < a.len() {
+        if a[i] != b[i] {
+            return false;
+        }
+        i += 1;
+    }
+    true
+}
+
+// A byte as a number of 64 bits.
+fn wide(x: u8) -> u64
+    ensures { λ r. ⌜ r ≡ x ⌝ }
+{
+    x as u64
+}
+
+// Whether a byte is a capital letter or a digit.
+fn name_byte(x: u8) -> bool
+    ensures { λ r. ⌜ r ≡ isNameByte x ⌝ }
+{
+    (b'0' <= x) & (x <= b'9') | (b'A' <= x) & (x <= b'Z')
+}
+
+// The number of a name of least to most bytes.
+pub fn name(f: &[u8], least: usize, most: usize) -> Number
+    requires { ⌜ most ≤ 8 ⌝ }
+    ensures { λ r. ⌜ r ≡ nameOf least most (now (f .entry)) ⌝ }
+{
+    if f.len() < least {
+        return Number::Bad;
+    }
+    if most < f.len() {
+        return Number::Bad;
+    }
+    let mut v: u64 = 0;
+    let mut i: usize = 0;
+    while i < f.len() {
+        let x = f[i];
+        if !name_byte(x) {
+            return Number::Bad;
+        }
+        v = v * 256 + wide(x);
+        i += 1;
+    }
+    Number::Is(v)
+}
+
+// The number of a field of 1 to 12 digits.
+pub fn digits(f: &[u8]) -> Number
+    ensures { λ r. ⌜ r ≡ numberOf (now (f .entry)) ⌝ }
+{
+    if f.len() < 1 {
+        return Number::Bad;
+    }
+    if 12 < f.len() {
+        return Number::Bad;
+    }
+    let mut v: u64 = 0;
+    let mut i: usize = 0;
+    while i < f.len() {
+        let x = f[i];
+        if x < b'0' {
+            return Number::Bad;
+        }
+        if b'9' < x {
+            return Number::Bad;
+        }
+        v = v * 10 + wide(x - b'0');
+        i += 1;
+    }
+    Number::Is(v)
+}
