@@ -1,0 +1,150 @@
+-- From the parts of a line to the whole: its places, its limit, and what it comes to by what its two halves say. Assumes nothing.
+use Prim.Native.Nat.{ℕ, _+_, _≤_, _<_}
+use mathlib.Core.Path.{_≡_, refl, sym}
+use mathlib.Core.Bool.{Bool, true, false, cond, _&&_, _||_, not, Bool·beq, false≢true, and-assoc, and-false}
+use mathlib.Core.List.{List, []}
+use lib.ListN.{length, getD}
+use lib.Dec.{eqb, leb, ltb}
+use borrow.Author.Tests.{ltb-true, le-leb, lt-leb, lt-ltb, le-ltb}
+use native.Mathlib.Decide.{decLt}
+use native.Mathlib.Omega.{arith}
+use Rattle.laws.specs.Tests.{tests}
+use Rattle.measures.specs.Ranges.{Range, In, isIn}
+use Rattle.measures.specs.Checked.{Taken, Beyond}
+use Rattle.rules.specs.declared.Limit.{Limit}
+use Rattle.rules.specs.declared.Rule.{Rule}
+use Rattle.text.specs.Text.{fields, fieldsFrom}
+use Rattle.text.proofs.Lists.{Cursor, cursor-step, cursor-there, cursor-gone}
+use Rattle.line.specs.Line.{limitsOf, limitOf, kindOf, isAbsolute, typeIn, limitIn, timeIn, rootIn, isFirmLevel, callPut, month, malformed, otherFirm, outOfRange, levelClash, unitClash, faultOf, scopeOf, ruleOf, lineOf}
+use Rattle.line.specs.Parts.{limitRead, HeadSays, TailSays}
+use Rattle.line.specs.declared.LimitType.{LimitType}
+use Rattle.line.specs.declared.LimitRead.the-variants.{Is as Ranged, Out}
+use Rattle.line.specs.declared.Head.{Head}
+use Rattle.line.specs.declared.Tail.{Tail}
+use Rattle.line.specs.declared.Line.{Line}
+use Rattle.line.specs.declared.Line.the-variants.{Is, Refused}
+
+-- the end of a field is a small number, and its place lies within the line exactly if the field is there
+module _ {line : List ℕ} {at k : ℕ} (c : Cursor line at k) where
+  pub field-fits : {f : List ℕ} → f ≡ getD (fieldsFrom line at) 0 [] → length line ≤ 65_536 → k < 8 → at + length f < 65_600
+  field-fits e few early = omega (arith, cursor-step c e refl .reach)
+
+  pub there-test : leb at (length line) ≡ leb (k + 1) (length (fields line))
+  there-test = go (decLt (length line) at)
+    where
+      go : Dec (length line < at) → leb at (length line) ≡ leb (k + 1) (length (fields line))
+      go (yes h) = rw (lt-leb at (length line) h, lt-leb (k + 1) (length (fields line)) (omega (arith, cursor-gone c h)))
+      go (no h) =
+          let w : at ≤ length line = omega arith in
+          rw (le-leb at (length line) w, le-leb (k + 1) (length (fields line)) (omega (arith, cursor-there c w)))
+
+  pub gone-test : ltb (length line) at ≡ leb (length (fields line)) k
+  gone-test = go (decLt (length line) at)
+    where
+      go : Dec (length line < at) → ltb (length line) at ≡ leb (length (fields line)) k
+      go (yes h) = rw (lt-ltb (length line) at h, le-leb (length (fields line)) k (cursor-gone c h))
+      go (no h) =
+          let w : at ≤ length line = omega arith in
+          rw (le-ltb (length line) at w, lt-leb (length (fields line)) k (cursor-there c w))
+
+-- a number that passes a range's test lies in the range
+pub test-in : (r : Range) (n : ℕ) → isIn r n ≡ true → In r n
+test-in r n e = (search tests, search tests)
+
+-- a limit by what the constructor of its measure answers, and the other way round
+module _ (type : LimitType) (n : ℕ) where
+  pub limit-taken : {m : ℕ} → Taken (limitsOf type) n m → Ranged (limitOf type m) ≡ limitRead type n
+  unfolding limitRead
+  limit-taken t = rw (t .0, le-leb _ _ (t .1 .0), le-leb _ _ (t .1 .1))
+
+  pub limit-beyond : Beyond (limitsOf type) n → Out ≡ limitRead type n
+  unfolding limitRead
+  limit-beyond b = go (isIn (limitsOf type) n) refl
+    where
+      go : (t : Bool) → isIn (limitsOf type) n ≡ t → Out ≡ cond t (Ranged (limitOf type n)) Out
+      go true e = absurd (b (test-in (limitsOf type) n e))
+      go false e = refl
+
+  pub limit-is : {l : Limit} → limitRead type n ≡ Ranged l → (isIn (limitsOf type) n ≡ true) × (limitOf type n ≡ l)
+  unfolding limitRead
+  limit-is {l} = go (isIn (limitsOf type) n)
+    where
+      go : (t : Bool) → cond t (Ranged (limitOf type n)) Out ≡ Ranged l → (t ≡ true) × (limitOf type n ≡ l)
+      go true e = (refl, cc)
+      go false e = let z : _≡_ {A = ℕ} 0 1 = cc in absurd (omega arith)
+
+  pub limit-out : limitRead type n ≡ Out → isIn (limitsOf type) n ≡ false
+  unfolding limitRead
+  limit-out = go (isIn (limitsOf type) n)
+    where
+      go : (t : Bool) → cond t (Ranged (limitOf type n)) Out ≡ Out → t ≡ false
+      go true e = let z : _≡_ {A = ℕ} 0 1 = cc in absurd (omega arith)
+      go false e = refl
+
+-- the first of five faults that applies, or the rule
+abbrev pub firstOf : Bool → Bool → Bool → Bool → Bool → Rule → Line
+firstOf six seven eight nine ten rule =
+    cond six (Refused 6) (cond seven (Refused 7) (cond eight (Refused 8) (cond nine (Refused 9) (cond ten (Refused 10) (Is rule)))))
+
+-- faults 8, 9 and 10 of a line
+abbrev pub rangeFault : List ℕ → Bool
+rangeFault line = outOfRange (typeIn line) (limitIn line) (timeIn line)
+
+abbrev pub levelFault : List ℕ → Bool
+levelFault line = levelClash (rootIn line) (isFirmLevel line)
+
+abbrev pub unitFault : List ℕ → Bool
+unitFault line = unitClash (isFirmLevel line) (callPut line) (month line)
+
+-- the lowest number that applies is the first fault, and where it is 0 there is none
+pub line-first : (firm : ℕ) (line : List ℕ)
+    → lineOf firm line ≡ firstOf (malformed line) (otherFirm firm line) (rangeFault line) (levelFault line) (unitFault line) (ruleOf line)
+unfolding lineOf faultOf
+line-first firm line = go (malformed line) (otherFirm firm line) (rangeFault line) (levelFault line) (unitFault line)
+  where
+    go : (a b c d e : Bool)
+        → let n : ℕ = cond a 6 (cond b 7 (cond c 8 (cond d 9 (cond e 10 0)))) in
+        cond (eqb n 0) (Is (ruleOf line)) (Refused n) ≡ firstOf a b c d e (ruleOf line)
+    go true b c d e = refl
+    go false true c d e = refl
+    go false false true d e = refl
+    go false false false true e = refl
+    go false false false false true = refl
+    go false false false false false = refl
+
+-- what a line comes to by what its two halves say
+unfoldable pub said : ℕ → Head → Tail → Line
+said firm head tail = firstOf
+    (not (head .well && tail .well))
+    (not (eqb (head .firm) firm))
+    (outOfRange (head .named) (head .limit) (tail .time))
+    (levelClash (head .root) (tail .firmwide))
+    (unitClash (tail .firmwide) (tail .call) (tail .month))
+    (record {
+      scope = scopeOf (head .root) (tail .firmwide) (tail .call) (tail .month);
+      kind = kindOf (head .named) (tail .time);
+      limit = limitOf (head .named) (head .limit);
+    })
+
+-- nine tests as those of the first four fields and those of the last four
+halves : (a b c d e f g h i : Bool) → (a && b && c && d && e && f && g && h && i) ≡ ((a && c && d && e && f) && (b && g && h && i))
+halves false b c d e f g h i = refl
+halves true false c d e f g h i = sym (and-false (c && d && e && f))
+halves true true c d e f g h i = sym (rw (← and-assoc (c && d && e && f) (g && h) i, ← and-assoc (c && d && e && f) g h))
+
+pub line-said : (firm : ℕ) {line : List ℕ} {head : Head} {tail : Tail}
+    → HeadSays line head → TailSays line (isAbsolute (head .named)) tail → lineOf firm line ≡ said firm head tail
+unfolding malformed otherFirm ruleOf said
+line-said firm {line} h t = rw (line-first firm line, halves, h .well, h .firm, h .root, h .limit, t .well, t .time, t .firmwide, t .call, t .month, h .named)
+
+-- in a tail that is well formed call/put and month are 0 to 2, and month is set where call/put is, unless they clash
+pub letters : {line : List ℕ} {absolute : Bool} {tail : Tail} → TailSays line absolute tail → tail .well ≡ true → (tail .call ≤ 2) × (tail .month ≤ 2)
+letters t e = let w = rw (t .well) at e in (rw (t .call) (search tests depth 8), rw (t .month) (search tests depth 8))
+
+pub both-set : (firmwide : Bool) (call month : ℕ) → unitClash firmwide call month ≡ false → 0 < call → 0 < month
+unfolding unitClash
+both-set firmwide call month e h = go (ltb 0 month) refl (rw (lt-ltb 0 call h) at e)
+  where
+    go : (t : Bool) → ltb 0 month ≡ t → (not (Bool·beq true t) || (firmwide && true)) ≡ false → 0 < month
+    go true s e = ltb-true 0 month s
+    go false s e = absurd (false≢true (sym e))

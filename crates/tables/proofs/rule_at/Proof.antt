@@ -1,0 +1,26 @@
+-- `tables::rule_at` meets its contract: each field stands where the shift and the mask take it from. Assumes nothing.
+use mathlib.Core.Path.{sym}
+use Rattle.tables.proofs.RulePlace.{rule-in}
+use borrow.Author.Needs.{needs}
+use Rattle.tables.proofs.rule_at.Statement.{statement}
+use Rattle.tables.proofs.rule_at.Tie as tie
+
+place-at-requires : tie.Need-place-at-requires
+place-at-requires c κs = search needs
+
+scope-of-requires : tie.Need-scope-of-requires
+scope-of-requires c κs = search needs
+
+kind-of-requires : tie.Need-kind-of-requires
+kind-of-requires c κs = search needs
+
+limit-of-requires : tie.Need-limit-of-requires
+limit-of-requires c κs = search needs
+
+returns : tie.Need-returns
+returns c = rw (c .before .before .scope-of .ensures, c .before .kind-of .ensures, c .limit-of .ensures, c .before .before .before .place-at .ensures) (sym (rule-in _ _ _))
+
+pub rule-at-spec : {M : Type 1} → statement M
+rule-at-spec =
+    tie.close
+    (tie.spec place-at-requires scope-of-requires kind-of-requires limit-of-requires returns)
