@@ -1,0 +1,121 @@
+-- The walk over the lines of a text: what is left decides the outcome of the whole, after each line and at the end. Assumes nothing.
+use Prim.Native.Nat.{ℕ, _+_, _-_, _*_, _≤_, _<_}
+use mathlib.Core.Path.{_≡_, refl, sym, ap, _∙_}
+use mathlib.Core.Bool.{true, false}
+use mathlib.Core.List.{List, []}
+use lib.ListN.{length, getD, take, drop, replicate, getD-replicate}
+use lib.Dec.{eqb}
+use borrow.Author.Tests.{ne-eqb}
+use native.Mathlib.Nat.{sub-zero}
+use native.Mathlib.Omega.{arith}
+use Rattle.measures.specs.Ranges.{_to_, isIn}
+use Rattle.laws.specs.Lists.{ended}
+use Rattle.rules.specs.declared.Rule.{Rule}
+use Rattle.text.specs.Text.{pieces, lines, indexOf}
+use Rattle.text.proofs.Lists.{line-here, first-line, within}
+use Rattle.line.specs.Line.{firmIn, lineOf}
+use Rattle.tables.specs.Tables.{zeros, flat, table}
+use Rattle.line.specs.declared.Line.the-variants.{Is, Refused as Faulty}
+use Rattle.line.proofs.Laws.{line-refused}
+use Rattle.profile.specs.Profile.{Profile, joined, howMany, Outcome, afterLine, readOn, startOf, outcomeOf, readingOf, rootsTable, scanOf}
+use Rattle.profile.specs.Held.{Stored, Held, Joins, Told, noTally}
+use Rattle.profile.specs.declared.Reading.{Reading}
+use Rattle.profile.specs.declared.Reading.the-variants.{Accepted, Refused}
+use Rattle.profile.specs.declared.Tally.{Tally}
+use Rattle.profile.specs.declared.Admitted.{Admitted}
+use Rattle.profile.specs.declared.Admitted.the-variants.{With, TooMany}
+use Rattle.profile.proofs.Joined.{start-lawful, joined-length}
+
+-- a profile of the firm is held, and the lines from a place on lead from it to the outcome of the whole text
+pub record Walk (text : List ℕ) (firm : ℕ) (tally : Tally) (at : ℕ) (roots rules counts : List ℕ) : Type 0 where
+  pub profile : Profile
+  pub held : Held profile tally roots rules counts
+  pub own : profile .firm ≡ firm
+  pub reach : at ≤ length text + 1
+  pub rest : readOn (startOf firm) 0 (lines text) ≡ readOn profile (tally .rules) (lines (drop at text))
+
+pub walk-start : (text : List ℕ) (firm : ℕ) {roots rules counts : List ℕ} → Held (startOf firm) noTally roots rules counts → Walk text firm noTally 0 roots rules counts
+walk-start text firm held = record { profile = startOf firm; held = held; own = refl; reach = omega arith; rest = refl }
+
+-- nothing was read yet: all is 0
+pub start-held : (firm : ℕ) → Held (startOf firm) noTally (replicate 64 0) (replicate 512 0) (replicate 256 0)
+unfolding howMany rootsTable table flat zeros
+start-held firm = record {
+  lawful = start-lawful firm;
+  stored = record { roots-in = refl; rules-in = refl };
+  rules-are = refl;
+  roots-are = refl;
+  firms-are = refl;
+  long = refl;
+  counts-are = λ root unit h k. getD-replicate 256 (root * 4 + unit) 0 0 (omega arith);
+}
+
+-- a text whose size is none for a profile, and one that was read by its lines
+module _ (text : List ℕ) where
+  pub scan-unsized : isIn (1 to 65_536) (length text) ≡ false → record { reading = Refused 5 0; roots = replicate 64 0; rules = replicate 512 0 } ≡ scanOf text
+  unfolding scanOf outcomeOf readingOf rootsTable table flat zeros
+  scan-unsized e = rw e
+
+  pub first-firm : (end : ℕ) → end ≡ 0 + indexOf 10 (drop 0 text) → firmIn (take end text) ≡ firmIn (getD (lines text) 0 [])
+  first-firm end ends = ap firmIn (rw sub-zero at (first-line text end ends))
+
+  pub scan-told : {firm : ℕ} {reading : Reading} {roots rules : List ℕ} → isIn (1 to 65_536) (length text) ≡ true → firm ≡ firmIn (getD (lines text) 0 [])
+      → Told (readOn (startOf firm) 0 (lines text)) reading roots rules → record { reading = reading; roots = roots; rules = rules } ≡ scanOf text
+  unfolding scanOf outcomeOf
+  scan-told e f told = rw (e, ← f) (λ i. record { reading = told .reading-is i; roots = told .stored .roots-in i; rules = told .stored .rules-in i })
+
+-- a fault tells of itself and its line
+refused-told : (p : Profile) (k n : ℕ) {o : Outcome} {roots rules : List ℕ} → 6 ≤ k → o ≡ record { profile = p; refusal = k; line = n } → Stored p roots rules
+    → Told o (Refused k n) roots rules
+unfolding readingOf
+refused-told p k n least e stored = rw e (record { reading-is = rw (ne-eqb k 0 (λ z. omega arith)); stored = stored })
+
+module _ {text : List ℕ} {firm : ℕ} {tally : Tally} {at : ℕ} {roots rules counts : List ℕ} (w : Walk text firm tally at roots rules counts) where
+  pub walk-end : length text ≤ at → Told (readOn (startOf firm) 0 (lines text)) (Accepted firm (tally .rules) (tally .roots)) roots rules
+  unfolding readOn readingOf pieces
+  walk-end h =
+      let p = w .profile in
+      rw (w .rest, ended text at h)
+      (record { reading-is = λ i. Accepted (sym (w .own) i) (w .held .rules-are i) (w .held .roots-are i); stored = w .held .stored })
+
+  -- one line more, from its place to its end
+  module _ {end : ℕ} (h : at < length text) (ends : end ≡ at + indexOf 10 (drop at text)) where
+    abbrev line : List ℕ
+    line = take (end - at) (drop at text)
+
+    pub end-within : end ≤ length text
+    end-within = rw ends (within 10 text at (omega arith))
+
+    one-line : readOn (startOf firm) 0 (lines text)
+        ≡ afterLine (w .profile) (tally .rules) (lineOf firm line) (λ rule. readOn (joined (w .profile) rule) (tally .rules + 1) (lines (drop (end + 1) text)))
+    unfolding readOn
+    one-line = w .rest ∙ rw (line-here text at end h ends, w .own)
+
+    pub walk-fault : {k : ℕ} → lineOf firm line ≡ Faulty k → Told (readOn (startOf firm) 0 (lines text)) (Refused k (tally .rules + 1)) roots rules
+    unfolding afterLine
+    walk-fault {k} e =
+        let b = line-refused firm line e in
+        refused-told (w .profile) k (tally .rules + 1) (b .0) (one-line ∙ rw e) (w .held .stored)
+
+    -- a line's rule, and what became of it
+    module _ {rule : Rule} (e : lineOf firm line ≡ Is rule) {roots-after rules-after : List ℕ} (counts-after : List ℕ) {became : Admitted} where
+      pub walk-many : became ≡ TooMany → Joins (w .profile) rule became roots-after rules-after counts-after
+          → Told (readOn (startOf firm) 0 (lines text)) (Refused 11 (tally .rules + 1)) roots-after rules-after
+      unfolding afterLine Joins
+      walk-many b joins =
+          let j = rw b at joins in
+          refused-told (w .profile) 11 (tally .rules + 1) (omega arith) (one-line ∙ rw (e, j .0)) (j .1)
+
+      pub walk-next : {next : Tally} → became ≡ With next → Joins (w .profile) rule became roots-after rules-after counts-after
+          → Walk text firm next (end + 1) roots-after rules-after counts-after
+      unfolding afterLine Joins joined
+      walk-next {next} b joins =
+          let j = rw b at joins in
+          let more : next .rules ≡ tally .rules + 1 = omega (arith, j .1 .rules-are, w .held .rules-are, joined-length (w .profile) rule) in
+          record {
+            profile = joined (w .profile) rule;
+            held = j .1;
+            own = w .own;
+            reach = omega (arith, end-within);
+            rest = one-line ∙ rw (e, j .0, more);
+          }

@@ -1,0 +1,126 @@
+-- A whole profile: line by line, each adds its rule, until one has a fault or is one too many. Assumes nothing.
+use Prim.Native.Nat.{ℕ, _+_}
+use mathlib.Core.Bool.{Bool, true, false, cond, _&&_, _||_}
+use mathlib.Core.List.{List, [], _∷_, _++_}
+use lib.ListN.{length, getD}
+use lib.Dec.{eqb, ltb}
+use Rattle.measures.specs.Ranges.{_to_, isIn}
+use Rattle.rules.specs.Rules.{covers}
+use Rattle.rules.specs.declared.Scope.{Scope}
+use Rattle.rules.specs.declared.Scope.the-variants.{EveryFill, WholeRoot, OneUnit}
+use Rattle.rules.specs.declared.Rule.{Rule}
+use Rattle.text.specs.Text.{lines, indexOf}
+use Rattle.line.specs.Line.{firmIn, lineOf}
+use Rattle.line.specs.declared.Line.{Line}
+use Rattle.line.specs.declared.Line.the-variants.{Is, Refused as Faulty}
+use Rattle.tables.specs.Tables.{table}
+use Rattle.tables.specs.RulePlace.{rulesTable}
+use Rattle.profile.specs.declared.Reading.{Reading}
+use Rattle.profile.specs.declared.Scan.{Scan}
+use Rattle.profile.specs.declared.Reading.the-variants.{Accepted, Refused}
+
+-- the firm's name, the roots' names in order of first appearance, and the rules by line; a rule's scope has its root's number
+pub record Profile : Type 0 where
+  pub firm : ℕ
+  pub roots : List ℕ
+  pub rules : List Rule
+
+-- the roots with a name among them: at the end, where it is new
+unfoldable pub withRoot : ℕ → List ℕ → List ℕ
+withRoot name roots = cond (ltb (indexOf name roots) (length roots)) roots (roots ++ (name ∷ []))
+
+-- the roots with the one that a scope names among them
+unfoldable pub rootsWith : Scope → List ℕ → List ℕ
+rootsWith EveryFill roots = roots
+rootsWith (WholeRoot name) roots = withRoot name roots
+rootsWith (OneUnit name unit) roots = withRoot name roots
+
+-- a scope with the number of its root, its place among the roots, for the name
+unfoldable pub numbered : List ℕ → Scope → Scope
+numbered roots EveryFill = EveryFill
+numbered roots (WholeRoot name) = WholeRoot (indexOf name roots)
+numbered roots (OneUnit name unit) = OneUnit (indexOf name roots) unit
+
+-- a profile with one rule more, which a line gives with its root's name
+unfoldable pub joined : Profile → Rule → Profile
+joined p rule = record {
+  firm = p .firm;
+  roots = rootsWith (rule .scope) (p .roots);
+  rules =
+      p .rules
+      ++ (record { scope = numbered (rootsWith (rule .scope) (p .roots)) (rule .scope); kind = rule .kind; limit = rule .limit } ∷ []);
+}
+
+-- how many rules pass a test
+unfoldable pub howMany : (Rule → Bool) → List Rule → ℕ
+howMany test [] = 0
+howMany test (rule ∷ rules) = cond (test rule) 1 0 + howMany test rules
+
+unfoldable pub isFirmRule : Rule → Bool
+isFirmRule rule = isFirm (rule .scope)
+  where
+    isFirm : Scope → Bool
+    isFirm EveryFill = true
+    isFirm (WholeRoot root) = false
+    isFirm (OneUnit root unit) = false
+
+-- a root rule that covers a unit of a root
+unfoldable pub onUnit : ℕ → ℕ → Rule → Bool
+onUnit root unit rule = cond (isFirmRule rule) false (covers (rule .scope) root unit)
+
+-- more than 10 firm rules, or more than 6 root rules covering a unit that this scope covers
+unfoldable pub crowded : List Rule → Scope → Bool
+crowded rules EveryFill = ltb 10 (howMany isFirmRule rules)
+crowded rules (WholeRoot root) =
+    ltb 6 (howMany (onUnit root 0) rules) || ltb 6 (howMany (onUnit root 1) rules) || ltb 6 (howMany (onUnit root 2) rules)
+    || ltb 6 (howMany (onUnit root 3) rules)
+crowded rules (OneUnit root unit) = ltb 6 (howMany (onUnit root unit) rules)
+
+-- 11: with this rule there is one rule or root too many
+unfoldable pub tooMany : Profile → Rule → Bool
+tooMany p rule =
+    ltb 256 (length (joined p rule .rules)) || ltb 64 (length (joined p rule .roots))
+    || crowded (joined p rule .rules) (numbered (joined p rule .roots) (rule .scope))
+
+-- how far a text was read: the profile of the lines before the first faulty one, that line's number from 1, and its refusal; 0 and 0 if none
+pub record Outcome : Type 0 where
+  pub profile : Profile
+  pub refusal : ℕ
+  pub line : ℕ
+
+-- the line after n lines that gave the profile p: its fault stops the reading, or one rule too many; else the rest is read with its rule
+unfoldable pub afterLine : Profile → ℕ → Line → (Rule → Outcome) → Outcome
+afterLine p n (Faulty k) rest = record { profile = p; refusal = k; line = n + 1 }
+afterLine p n (Is rule) rest = cond (tooMany p rule) (record { profile = p; refusal = 11; line = n + 1 }) (rest rule)
+
+-- the lines that are left after n lines that gave the profile p
+unfoldable pub readOn : Profile → ℕ → List (List ℕ) → Outcome
+readOn p n [] = record { profile = p; refusal = 0; line = 0 }
+readOn p n (l ∷ ls) = afterLine p n (lineOf (p .firm) l) (λ rule. readOn (joined p rule) (n + 1) ls)
+
+-- before the first line: the firm of that line, no root and no rule
+abbrev pub startOf : ℕ → Profile
+startOf firm = record { firm = firm; roots = []; rules = [] }
+
+-- a whole text: 5 if it is empty or above 65,536 bytes; else its lines, all for the firm of the first
+unfoldable pub outcomeOf : List ℕ → Outcome
+outcomeOf text =
+    cond (isIn (1 to 65_536) (length text)) (readOn (startOf (firmIn (getD (lines text) 0 []))) 0 (lines text))
+    (record { profile = startOf 0; refusal = 5; line = 0 })
+
+-- what reading answers: the firm and how many rules and roots there are, or the refusal with its line
+unfoldable pub readingOf : Outcome → Reading
+readingOf o =
+    cond (eqb (o .refusal) 0) (Accepted (o .profile .firm) (length (o .profile .rules)) (length (o .profile .roots))) (Refused (o .refusal) (o .line))
+
+-- the roots' names in 64 places
+unfoldable pub rootsTable : List ℕ → List ℕ
+rootsTable roots = table 1 64 (λ name. name ∷ []) roots
+
+-- the answer, with the roots and the rules that were read in their places
+unfoldable pub scanOf : List ℕ → Scan
+scanOf text = record {
+  reading = readingOf (outcomeOf text);
+  roots = rootsTable (outcomeOf text .profile .roots);
+  rules = rulesTable (outcomeOf text .profile .rules);
+}
