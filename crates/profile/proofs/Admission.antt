@@ -1,32 +1,29 @@
 -- A rule after a profile that is held: one too many, or held with it after its stores. Assumes nothing.
 use Prim.Native.Nat.{ℕ, _+_, _*_, _≤_, _<_, max}
 use mathlib.Core.Path.{_≡_, refl, sym, ap, ap₂, _∙_}
-use mathlib.Core.Bool.{Bool, true, false, cond, _&&_, _||_, and-false, or-false, or-true}
+use mathlib.Core.Bool.{true, false, _&&_, _||_, or-true}
 use mathlib.Core.List.{List, [], _∷_, _++_}
-use lib.ListN.{length, getD, take, set, length-append}
-use lib.Seq.{sets, length-sets}
-use lib.Dec.{eqb, leb, ltb}
-use borrow.Author.Tests.{eqb-true, eqb-false, ne-eqb, lt-ltb, le-ltb, leb-true}
+use lib.ListN.{length, take, set, length-append}
+use lib.Seq.{sets}
+use lib.Dec.{ltb}
+use borrow.Author.Tests.{lt-ltb, le-ltb}
 use native.Mathlib.Omega.{arith}
-use Rattle.laws.specs.Tests.{and-r}
 use Rattle.measures.specs.Ranges.{units}
-use Rattle.rules.specs.Rules.{covers}
 use Rattle.rules.specs.declared.Scope.{Scope}
 use Rattle.rules.specs.declared.Scope.the-variants.{EveryFill, WholeRoot, OneUnit}
-use Rattle.rules.specs.declared.Kind.{Kind}
-use Rattle.rules.specs.declared.Limit.{Limit}
 use Rattle.rules.specs.declared.Rule.{Rule}
 use Rattle.text.specs.Text.{indexOf}
 use Rattle.tables.specs.RulePlace.{isScope, isRule, ruleNumbers}
-use Rattle.profile.specs.Profile.{Profile, withRoot, rootsWith, numbered, joined, howMany, isFirmRule, onUnit, crowded, tooMany}
+use Rattle.profile.specs.Profile.{Profile, withRoot, rootsWith, numbered, joined, crowded, tooMany}
 use Rattle.profile.specs.Lawful.{SaidScope, Said}
-use Rattle.profile.specs.Held.{Held, Joins, Names, scopeAt, unitWith, unitsWith, isOver, unitNumbers}
+use Rattle.profile.specs.Held.{Held, Joins, Names, scopeAt, unitsWith, isOver, unitNumbers}
 use Rattle.profile.specs.declared.Tally.{Tally}
 use Rattle.profile.specs.declared.Units.{Units}
 use Rattle.profile.specs.declared.Admitted.the-variants.{With, TooMany}
 use Rattle.profile.proofs.Roots.{with-index, with-length}
-use Rattle.profile.proofs.Joined.{howMany-more, four, lawful-joined}
-use Rattle.profile.proofs.Memory.{length-roots, length-rules, names-known, roots-put, rules-put, sets-other, sets-here}
+use Rattle.profile.proofs.Counts.{over-is, root-counted, firm-over, firm-counted}
+use Rattle.profile.proofs.Joined.{lawful-joined}
+use Rattle.profile.proofs.Memory.{length-roots, length-rules, names-known, roots-put, rules-put}
 
 -- the tables of a profile that is held have their lengths
 module _ {p : Profile} {tally : Tally} {roots rules counts : List ℕ} (held : Held p tally roots rules counts) where
@@ -45,7 +42,7 @@ unfolding tooMany joined
 many-rules p rule h = rw (length-append, lt-ltb 256 (length (p .rules) + 1) (omega arith))
 
 -- a rule of a root with its number for the name
-abbrev pub placed : ℕ → Rule → Rule
+abbrev placed : ℕ → Rule → Rule
 placed root rule = record { scope = scopeAt root (rule .scope); kind = rule .kind; limit = rule .limit }
 
 module _ (name : ℕ) (roots : List ℕ) where
@@ -61,6 +58,12 @@ module _ (name : ℕ) (roots : List ℕ) where
   names-scope (WholeRoot r) n = rw n
   names-scope (OneUnit r unit) n = rw n
 
+names-at : (name root : ℕ) (s : Scope) → Names name s → Names root (scopeAt root s)
+unfolding Names scopeAt
+names-at name root EveryFill n = absurd n
+names-at name root (WholeRoot r) n = refl
+names-at name root (OneUnit r unit) n = refl
+
 -- a rule of a root with a number below 64, and a firm rule, are such as 256 places hold
 root-scope : (name root : ℕ) (s : Scope) → Names name s → SaidScope s → root < 64 → isScope 64 (scopeAt root s) ≡ true
 unfolding Names SaidScope scopeAt isScope
@@ -75,47 +78,6 @@ root-rule name root rule said n h = ap₂ (λ a b. a && b) (ap₂ (λ a b. a && 
 pub firm-rule : (rule : Rule) → Said rule → rule .scope ≡ EveryFill → isRule 64 rule ≡ true
 unfolding isRule isScope
 firm-rule rule said every = ap₂ (λ a b. a && b) (ap₂ (λ a b. a && b) (said .limit) (said .kind)) (rw every)
-
--- a scope of a root covers units of that root alone
-scope-on : (name root other unit : ℕ) (s : Scope) (k : Kind) (l : Limit) → Names name s
-    → onUnit other unit (record { scope = scopeAt root s; kind = k; limit = l }) ≡ covers (scopeAt root s) other unit
-unfolding Names scopeAt onUnit isFirmRule
-scope-on name root other unit EveryFill k l n = absurd n
-scope-on name root other unit (WholeRoot r) k l n = refl
-scope-on name root other unit (OneUnit r v) k l n = refl
-
-scope-off : (name root other unit : ℕ) (s : Scope) → Names name s → (root ≡ other → ⊥) → covers (scopeAt root s) other unit ≡ false
-unfolding Names scopeAt covers
-scope-off name root other unit EveryFill n d = absurd n
-scope-off name root other unit (WholeRoot r) n d = ne-eqb root other d
-scope-off name root other unit (OneUnit r v) n d = rw (ne-eqb root other d)
-
-not-firm : (name root : ℕ) (s : Scope) (k : Kind) (l : Limit) → Names name s → isFirmRule (record { scope = scopeAt root s; kind = k; limit = l }) ≡ false
-unfolding Names scopeAt isFirmRule
-not-firm name root EveryFill k l n = absurd n
-not-firm name root (WholeRoot r) k l n = refl
-not-firm name root (OneUnit r v) k l n = refl
-
--- where at most one of four numbers is above 6, a test of that one is a test of all
-one-over : (n : ℕ → ℕ) (v : ℕ) → v < 4 → ((u : ℕ) → u < 4 → (u ≡ v → ⊥) → n u ≤ 6) → ltb 6 (n v) ≡ (ltb 6 (n 0) || ltb 6 (n 1) || ltb 6 (n 2) || ltb 6 (n 3))
-one-over n v h few =
-    four (λ v. ((u : ℕ) → u < 4 → (u ≡ v → ⊥) → ltb 6 (n u) ≡ false) → ltb 6 (n v) ≡ (ltb 6 (n 0) || ltb 6 (n 1) || ltb 6 (n 2) || ltb 6 (n 3)))
-    (λ off. rw (off 1 (omega arith) (λ e. omega arith), off 2 (omega arith) (λ e. omega arith), off 3 (omega arith) (λ e. omega arith)) (simp or-false))
-    (λ off. rw (off 0 (omega arith) (λ e. omega arith), off 2 (omega arith) (λ e. omega arith), off 3 (omega arith) (λ e. omega arith)) (simp or-false))
-    (λ off. rw (off 0 (omega arith) (λ e. omega arith), off 1 (omega arith) (λ e. omega arith), off 3 (omega arith) (λ e. omega arith)) (simp or-false))
-    (λ off. rw (off 0 (omega arith) (λ e. omega arith), off 1 (omega arith) (λ e. omega arith), off 2 (omega arith) (λ e. omega arith)))
-    v h (λ u k d. le-ltb 6 (n u) (few u k d))
-
--- a scope of a root is crowded if one of that root's units has more than 6 rules, where no unit that it does not cover has
-crowded-over : (name root : ℕ) (rules : List Rule) (s : Scope) → Names name s → SaidScope s
-    → ((u : ℕ) → u < 4 → covers (scopeAt root s) root u ≡ false → howMany (onUnit root u) rules ≤ 6)
-    → crowded rules (scopeAt root s) ≡ crowded rules (WholeRoot root)
-unfolding Names SaidScope scopeAt crowded covers
-crowded-over name root rules EveryFill n h few = absurd n
-crowded-over name root rules (WholeRoot r) n h few = refl
-crowded-over name root rules (OneUnit r v) n h few =
-    one-over (λ u. howMany (onUnit root u) rules) v (omega (arith, leb-true v 3 (and-r (leb 0 v) (leb v 3) (h .1))))
-    (λ u k d. few u k (rw (ne-eqb v u (λ e. d (sym e))) (and-false (eqb root root))))
 
 -- a rule of a root after a profile that is held
 module _ {p : Profile} {tally : Tally} {roots rules counts : List ℕ} (held : Held p tally roots rules counts) (rule : Rule) (said : Said rule) (name : ℕ)
@@ -146,55 +108,29 @@ module _ {p : Profile} {tally : Tally} {roots rules counts : List ℕ} (held : H
   unfolding tooMany joined
   tooMany-is = λ i. ltb 256 (length (joined-rules i)) || ltb 64 (length (joined-roots i)) || crowded (joined-rules i) (joined-scope i)
 
-  on-more : (other unit : ℕ) → howMany (onUnit other unit) more ≡ howMany (onUnit other unit) (p .rules) + cond (covers (own .scope) other unit) 1 0
-  on-more other unit =
-      howMany-more (onUnit other unit) (p .rules) own
-      ∙ ap (λ (t : Bool). howMany (onUnit other unit) (p .rules) + cond t 1 0) (scope-on name root other unit (rule .scope) (rule .kind) (rule .limit) names)
+  own-root : Names root (own .scope)
+  own-root = names-at name root (rule .scope) names
 
-  over-is : root < 64 → crowded more (own .scope) ≡ isOver (unitsWith counts root own)
-  unfolding crowded unitWith
-  over-is h =
-      let unit : (u : ℕ) → u < 4 → howMany (onUnit root u) more ≡ unitWith counts root own u =
-      λ u k. on-more root u ∙ ap (λ (n : ℕ). n + cond (covers (own .scope) root u) 1 0) (sym (held .counts-are root u h k)) in
-      crowded-over name root more (rule .scope) names (said .scope) (λ u k e. rw (on-more root u, e) (omega (arith, held .lawful .unit-most root u k)))
-      ∙ (λ i. ltb 6 (unit 0 (omega arith) i) || ltb 6 (unit 1 (omega arith) i) || ltb 6 (unit 2 (omega arith) i) || ltb 6 (unit 3 (omega arith) i))
+  unit-over : root < 64 → crowded more (own .scope) ≡ isOver (unitsWith counts root own)
+  unit-over h =
+      over-is (held .counted) own root own-root h 64 (root-scope name root (rule .scope) names (said .scope) h) (held .lawful .unit-most root)
 
   -- 65 roots are too many, and so are 7 rules on a unit
-  pub many-roots : 64 ≤ root → tooMany p rule ≡ true
+  many-roots : 64 ≤ root → tooMany p rule ≡ true
   many-roots h =
       tooMany-is
       ∙ rw (lt-ltb 64 (length (withRoot name (p .roots))) (omega (arith, with-length name (p .roots))), or-true)
 
-  pub many-units : root < 64 → isOver (unitsWith counts root own) ≡ true → tooMany p rule ≡ true
-  many-units h e = tooMany-is ∙ rw (over-is h, e, or-true)
+  many-units : root < 64 → isOver (unitsWith counts root own) ≡ true → tooMany p rule ≡ true
+  many-units h e = tooMany-is ∙ rw (unit-over h, e, or-true)
 
   module _ (few : length (p .rules) < 256) (known : root < 64) (free : isOver (unitsWith counts root own) ≡ false) where
-    pub not-many : tooMany p rule ≡ false
+    not-many : tooMany p rule ≡ false
     not-many =
         tooMany-is
-        ∙ rw (over-is known, free, le-ltb 256 (length more) (rw length-append (omega arith)), le-ltb 64 (length (withRoot name (p .roots))) (omega (arith, with-length name (p .roots), held .lawful .roots-most)))
+        ∙ rw (unit-over known, free, le-ltb 256 (length more) (rw length-append (omega arith)), le-ltb 64 (length (withRoot name (p .roots))) (omega (arith, with-length name (p .roots), held .lawful .roots-most)))
 
-    counts-put : (other unit : ℕ) → other < 64 → unit < 4
-        → getD (sets counts (root * 4) (unitNumbers (unitsWith counts root own))) (other * 4 + unit) 0 ≡ howMany (onUnit other unit) more
-    unfolding unitWith
-    counts-put other unit h k = go (eqb root other) refl
-      where
-        vs : List ℕ
-        vs = unitNumbers (unitsWith counts root own)
-
-        go : (t : Bool) → eqb root other ≡ t → getD (sets counts (root * 4) vs) (other * 4 + unit) 0 ≡ howMany (onUnit other unit) more
-        go true e =
-            rw (← eqb-true root other e)
-            (sets-here vs counts (root * 4) unit k (omega (arith, held .long))
-            ∙ (four (λ u. getD vs u 0 ≡ unitWith counts root own u) refl refl refl refl unit k
-            ∙ (ap (λ (n : ℕ). n + cond (covers (own .scope) root unit) 1 0) (held .counts-are root unit known k) ∙ sym (on-more root unit))))
-        go false e =
-            let apart = eqb-false root other e in
-            sets-other vs counts (root * 4) (other * 4 + unit) (λ l. omega arith)
-            ∙ (held .counts-are other unit h k
-            ∙ sym (on-more other unit ∙ rw (scope-off name root other unit (rule .scope) names apart) (omega arith)))
-
-    pub root-held : Held (joined p rule) (record { rules = tally .rules + 1; roots = max (tally .roots) (root + 1); firms = tally .firms }) (set roots root name)
+    root-held : Held (joined p rule) (record { rules = tally .rules + 1; roots = max (tally .roots) (root + 1); firms = tally .firms }) (set roots root name)
         (sets rules (tally .rules * 2) (ruleNumbers own)) (sets counts (root * 4) (unitNumbers (unitsWith counts root own)))
     root-held = record {
       lawful = lawful-joined p rule (held .lawful) said not-many;
@@ -204,9 +140,7 @@ module _ {p : Profile} {tally : Tally} {roots rules counts : List ℕ} (held : H
       };
       rules-are = rw (joined-rules, length-append) (omega (arith, held .rules-are));
       roots-are = rw (joined-roots, with-length, held .roots-are);
-      firms-are = rw (joined-rules, howMany-more, not-firm name root (rule .scope) (rule .kind) (rule .limit) names) (omega (arith, held .firms-are));
-      long = length-sets counts (root * 4) (unitNumbers (unitsWith counts root own)) ∙ held .long;
-      counts-are = λ other unit h k. rw joined-rules (counts-put other unit h k);
+      counted = rw joined-rules (root-counted (held .counted) own root own-root known);
     }
 
 -- the same, as the code comes to it: the root's number is looked up, the scope gets it, the units are counted, and then all is stored
@@ -262,34 +196,23 @@ module _ {p : Profile} {tally : Tally} {roots rules counts : List ℕ} (held : H
       } in
       ap with every ∙ ap own (sym every)
 
-  is-firm : isFirmRule rule ≡ true
-  unfolding isFirmRule
-  is-firm = rw every
-
-  firm-more : howMany isFirmRule more-firm ≡ tally .firms + 1
-  firm-more = rw (howMany-more, is-firm, held .firms-are)
-
-  firm-elsewhere : (root unit : ℕ) → howMany (onUnit root unit) more-firm ≡ howMany (onUnit root unit) (p .rules)
-  unfolding onUnit
-  firm-elsewhere root unit = rw (howMany-more (onUnit root unit) (p .rules) rule, is-firm) (omega arith)
-
   tooMany-firm : tooMany p rule ≡ (ltb 256 (length more-firm) || ltb 64 (length (p .roots)) || ltb 10 (tally .firms + 1))
-  unfolding tooMany crowded numbered
+  unfolding tooMany numbered
   tooMany-firm =
       (λ i. ltb 256 (length (firm-joined i .rules)) || ltb 64 (length (firm-joined i .roots)) || crowded (firm-joined i .rules) (numbered (firm-joined i .roots) (every i)))
-      ∙ rw firm-more
+      ∙ rw (firm-over (held .counted) rule every)
 
   -- 11 firm rules are too many
   pub many-firms : 10 ≤ tally .firms → tooMany p rule ≡ true
   many-firms h = tooMany-firm ∙ rw (lt-ltb 10 (tally .firms + 1) (omega arith), or-true)
 
   module _ (few : length (p .rules) < 256) (less : tally .firms < 10) where
-    pub not-many-firm : tooMany p rule ≡ false
+    not-many-firm : tooMany p rule ≡ false
     not-many-firm =
         tooMany-firm
         ∙ rw (le-ltb 256 (length more-firm) (rw length-append (omega arith)), le-ltb 64 (length (p .roots)) (held .lawful .roots-most), le-ltb 10 (tally .firms + 1) (omega arith))
 
-    pub firm-held : Held (joined p rule) (record { rules = tally .rules + 1; roots = tally .roots; firms = tally .firms + 1 }) roots
+    firm-held : Held (joined p rule) (record { rules = tally .rules + 1; roots = tally .roots; firms = tally .firms + 1 }) roots
         (sets rules (tally .rules * 2) (ruleNumbers rule)) counts
     firm-held = record {
       lawful = lawful-joined p rule (held .lawful) said not-many-firm;
@@ -299,9 +222,7 @@ module _ {p : Profile} {tally : Tally} {roots rules counts : List ℕ} (held : H
       };
       rules-are = rw (firm-joined, length-append) (omega (arith, held .rules-are));
       roots-are = rw firm-joined (held .roots-are);
-      firms-are = rw (firm-joined, firm-more);
-      long = held .long;
-      counts-are = λ root unit h k. rw (firm-joined, firm-elsewhere root unit) (held .counts-are root unit h k);
+      counted = rw firm-joined (firm-counted (held .counted) rule every);
     }
 
     pub takes-firm : {rules-after : List ℕ} → rules-after ≡ sets rules (tally .rules * 2) (ruleNumbers rule)

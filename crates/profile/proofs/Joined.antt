@@ -1,27 +1,25 @@
 -- A lawful profile stays so with one rule more, as long as that is not one too many. Assumes nothing.
-use Prim.Native.Nat.{ℕ, zero, suc, _+_, _≤_, _<_}
+use Prim.Native.Nat.{ℕ, _+_, _≤_, _<_}
 use mathlib.Core.Path.{_≡_, refl, sym, ap₂}
-use mathlib.Core.Bool.{Bool, true, false, cond, _&&_, _||_, false≢true}
+use mathlib.Core.Bool.{Bool, true, false, _&&_, _||_}
 use mathlib.Core.List.{List, [], _∷_, _++_}
 use lib.ListN.{length, getD, length-append}
 use lib.Dec.{eqb, leb, ltb}
-use borrow.Author.Tests.{eqb-true, eq-eqb, ltb-true, ltb-false, lt-ltb, le-leb}
+use borrow.Author.Tests.{eqb-true, eq-eqb, ltb-false, lt-ltb, le-leb}
 use native.Mathlib.Omega.{arith}
 use Rattle.laws.specs.Tests.{and-l, and-r}
-use Rattle.measures.specs.Ranges.{isIn, units}
-use Rattle.rules.specs.Rules.{covers}
 use Rattle.rules.specs.declared.Scope.{Scope}
 use Rattle.rules.specs.declared.Scope.the-variants.{EveryFill, WholeRoot, OneUnit}
-use Rattle.rules.specs.declared.Kind.{Kind}
-use Rattle.rules.specs.declared.Limit.{Limit}
 use Rattle.rules.specs.declared.Rule.{Rule}
 use Rattle.text.specs.Text.{indexOf}
 use Rattle.text.proofs.Lists.{index-le}
 use Rattle.tables.specs.Tables.{every}
-use Rattle.tables.specs.RulePlace.{isLimit, isKind, isScope, isRule}
-use Rattle.profile.specs.Profile.{Profile, withRoot, rootsWith, numbered, joined, howMany, isFirmRule, onUnit, crowded, tooMany, startOf}
+use Rattle.tables.specs.RulePlace.{isScope, isRule}
+use Rattle.tables.proofs.RulePlace.{rule-wider}
+use Rattle.profile.specs.Profile.{Profile, withRoot, rootsWith, numbered, joined, howMany, crowded, tooMany, startOf}
 use Rattle.profile.specs.Lawful.{IsNameNumber, SaidScope, Said, isNext, knownWith, inOrder, Lawful}
 use Rattle.profile.proofs.Roots.{with-index, with-length, with-named, with-placed}
+use Rattle.profile.proofs.Counts.{or-l, or-r, firm-stays, unit-stays}
 
 -- before the first line nothing is too many
 pub start-lawful : (firm : ℕ) → Lawful (startOf firm)
@@ -36,21 +34,6 @@ start-lawful firm = record {
   each-place = λ root h. absurd (omega arith);
   in-order = refl;
 }
-
--- a disjunction that does not hold
-or-l : (a b : Bool) → (a || b) ≡ false → a ≡ false
-or-l true b e = e
-or-l false b e = refl
-
-or-r : (a b : Bool) → (a || b) ≡ false → b ≡ false
-or-r true b e = absurd (false≢true (sym e))
-or-r false b e = e
-
--- one rule more at the end
-pub howMany-more : (test : Rule → Bool) (rules : List Rule) (rule : Rule) → howMany test (rules ++ (rule ∷ [])) ≡ howMany test rules + cond (test rule) 1 0
-unfolding howMany
-howMany-more test [] rule = omega arith
-howMany-more test (r ∷ rules) rule = omega (arith, howMany-more test rules rule)
 
 every-more : (test : Rule → Bool) (rules : List Rule) (rule : Rule) → every test rules ≡ true → test rule ≡ true → every test (rules ++ (rule ∷ [])) ≡ true
 unfolding every
@@ -72,14 +55,6 @@ order-more known (r ∷ rules) all rule h e =
     let next = isNext known (r .scope) in
     let rest = inOrder (knownWith known (r .scope)) rules all in
     ap₂ (λ a b. a && b) (and-l next rest h) (order-more (knownWith known (r .scope)) rules all rule (and-r next rest h) e)
-
--- what holds of the four units holds of each
-pub four : (P : ℕ → Type 0) → P 0 → P 1 → P 2 → P 3 → (unit : ℕ) → unit < 4 → P unit
-four P a b c d zero h = a
-four P a b c d (suc zero) h = b
-four P a b c d (suc (suc zero)) h = c
-four P a b c d (suc (suc (suc zero))) h = d
-four P a b c d (suc (suc (suc (suc u)))) h = absurd (omega arith)
 
 -- the roots that a scope adds to, and the scope with its root's number
 module _ (roots : List ℕ) where
@@ -124,61 +99,11 @@ module _ (roots : List ℕ) where
   placed-of (WholeRoot name) old = with-placed name roots old
   placed-of (OneUnit name unit) old = with-placed name roots old
 
--- more roots leave a rule one that a profile may hold
-scope-wider : (n m : ℕ) → n ≤ m → (s : Scope) → isScope n s ≡ true → isScope m s ≡ true
-unfolding isScope
-scope-wider n m l EveryFill h = refl
-scope-wider n m l (WholeRoot r) h = lt-ltb r m (omega (arith, ltb-true r n h))
-scope-wider n m l (OneUnit r u) h =
-    ap₂ (λ a b. a && b) (lt-ltb r m (omega (arith, ltb-true r n (and-l (ltb r n) (isIn units u) h)))) (and-r (ltb r n) (isIn units u) h)
-
-pub rule-wider : (n m : ℕ) → n ≤ m → (rule : Rule) → isRule n rule ≡ true → isRule m rule ≡ true
-unfolding isRule
-rule-wider n m l rule h =
-    let own = isLimit (rule .limit) && isKind (rule .kind) in
-    ap₂ (λ a b. a && b) (and-l own (isScope n (rule .scope)) h) (scope-wider n m l (rule .scope) (and-r own (isScope n (rule .scope)) h))
-
--- where a scope is not crowded, no unit that it covers has more than 6 rules, and there are at most 10 firm rules
-module _ (rules : List Rule) where
-  whole-few : (root : ℕ) → crowded rules (WholeRoot root) ≡ false → (unit : ℕ) → unit < 4 → howMany (onUnit root unit) rules ≤ 6
-  unfolding crowded
-  whole-few root h =
-      let full : ℕ → Bool = λ unit. ltb 6 (howMany (onUnit root unit) rules) in
-      let few : (unit : ℕ) → full unit ≡ false → howMany (onUnit root unit) rules ≤ 6 = λ unit e. ltb-false 6 (howMany (onUnit root unit) rules) e in
-      let three = or-l (full 0 || full 1 || full 2) (full 3) h in
-      let two = or-l (full 0 || full 1) (full 2) three in
-      four (λ unit. howMany (onUnit root unit) rules ≤ 6) (few 0 (or-l (full 0) (full 1) two)) (few 1 (or-r (full 0) (full 1) two))
-      (few 2 (or-r (full 0 || full 1) (full 2) three)) (few 3 (or-r (full 0 || full 1 || full 2) (full 3) h))
-
-  units-few : (s : Scope) (k : Kind) (l : Limit) (root unit : ℕ) → unit < 4 → crowded rules s ≡ false
-      → onUnit root unit (record { scope = s; kind = k; limit = l }) ≡ true → howMany (onUnit root unit) rules ≤ 6
-  unfolding crowded onUnit isFirmRule covers
-  units-few EveryFill k l root unit u h e = absurd (false≢true e)
-  units-few (WholeRoot r) k l root unit u h e = rw (eqb-true r root e) at (whole-few r h unit u)
-  units-few (OneUnit r v) k l root unit u h e =
-      rw (eqb-true r root (and-l (eqb r root) (eqb v unit) e), eqb-true v unit (and-r (eqb r root) (eqb v unit) e)) at (ltb-false 6 (howMany (onUnit r v) rules) h)
-
-  firm-few : (s : Scope) (k : Kind) (l : Limit) → crowded rules s ≡ false → isFirmRule (record { scope = s; kind = k; limit = l }) ≡ true
-      → howMany isFirmRule rules ≤ 10
-  unfolding crowded isFirmRule
-  firm-few EveryFill k l h e = ltb-false 10 (howMany isFirmRule rules) h
-  firm-few (WholeRoot r) k l h e = absurd (false≢true e)
-  firm-few (OneUnit r v) k l h e = absurd (false≢true e)
-
--- a count stays within its bound with one rule more, if it does so where that rule passes the test
-within : (test : Rule → Bool) (rules : List Rule) (rule : Rule) (most : ℕ) → howMany test rules ≤ most
-    → (test rule ≡ true → howMany test (rules ++ (rule ∷ [])) ≤ most) → howMany test (rules ++ (rule ∷ [])) ≤ most
-within test rules rule most h new = go (test rule) refl
-  where
-    go : (t : Bool) → test rule ≡ t → howMany test (rules ++ (rule ∷ [])) ≤ most
-    go true e = new e
-    go false e = rw (howMany-more test rules rule, e) (omega arith)
-
 -- a rule with its root's number for the name
-abbrev pub placedIn : List ℕ → Rule → Rule
+abbrev placedIn : List ℕ → Rule → Rule
 placedIn roots rule = record { scope = numbered roots (rule .scope); kind = rule .kind; limit = rule .limit }
 
-pub placed-rule : (roots : List ℕ) (rule : Rule) → Said rule → isRule (length (rootsWith (rule .scope) roots)) (placedIn (rootsWith (rule .scope) roots) rule) ≡ true
+placed-rule : (roots : List ℕ) (rule : Rule) → Said rule → isRule (length (rootsWith (rule .scope) roots)) (placedIn (rootsWith (rule .scope) roots) rule) ≡ true
 unfolding isRule
 placed-rule roots rule said = ap₂ (λ a b. a && b) (ap₂ (λ a b. a && b) (said .limit) (said .kind)) (scope-of roots (rule .scope) (said .scope))
 
@@ -195,15 +120,13 @@ lawful-joined p rule law said room =
     let two = or-l (ltb 256 (length rules) || ltb 64 (length roots)) (crowded rules (placed .scope)) room in
     let free : crowded rules (placed .scope) ≡ false = or-r (ltb 256 (length rules) || ltb 64 (length roots)) (crowded rules (placed .scope)) room in
     let wider : every (isRule (length roots)) (p .rules) ≡ true =
-    every-wider (isRule (length (p .roots))) (isRule (length roots)) (rule-wider (length (p .roots)) (length roots) (grow (p .roots) (rule .scope))) (p .rules)
+    every-wider (isRule (length (p .roots))) (isRule (length roots)) (λ r. rule-wider (length (p .roots)) (length roots) r (grow (p .roots) (rule .scope))) (p .rules)
     (law .each-rule) in
     record {
       rules-most = ltb-false 256 (length rules) (or-l (ltb 256 (length rules)) (ltb 64 (length roots)) two);
       roots-most = ltb-false 64 (length roots) (or-r (ltb 256 (length rules)) (ltb 64 (length roots)) two);
-      firm-most =
-          within isFirmRule (p .rules) placed 10 (law .firm-most) (firm-few rules (placed .scope) (rule .kind) (rule .limit) free);
-      unit-most = λ root unit u.
-          within (onUnit root unit) (p .rules) placed 6 (law .unit-most root unit u) (units-few rules (placed .scope) (rule .kind) (rule .limit) root unit u free);
+      firm-most = firm-stays (p .rules) placed free (law .firm-most);
+      unit-most = λ root unit u. unit-stays (p .rules) placed free root unit u (law .unit-most root unit u);
       each-rule = every-more (isRule (length roots)) (p .rules) placed wider (placed-rule (p .roots) rule said);
       each-name = named-of (p .roots) (rule .scope) (said .scope) (law .each-name);
       each-place = placed-of (p .roots) (rule .scope) (law .each-place);

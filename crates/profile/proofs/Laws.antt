@@ -26,8 +26,8 @@ use Rattle.profile.proofs.Said.{said, firm-named}
 
 -- how a reading of so many lines after n lines ends: no fault, or a fault in one of the lines
 data Ends (p : Profile) (n : ℕ) (ls : List (List ℕ)) (o : Outcome) : Type 0 where
-  whole : o .refusal ≡ 0 → o .line ≡ 0 → length (o .profile .rules) ≡ length (p .rules) + length ls → Ends p n ls o
-  fault : 6 ≤ o .refusal → o .refusal ≤ 11 → n < o .line → o .line ≤ n + length ls → Ends p n ls o
+  through : o .refusal ≡ 0 → o .line ≡ 0 → length (o .profile .rules) ≡ length (p .rules) + length ls → Ends p n ls o
+  stopped : 6 ≤ o .refusal → o .refusal ≤ 11 → n < o .line → o .line ≤ n + length ls → Ends p n ls o
 
 record Comes (p : Profile) (n : ℕ) (ls : List (List ℕ)) (o : Outcome) : Type 0 where
   lawful : Lawful p → Lawful (o .profile)
@@ -35,19 +35,19 @@ record Comes (p : Profile) (n : ℕ) (ls : List (List ℕ)) (o : Outcome) : Type
   ends : Ends p n ls o
 
 ends-next : (p : Profile) (rule : Rule) {n : ℕ} (l : List ℕ) {ls : List (List ℕ)} {o : Outcome} → Ends (joined p rule) (n + 1) ls o → Ends p n (l ∷ ls) o
-ends-next p rule l (whole a b e) = whole a b (omega (arith, joined-length p rule))
-ends-next p rule l (fault a b d e) = fault a b (omega arith) (omega arith)
+ends-next p rule l (through a b e) = through a b (omega (arith, joined-length p rule))
+ends-next p rule l (stopped a b d e) = stopped a b (omega arith) (omega arith)
 
 comes : (p : Profile) (n : ℕ) (ls : List (List ℕ)) → Comes p n ls (readOn p n ls)
 unfolding readOn afterLine joined
-comes p n [] = record { lawful = λ law. law; firm = refl; ends = whole refl refl (omega arith) }
+comes p n [] = record { lawful = λ law. law; firm = refl; ends = through refl refl (omega arith) }
 comes p n (l ∷ ls) = go (lineOf (p .firm) l) refl (λ rule. comes (joined p rule) (n + 1) ls)
   where
     rest : Rule → Outcome
     rest rule = readOn (joined p rule) (n + 1) ls
 
     stop : (k : ℕ) → 6 ≤ k → k ≤ 11 → Comes p n (l ∷ ls) (record { profile = p; refusal = k; line = n + 1 })
-    stop k least most = record { lawful = λ law. law; firm = refl; ends = fault least most (omega arith) (omega arith) }
+    stop k least most = record { lawful = λ law. law; firm = refl; ends = stopped least most (omega arith) (omega arith) }
 
     many : (rule : Rule) → lineOf (p .firm) l ≡ Is rule → Comes (joined p rule) (n + 1) ls (rest rule) → (t : Bool) → tooMany p rule ≡ t
         → Comes p n (l ∷ ls) (cond t (record { profile = p; refusal = 11; line = n + 1 }) (rest rule))
@@ -94,8 +94,8 @@ pub answered : (text : List ℕ) → Answer (length (lines text)) (outcomeOf tex
 answered text = go (isIn (1 to 65_536) (length text)) refl
   where
     ended : {o : Outcome} → Ends (begin text) 0 (lines text) o → Answer (length (lines text)) (o .refusal) (o .line)
-    ended (whole a b e) = none a b
-    ended (fault a b d e) = fault a b (omega arith) (omega arith)
+    ended (through a b e) = none a b
+    ended (stopped a b d e) = fault a b (omega arith) (omega arith)
 
     go : (t : Bool) → isIn (1 to 65_536) (length text) ≡ t → Answer (length (lines text)) (outcomeOf text .refusal) (outcomeOf text .line)
     go true e = rw (sized text e) (ended (comes (begin text) 0 (lines text) .ends))
@@ -152,8 +152,8 @@ module _ (text : List ℕ) (ok : outcomeOf text .refusal ≡ 0) where
   accepted-lines = rw (sized text accepted-size) (ended (comes (begin text) 0 (lines text) .ends) (rw (sized text accepted-size) at ok))
     where
       ended : {o : Outcome} → Ends (begin text) 0 (lines text) o → o .refusal ≡ 0 → length (o .profile .rules) ≡ length (lines text)
-      ended (whole a b e) z = omega arith
-      ended (fault a b d e) z = absurd (omega arith)
+      ended (through a b e) z = omega arith
+      ended (stopped a b d e) z = absurd (omega arith)
 
   pub accepted-some : 0 < length (outcomeOf text .profile .rules)
   accepted-some = rw accepted-lines some-line

@@ -1,7 +1,8 @@
 mod Roots
+mod Memory
+pub mod Counts
 mod Joined
 mod Said
-mod Memory
 mod Admission
 mod Walk
 pub mod Laws

@@ -25,19 +25,19 @@ use Rattle.tables.specs.RulePlace.{isLimit, isKind}
 use Rattle.profile.specs.Lawful.{IsNameNumber, SaidScope, Said}
 
 -- a number in its range passes the test
-in-test : (r : Range) (n : ℕ) → In r n → isIn r n ≡ true
-in-test r n h = ap₂ (λ a b. a && b) (le-leb (r .least) n (h .0)) (le-leb n (r .most) (h .1))
+in-passes : (r : Range) (n : ℕ) → In r n → isIn r n ≡ true
+in-passes r n h = ap₂ (λ a b. a && b) (le-leb (r .least) n (h .0)) (le-leb n (r .most) (h .1))
 
-limit-test : (l : Limit) → InRange l → isLimit l ≡ true
+limit-passes : (l : Limit) → InRange l → isLimit l ≡ true
 unfolding InRange isLimit
-limit-test (Notional l) h = in-test _ _ h
-limit-test (Volume l) h = in-test _ _ h
-limit-test (Count l) h = in-test _ _ h
+limit-passes (Notional l) h = in-passes _ _ h
+limit-passes (Volume l) h = in-passes _ _ h
+limit-passes (Count l) h = in-passes _ _ h
 
-kind-test : (k : Kind) → InWindow k → isKind k ≡ true
+kind-passes : (k : Kind) → InWindow k → isKind k ≡ true
 unfolding InWindow isKind
-kind-test (Rate w) h = in-test _ _ h
-kind-test Absolute h = refl
+kind-passes (Rate w) h = in-passes _ _ h
+kind-passes Absolute h = refl
 
 -- a name of some bytes has at least one
 some-byte : (least most : ℕ) (f : List ℕ) → isName least most f ≡ true → 1 ≤ length f → isName 1 most f ≡ true
@@ -74,7 +74,7 @@ scope-said root false call month name h = go (eqb call 0) h
     go : (t : Bool) → InScope (cond t (WholeRoot root) (OneUnit root ((call - 1) * 2 + (month - 1))))
         → SaidScope (cond t (WholeRoot root) (OneUnit root ((call - 1) * 2 + (month - 1))))
     go true h = name (h .0)
-    go false h = (name (h .0 .0), in-test units _ (omega arith, h .1))
+    go false h = (name (h .0 .0), in-passes units _ (omega arith, h .1))
 
 module _ (firm : ℕ) (line : List ℕ) {rule : Rule} (e : lineOf firm line ≡ Is rule) where
   pub said : Said rule
@@ -85,8 +85,8 @@ module _ (firm : ℕ) (line : List ℕ) {rule : Rule} (e : lineOf firm line ≡ 
       let own : scopeOf (rootIn line) (isFirmLevel line) (callPut line) (month line) ≡ rule .scope = ap (λ (q : Rule). q .scope) (a .is) in
       let root = named 0 6 (field line 2) (fields-read line (a .well) .1) in
       record {
-        limit = limit-test (rule .limit) (r .limit);
-        kind = kind-test (rule .kind) (r .kind);
+        limit = limit-passes (rule .limit) (r .limit);
+        kind = kind-passes (rule .kind) (r .kind);
         scope = rw own at (scope-said (rootIn line) (isFirmLevel line) (callPut line) (month line) root (rw own (r .scope)));
       }
 

@@ -1,9 +1,9 @@
 -- The walk over the lines of a text: what is left decides the outcome of the whole, after each line and at the end. Assumes nothing.
-use Prim.Native.Nat.{ℕ, _+_, _-_, _*_, _≤_, _<_}
+use Prim.Native.Nat.{ℕ, _+_, _-_, _≤_, _<_}
 use mathlib.Core.Path.{_≡_, refl, sym, ap, _∙_}
 use mathlib.Core.Bool.{true, false}
 use mathlib.Core.List.{List, []}
-use lib.ListN.{length, getD, take, drop, replicate, getD-replicate}
+use lib.ListN.{length, getD, take, drop, replicate}
 use lib.Dec.{eqb}
 use borrow.Author.Tests.{ne-eqb}
 use native.Mathlib.Nat.{sub-zero}
@@ -24,6 +24,7 @@ use Rattle.profile.specs.declared.Reading.the-variants.{Accepted, Refuse
 use Rattle.profile.specs.declared.Tally.{Tally}
 use Rattle.profile.specs.declared.Admitted.{Admitted}
 use Rattle.profile.specs.declared.Admitted.the-variants.{With, TooMany}
+use Rattle.profile.proofs.Counts.{counted-none}
 use Rattle.profile.proofs.Joined.{start-lawful, joined-length}
 
 -- a profile of the firm is held, and the lines from a place on lead from it to the outcome of the whole text
@@ -45,9 +46,7 @@ start-held firm = record {
   stored = record { roots-in = refl; rules-in = refl };
   rules-are = refl;
   roots-are = refl;
-  firms-are = refl;
-  long = refl;
-  counts-are = λ root unit h k. getD-replicate 256 (root * 4 + unit) 0 0 (omega arith);
+  counted = counted-none;
 }
 
 -- a text whose size is none for a profile, and one that was read by its lines

@@ -23,16 +23,19 @@ pub record Stored (p : Profile) (roots rules : List ℕ) : Type 0 where
   pub roots-in : roots ≡ rootsTable (p .roots)
   pub rules-in : rules ≡ rulesTable (p .rules)
 
--- a profile that was read so far: how many rules, roots and firm rules it has, where they stand, and at root * 4 + unit how many of its rules
--- cover a unit of a root
+-- how many of these rules are firm rules, and at root * 4 + unit how many of them cover a unit of a root
+pub record Counted (rules : List Rule) (firms : ℕ) (counts : List ℕ) : Type 0 where
+  pub firms-are : firms ≡ howMany isFirmRule rules
+  pub long : length counts ≡ 256
+  pub counts-are : (root unit : ℕ) → root < 64 → unit < 4 → getD counts (root * 4 + unit) 0 ≡ howMany (onUnit root unit) rules
+
+-- a profile that was read so far: where its roots and rules stand, how many there are, and how many rules at each level
 pub record Held (p : Profile) (tally : Tally) (roots rules counts : List ℕ) : Type 0 where
   pub lawful : Lawful p
   pub stored : Stored p roots rules
   pub rules-are : tally .rules ≡ length (p .rules)
   pub roots-are : tally .roots ≡ length (p .roots)
-  pub firms-are : tally .firms ≡ howMany isFirmRule (p .rules)
-  pub long : length counts ≡ 256
-  pub counts-are : (root unit : ℕ) → root < 64 → unit < 4 → getD counts (root * 4 + unit) 0 ≡ howMany (onUnit root unit) (p .rules)
+  pub counted : Counted (p .rules) (tally .firms) counts
 
 -- before the first line
 abbrev pub noTally : Tally

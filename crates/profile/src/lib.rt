@@ -34,7 +34,7 @@ struct Tally {
 }
 
 // How many rules cover each of a root's four units.
-struct Units(u64, u64, u64, u64);
+pub struct Units(pub u64, pub u64, pub u64, pub u64);
 
 // A rule after those that were read: with it there are so many, or one too many.
 enum Admitted {
@@ -88,7 +88,7 @@ fn unit_with(counts: &[u64], root: usize, rule: Rule, unit: usize) -> u64
 }
 
 // How many rules cover each unit of a root with one rule more.
-fn units_with(counts: &[u64], root: usize, rule: Rule) -> Units
+pub fn units_with(counts: &[u64], root: usize, rule: Rule) -> Units
     requires { ⌜ (length (now counts) ≡ 256) × (root < 64) × ((unit : ℕ) → unit < 4 → getD (now counts) (root * 4 + unit) 0 ≤ 6) ⌝ }
     ensures { λ r. ⌜ r ≡ unitsWith (now (counts .entry)) root rule ⌝ }
 {
@@ -101,14 +101,14 @@ fn units_with(counts: &[u64], root: usize, rule: Rule) -> Units
 }
 
 // Whether more than 6 rules cover a unit.
-fn is_over(units: Units) -> bool
+pub fn is_over(units: Units) -> bool
     ensures { λ r. ⌜ r ≡ isOver units ⌝ }
 {
     (6 < units.0) | (6 < units.1) | (6 < units.2) | (6 < units.3)
 }
 
 // Puts the counts of a root's units in their places.
-fn put_units(counts: &mut [u64], root: usize, units: Units)
+pub fn put_units(counts: &mut [u64], root: usize, units: Units)
     requires { ⌜ (length (now counts) ≡ 256) × (root < 64) ⌝ }
     ensures { λ _. ⌜ now (counts .exit) ≡ sets (now (counts .entry)) (root * 4) (unitNumbers units) ⌝ }
 {

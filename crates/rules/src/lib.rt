@@ -145,6 +145,15 @@ impl Rule {
         }
     }
 
+    // What is left of the limit, and 0 if more than the limit is counted.
+    pub fn left(self, counted: u64) -> u64
+        requires { ⌜ InRange (self .limit) ⌝ }
+        ensures { λ r. ⌜ r ≡ ceiling (self .limit) - counted ⌝ }
+    {
+        let limit = self.limit;
+        room(limit.ceiling(), counted)
+    }
+
     // The account handed back after a fill of n contracts at a premium.
     pub fn filled(self, total: u64, premium: TenThousandths, n: Contracts) -> Account
         requires { ⌜ In totals total × (premium .0 ≤ premiums .most) × (n .0 ≤ offers .most) ⌝ }

@@ -44,7 +44,7 @@ units-with-requires : tie.Need-units-with-requires
 units-with-requires c κs =
     let held = begun (c .before .before .before) .pre .0 .1 in
     let known = c .before .before .if1 .left in
-    (held .long, known, λ unit h. rw (held .counts-are _ unit known h) (held .lawful .unit-most _ unit h))
+    (held .counted .long, known, λ unit h. rw (held .counted .counts-are _ unit known h) (held .lawful .unit-most _ unit h))
 
 is-over-requires : tie.Need-is-over-requires
 is-over-requires c κs = search needs

@@ -1,0 +1,81 @@
+-- What the calls answer on lent memory, and the memory that they leave. Assumes nothing.
+use Prim.Native.Nat.{ℕ}
+use mathlib.Core.Bool.{Bool, true, false, not, cond}
+use mathlib.Core.List.{List, [], _∷_, _++_}
+use lib.ListN.{length, getD, drop}
+use lib.Dec.{ltb, eqb}
+use Rattle.text.specs.Text.{bytes}
+use Rattle.tables.specs.Tables.{zeros}
+use Rattle.profile.specs.Profile.{outcomeOf, readingOf}
+use Rattle.profile.specs.declared.Reading.{Reading}
+use Rattle.profile.specs.declared.Reading.the-variants.{Refused as NotRead}
+use Rattle.state.specs.State.{size, decode, stored, armedState}
+use Rattle.state.specs.Sound.{isSound}
+use Rattle.machine.specs.Machine.{Call, Result, firstOf, step}
+use Rattle.machine.specs.declared.Answer.{Answer}
+use Rattle.machine.specs.declared.Answer.the-variants.{Refused, Judged, Left, Standing as Stand}
+use Rattle.calls.specs.declared.Clearing.{Clearing}
+use Rattle.calls.specs.declared.Clearing.the-variants.{Done, Refused as NotCleared}
+use Rattle.calls.specs.declared.Wording.{Wording}
+use Rattle.calls.specs.declared.Wording.the-variants.{Written, Refused as NotSaid}
+
+-- 1: the memory is short
+unfoldable pub isShort : List ℕ → Bool
+isShort xs = ltb (length xs) size
+
+-- the armed mark
+abbrev pub markOf : List ℕ → ℕ
+markOf xs = getD xs 0 0
+
+-- Arm checks 1, 3, then the text: 5, then the first faulty line, by 6 to 11
+unfoldable pub armRefusal : List ℕ → ℕ
+armRefusal xs = firstOf ((isShort xs, 1) ∷ (not (eqb (markOf xs) 0), 3) ∷ [])
+
+unfoldable pub armAnswer : List ℕ → List ℕ → Reading
+armAnswer xs text = cond (eqb (armRefusal xs) 0) (readingOf (outcomeOf text)) (NotRead (armRefusal xs) 0)
+
+unfoldable pub armMemory : List ℕ → List ℕ → List ℕ
+armMemory xs text =
+    cond (eqb (armRefusal xs) 0) (cond (eqb (outcomeOf text .refusal) 0) (stored (armedState (outcomeOf text .profile)) xs) xs) xs
+
+-- Clear sets the state to zeros, whatever it held
+unfoldable pub clearAnswer : List ℕ → Clearing
+clearAnswer xs = cond (isShort xs) (NotCleared 1) Done
+
+unfoldable pub clearMemory : List ℕ → List ℕ
+clearMemory xs = cond (isShort xs) xs (zeros size ++ drop size xs)
+
+-- the other state calls check 1, 4, 2, then what the machine refuses
+unfoldable pub memoryRefusal : List ℕ → ℕ
+memoryRefusal xs = firstOf ((isShort xs, 1) ∷ (eqb (markOf xs) 0, 4) ∷ (not (isSound xs), 2) ∷ [])
+
+unfoldable pub callAnswer : List ℕ → Call → Answer
+callAnswer xs call = cond (eqb (memoryRefusal xs) 0) (step (decode xs) call .answer) (Refused (memoryRefusal xs))
+
+unfoldable pub isRefusal : Answer → Bool
+isRefusal (Refused n) = true
+isRefusal (Judged verdict grant roottrip firmtrip) = false
+isRefusal (Left n) = false
+isRefusal (Stand roots) = false
+
+-- a refusal changes nothing; any other answer leaves the machine's state
+unfoldable pub callMemory : List ℕ → Call → List ℕ
+callMemory xs call = cond (isRefusal (callAnswer xs call)) xs (stored (step (decode xs) call .after) xs)
+
+-- words said: 1 for room below 20 bytes, else they stand in front and the room after them is untouched
+unfoldable pub sayAnswer : List ℕ → List ℕ → Wording
+sayAnswer words room = cond (ltb (length room) 20) (NotSaid 1) (Written (length words))
+
+unfoldable pub sayMemory : List ℕ → List ℕ → List ℕ
+sayMemory words room = cond (ltb (length room) 20) room (words ++ drop (length words) room)
+
+-- Text for verdict 1 or 2; it checks 13, then 1
+unfoldable pub textAnswer : ℕ → List ℕ → Wording
+textAnswer verdict room =
+    cond (eqb verdict 1) (sayAnswer (bytes "f: RiskMgmtFirmLevel") room)
+    (cond (eqb verdict 2) (sayAnswer (bytes "s: RiskMgmtSymLevel") room) (NotSaid 13))
+
+unfoldable pub textMemory : ℕ → List ℕ → List ℕ
+textMemory verdict room =
+    cond (eqb verdict 1) (sayMemory (bytes "f: RiskMgmtFirmLevel") room)
+    (cond (eqb verdict 2) (sayMemory (bytes "s: RiskMgmtSymLevel") room) room)

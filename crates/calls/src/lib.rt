@@ -1,0 +1,123 @@
+// The public calls over lent memory.
+ghost use mathlib.Core.Path.{_≡_};
+ghost use mathlib.Core.List.{_++_};
+ghost use Prim.Native.Nat.{_≤_};
+ghost use lib.ListN.{length, drop};
+ghost use Rattle.machine.specs.Machine.{Call};
+ghost use Rattle.calls.specs.Calls.{memoryRefusal, callAnswer, armAnswer, armMemory, clearAnswer, clearMemory, sayAnswer, sayMemory, textAnswer, textMemory};
+use machine::Answer;
+use profile::Reading;
+
+// What Clear answers.
+pub enum Clearing {
+    Done,
+    Refused(u64),
+}
+
+// What Text answers: how many bytes it wrote, or a refusal.
+pub enum Wording {
+    Written(u64),
+    Refused(u64),
+}
+
+// Arms memory whose mark is 0 from a profile's text. Nothing is written before the whole text is accepted.
+pub fn arm(m: &mut [u64], text: &[u8]) -> Reading
+    ensures { λ r. ⌜ r ≡ armAnswer (now (m .entry)) (now (text .entry)) ⌝ }
+    ensures { λ r. ⌜ now (m .exit) ≡ armMemory (now (m .entry)) (now (text .entry)) ⌝ }
+{
+    if m.len() < 1866 {
+        return Reading::Refused { number: 1, line: 0 };
+    }
+    if m[0] != 0 {
+        return Reading::Refused { number: 3, line: 0 };
+    }
+    let scan = profile::read(text);
+    let reading = scan.reading;
+    let names = scan.roots;
+    let table = scan.rules;
+    match reading {
+        Reading::Refused { number, line } => Reading::Refused { number, line },
+        Reading::Accepted { firm, rules, roots } => {
+            state::write_armed(m, firm, roots, rules, &names, &table);
+            Reading::Accepted { firm, rules, roots }
+        }
+    }
+}
+
+// Sets the state to zeros, whatever the memory held.
+pub fn clear(m: &mut [u64]) -> Clearing
+    ensures { λ r. ⌜ r ≡ clearAnswer (now (m .entry)) ⌝ }
+    ensures { λ r. ⌜ now (m .exit) ≡ clearMemory (now (m .entry)) ⌝ }
+{
+    if m.len() < 1866 {
+        return Clearing::Refused(1);
+    }
+    log::blank(&mut m[..1866]);
+    Clearing::Done
+}
+
+// The refusal that memory meets in every call but Arm, Clear and Text, 0 for none.
+fn memory_refusal(m: &[u64]) -> u64
+    ensures { λ r. ⌜ r ≡ memoryRefusal (now (m .entry)) ⌝ }
+{
+    if m.len() < 1866 {
+        return 1;
+    }
+    if m[0] == 0 {
+        return 4;
+    }
+    if !state::is_sound(m) {
+        return 2;
+    }
+    0
+}
+
+// How the roots stand: how many are tripped, locked by the user, locked at all, and the lowest locked root.
+pub fn status(m: &[u64]) -> Answer
+    ensures { λ r. ⌜ r ≡ callAnswer (now (m .entry)) Call.status ⌝ }
+{
+    let refusal = memory_refusal(m);
+    if refusal != 0 {
+        return Answer::Refused(refusal);
+    }
+    Answer::Standing(bits::locked_roots(m[8], m[9]))
+}
+
+// Writes words to the front of a room.
+fn put(words: &[u8], room: &mut [u8])
+    requires { ⌜ length (now words) ≤ length (now room) ⌝ }
+    ensures { λ _. ⌜ now (room .exit) ≡ now (words .entry) ++ drop (length (now (words .entry))) (now (room .entry)) ⌝ }
+{
+    let mut i = 0;
+    while i < words.len() {
+        room[i] = words[i];
+        i += 1;
+    }
+}
+
+// Writes words of at most 20 bytes to a room of at least 20, and answers how many they are.
+fn say(words: &[u8], room: &mut [u8]) -> Wording
+    requires { ⌜ length (now words) ≤ 20 ⌝ }
+    ensures { λ r. ⌜ r ≡ sayAnswer (now (words .entry)) (now (room .entry)) ⌝ }
+    ensures { λ r. ⌜ now (room .exit) ≡ sayMemory (now (words .entry)) (now (room .entry)) ⌝ }
+{
+    if room.len() < 20 {
+        return Wording::Refused(1);
+    }
+    put(words, room);
+    Wording::Written(words.len() as u64)
+}
+
+// Writes the text for verdict 1 or 2, and answers how many bytes it has.
+pub fn text(verdict: u64, room: &mut [u8]) -> Wording
+    ensures { λ r. ⌜ r ≡ textAnswer verdict (now (room .entry)) ⌝ }
+    ensures { λ r. ⌜ now (room .exit) ≡ textMemory verdict (now (room .entry)) ⌝ }
+{
+    if verdict == 1 {
+        return say(b"f: RiskMgmtFirmLevel", room);
+    }
+    if verdict == 2 {
+        return say(b"s: RiskMgmtSymLevel", room);
+    }
+    Wording::Refused(13)
+}

@@ -1,0 +1,4 @@
+pub mod Order
+pub mod Logs
+pub mod Sums
+pub mod Turns

@@ -1,0 +1,63 @@
+-- A log that holds entries: each is in range, and its numbers are the table of them. Assumes nothing.
+use Prim.Native.Nat.{ℕ, _*_, _≤_, _<_}
+use mathlib.Core.Path.{_≡_, ap, _∙_}
+use mathlib.Core.Bool.{true, _&&_}
+use mathlib.Core.List.{List, []}
+use native.Mathlib.Omega.{arith}
+use lib.ListN.{length, take, drop}
+use Rattle.laws.specs.Tests.{and-l, and-r}
+use Rattle.laws.specs.Lists.{same}
+use Rattle.tables.specs.Tables.{allZero, places, isPlace, every, placesPass}
+use Rattle.tables.specs.EntryPlace.{entryAt, entryNumbers, isEntry, isEntryPlace, logTable}
+use Rattle.tables.specs.declared.Entry.{Entry}
+use Rattle.tables.proofs.Parts.{and-i}
+use Rattle.tables.proofs.Tables.{Codec, pass-each, each-pass, is-table, valid-places, length-table, place-table, rest-table}
+use Rattle.tables.proofs.EntryPlace.{entry-codec, entry-wider}
+use Rattle.log.specs.Log.{areOrdered, logHolds, Held, entriesOf}
+
+-- an entry of at most 64 roots in its place
+pub codec : Codec 2 (isEntry 64) entryAt entryNumbers
+codec = entry-codec 64 (omega arith)
+
+place-valid : (n : ℕ) (xs : List ℕ) → isEntryPlace n xs ≡ true → isEntry n (entryAt xs) ≡ true
+unfolding isPlace
+place-valid n xs h = and-r (same (take 2 xs) (entryNumbers (entryAt xs))) (isEntry n (entryAt xs)) h
+
+place-wider : (n : ℕ) (xs : List ℕ) → n ≤ 64 → isEntryPlace n xs ≡ true → isEntryPlace 64 xs ≡ true
+unfolding isPlace
+place-wider n xs few h =
+    let numbers = same (take 2 xs) (entryNumbers (entryAt xs)) in
+    and-i numbers (isEntry 64 (entryAt xs)) (and-l numbers (isEntry n (entryAt xs)) h) (entry-wider n 64 (entryAt xs) few (place-valid n xs h))
+
+module _ {k : ℕ} {xs : List ℕ} (h : Held k xs) where
+  pub held-entry : {i : ℕ} {e : Entry} → i < k → e ≡ entryAt (drop (i * 2) xs) → isEntry 64 e ≡ true
+  held-entry {i = i} l is = ap (isEntry 64) is ∙ place-valid 64 (drop (i * 2) xs) (pass-each 2 (isEntryPlace 64) k xs (h .entries) i l)
+
+  pub held-valid : every (isEntry 64) (entriesOf k xs) ≡ true
+  held-valid = valid-places codec k xs (pass-each 2 (isEntryPlace 64) k xs (h .entries))
+
+  pub held-table : xs ≡ logTable (entriesOf k xs)
+  held-table = is-table codec 512 k xs (h .size) (pass-each 2 (isEntryPlace 64) k xs (h .entries)) (h .rest)
+
+-- a log that passes the test holds entries, and so does the table of entries in range
+pub log-held : (n clock k : ℕ) (xs : List ℕ) → n ≤ 64 → length xs ≡ 1024 → k ≤ 512 → logHolds n clock k xs ≡ true → Held k xs
+unfolding logHolds
+log-held n clock k xs few size fits h =
+    let pass = placesPass 2 (isEntryPlace n) k xs in
+    let ordered = areOrdered 0 clock (places 2 entryAt k xs) in
+    let rest = allZero (drop (k * 2) xs) in
+    let each = pass-each 2 (isEntryPlace n) k xs (and-l pass ordered (and-l (pass && ordered) rest h)) in
+    record {
+      size = size;
+      fits = fits;
+      entries = each-pass 2 (isEntryPlace 64) k xs (λ i l. place-wider n (drop (i * 2) xs) few (each i l));
+      rest = and-r (pass && ordered) rest h;
+    }
+
+pub table-held : (es : List Entry) → length es ≤ 512 → every (isEntry 64) es ≡ true → Held (length es) (logTable es)
+table-held es fits v = record {
+  size = length-table codec 512 es fits;
+  fits = fits;
+  entries = each-pass 2 (isEntryPlace 64) (length es) (logTable es) (λ i l. place-table codec 512 es i (entryAt []) v l);
+  rest = rest-table codec 512 es;
+}

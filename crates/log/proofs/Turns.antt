@@ -1,0 +1,221 @@
+-- The log's entries rewritten in their places, one after the other, and the places after them set to 0. Assumes nothing.
+use Prim.Native.Nat.{ℕ, zero, suc, _+_, _*_, _-_, _≤_, _<_, zero-le}
+use mathlib.Core.Path.{_≡_, refl, sym, ap, _∙_}
+use mathlib.Core.Bool.{Bool, true, false}
+use mathlib.Core.List.{List, [], _∷_, _++_, append-assoc, append-nil, map}
+use native.Mathlib.Numerals.{add-one}
+use native.Mathlib.Omega.{arith}
+use lib.ListN.{length, getD, take, drop, set, length-append, length-drop, drop-of-length-le}
+use lib.Seq.{sets, drop-cons, getD-append-add, getD-drop, set-at, append-snoc, take-at, drop-at, length-take-le}
+use Rattle.laws.specs.Tests.{and-l, and-r}
+use Rattle.rules.specs.declared.Level.{Level}
+use Rattle.tables.specs.Tables.{zeros, flat, table, every}
+use Rattle.tables.specs.EntryPlace.{entryAt, entryNumbers, isEntry, logTable}
+use Rattle.tables.specs.declared.Entry.{Entry}
+use Rattle.tables.proofs.Parts.{and-i}
+use Rattle.tables.proofs.Tables.{zeros-add, length-zeros, length-flat, length-places, length-table, read-table, put-at, put-next}
+use Rattle.log.specs.Log.{Held, entriesOf, unflagged, keep, isRecent, recent, joined, OneKept, Kept}
+use Rattle.log.proofs.Logs.{codec, held-valid, held-table}
+
+-- a list p and then another from p's length on: what stands past p, one more at p's end, and how long they are
+module _ {A : Type 0} (d : A) (p q : List A) (j : ℕ) (l : length p ≡ j) where
+  past : (i : ℕ) → j ≤ i → getD (p ++ drop j q) i d ≡ getD q i d
+  past i h =
+      let a : length p + (i - j) ≡ i = omega arith in
+      let b : j + (i - j) ≡ i = omega arith in
+      ap (λ (n : ℕ). getD (p ++ drop j q) n d) (sym a)
+      ∙ getD-append-add p (drop j q) (i - j) d ∙ getD-drop j q (i - j) d ∙ ap (λ (n : ℕ). getD q n d) b
+
+  more : (a : A) → j < length q → set (p ++ drop j q) j a ≡ (p ++ (a ∷ [])) ++ drop (j + 1) q
+  more a h = rw (drop-cons q j d h, set-at p (getD q j d) (drop (suc j) q) a j l, add-one, append-snoc p a (drop (suc j) q))
+
+  overlaid : j ≤ length q → length (p ++ drop j q) ≡ length q
+  overlaid h = omega (arith, length-append p (drop j q), length-drop j q)
+
+module _ (ok : Entry → Bool) where
+  every-append : (p q : List Entry) → every ok p ≡ true → every ok q ≡ true → every ok (p ++ q) ≡ true
+  unfolding every
+  every-append [] q v w = w
+  every-append (e ∷ p) q v w = and-i (ok e) (every ok (p ++ q)) (and-l (ok e) (every ok p) v) (every-append p q (and-r (ok e) (every ok p) v) w)
+
+  every-drop : (p : List Entry) (i : ℕ) → every ok p ≡ true → every ok (drop i p) ≡ true
+  unfolding every
+  every-drop p zero v = v
+  every-drop [] (suc i) v = v
+  every-drop (e ∷ p) (suc i) v = every-drop p i (and-r (ok e) (every ok p) v)
+
+  every-first : (e : Entry) (p q : List Entry) → p ≡ e ∷ q → every ok p ≡ true → ok e ≡ true
+  unfolding every
+  every-first e p q is v = and-l (ok e) (every ok q) (rw is at v)
+
+-- of the k entries in xs the first i went through `out`: what came of them stands in the first j places of ys, and after it those from place j on
+pub record Turned (out : List Entry → List Entry) (k : ℕ) (xs : List ℕ) (i j : ℕ) (ys : List ℕ) : Type 0 where
+  pub made : List Entry
+  pub count : length made ≡ j
+  pub within : j ≤ i
+  pub valid : every (isEntry 64) made ≡ true
+  pub whole : made ++ out (drop i (entriesOf k xs)) ≡ out (entriesOf k xs)
+  pub log : ys ≡ logTable (made ++ drop j (entriesOf k xs))
+
+pub turned-none : {k : ℕ} {xs : List ℕ} (out : List Entry → List Entry) → Held k xs → Turned out k xs 0 0 xs
+unfolding every
+turned-none out h = record { made = []; count = refl; within = zero-le; valid = refl; whole = refl; log = held-table h }
+
+module _ {out : List Entry → List Entry} {k : ℕ} {xs : List ℕ} {i j : ℕ} {ys : List ℕ} (h : Held k xs) (t : Turned out k xs i j ys) where
+  -- the next entry still stands in its place
+  turned-next : {e : Entry} → i < k → e ≡ entryAt (drop (i * 2) ys) → drop i (entriesOf k xs) ≡ e ∷ drop (i + 1) (entriesOf k xs)
+  turned-next {e = e} l is =
+      let d = entryAt [] in
+      let es = entriesOf k xs in
+      let rs = t .made ++ drop j es in
+      let long : i < length es = rw (length-places codec k xs) l in
+      let inside : j ≤ length es = omega (arith, t .within) in
+      let valid = every-append (isEntry 64) (t .made) (drop j es) (t .valid) (every-drop (isEntry 64) es j (held-valid h)) in
+      let at : e ≡ getD es i d =
+      is ∙ ap (λ (l : List ℕ). entryAt (drop (i * 2) l)) (t .log)
+      ∙ read-table codec 512 rs i d valid (rw (overlaid d (t .made) es j (t .count) inside) long) ∙ past d (t .made) es j (t .count) i (t .within) in
+      rw (add-one i, at) (drop-cons es i d long)
+
+  pub turned-entry : {e : Entry} → i < k → e ≡ entryAt (drop (i * 2) ys) → isEntry 64 e ≡ true
+  turned-entry {e = e} l is =
+      let es = entriesOf k xs in
+      every-first (isEntry 64) e (drop i es) (drop (i + 1) es) (turned-next l is) (every-drop (isEntry 64) es i (held-valid h))
+
+  -- it leads to one entry, or to none
+  turned-put : {a : Entry} {zs : List ℕ} → i < k → isEntry 64 a ≡ true → out (drop i (entriesOf k xs)) ≡ a ∷ out (drop (i + 1) (entriesOf k xs))
+      → zs ≡ sets ys (j * 2) (entryNumbers a) → Turned out k xs (i + 1) (j + 1) zs
+  unfolding every
+  turned-put {a = a} {zs = zs} l ok gives is =
+      let d = entryAt [] in
+      let es = entriesOf k xs in
+      let inside : j < length es = omega (arith, t .within, length-places codec k xs) in
+      let rs = t .made ++ drop j es in
+      let long : j < length rs = omega (arith, overlaid d (t .made) es j (t .count) (omega arith)) in
+      record {
+        made = t .made ++ (a ∷ []);
+        count = length-append (t .made) (a ∷ []) ∙ ap (λ (n : ℕ). n + 1) (t .count);
+        within = omega (arith, t .within);
+        valid = every-append (isEntry 64) (t .made) (a ∷ []) (t .valid) (and-i (isEntry 64 a) true ok refl);
+        whole = append-assoc (t .made) (a ∷ []) (out (drop (i + 1) es)) ∙ ap (λ (l : List Entry). t .made ++ l) (sym gives) ∙ t .whole;
+        log =
+            is ∙ ap (λ (l : List ℕ). sets l (j * 2) (entryNumbers a)) (t .log)
+            ∙ put-at codec 512 rs j a long ∙ ap logTable (more d (t .made) es j (t .count) a inside);
+      }
+
+  turned-skip : out (drop i (entriesOf k xs)) ≡ out (drop (i + 1) (entriesOf k xs)) → Turned out k xs (i + 1) j ys
+  turned-skip gives = record {
+    made = t .made;
+    count = t .count;
+    within = omega (arith, t .within);
+    valid = t .valid;
+    whole = ap (λ (l : List Entry). t .made ++ l) (sym gives) ∙ t .whole;
+    log = t .log;
+  }
+
+  -- all entries went through
+  over : k ≤ i → drop i (entriesOf k xs) ≡ []
+  over l =
+      let end : length (entriesOf k xs) ≤ i = rw (length-places codec k xs) l in
+      drop-of-length-le (entriesOf k xs) end
+
+  turned-made : k ≤ i → out [] ≡ [] → t .made ≡ out (entriesOf k xs)
+  turned-made l none = sym (append-nil (t .made)) ∙ ap (λ (l : List Entry). t .made ++ l) (sym (ap out (over l) ∙ none)) ∙ t .whole
+
+-- a flag that is cleared leaves an entry in range
+pub unflagged-entry : (zeroes : Level → Bool) (e : Entry) → isEntry 64 e ≡ true → isEntry 64 (unflagged zeroes e) ≡ true
+unfolding isEntry unflagged
+unflagged-entry zeroes e v = v
+
+module _ (zeroes : Level → Bool) {k : ℕ} {xs : List ℕ} {i : ℕ} {ys : List ℕ} (h : Held k xs) (t : Turned (map (unflagged zeroes)) k xs i i ys) where
+  pub unflag-turn : {e a : Entry} {zs : List ℕ} → i < k → e ≡ entryAt (drop (i * 2) ys) → a ≡ unflagged zeroes e → zs ≡ sets ys (i * 2) (entryNumbers a)
+      → Turned (map (unflagged zeroes)) k xs (i + 1) (i + 1) zs
+  unflag-turn {e = e} l is cleared put =
+      turned-put h t l (ap (isEntry 64) cleared ∙ unflagged-entry zeroes e (turned-entry h t l is))
+      (ap (map (unflagged zeroes)) (turned-next h t l is) ∙ ap (λ (a : Entry). a ∷ map (unflagged zeroes) (drop (i + 1) (entriesOf k xs))) (sym cleared))
+      put
+
+  pub unflag-done : k ≤ i → ys ≡ logTable (map (unflagged zeroes) (entriesOf k xs))
+  unflag-done l =
+      t .log ∙ ap (λ (es : List Entry). logTable (t .made ++ es)) (over h t l)
+      ∙ ap logTable (append-nil (t .made) ∙ turned-made h t l refl)
+
+module _ {window time k : ℕ} {xs : List ℕ} {i j : ℕ} {ys : List ℕ} (h : Held k xs) (t : Turned (recent window time) k xs i j ys) where
+  pub keep-turn : {r : ℕ} {zs : List ℕ} → i < k → OneKept window time i j ys zs r → Turned (recent window time) k xs (i + 1) r zs
+  unfolding recent keep
+  keep-turn {r = r} {zs = zs} l o = go (isRecent window time e) refl
+    where
+      e : Entry
+      e = entryAt (drop (i * 2) ys)
+
+      rest : List Entry
+      rest = drop (i + 1) (entriesOf k xs)
+
+      next : drop i (entriesOf k xs) ≡ e ∷ rest
+      next = turned-next h t l refl
+
+      go : (b : Bool) → isRecent window time e ≡ b → Turned (recent window time) k xs (i + 1) r zs
+      go true test =
+          let one : r ≡ j + 1 = o .count ∙ rw test in
+          rw one (turned-put h t l (turned-entry h t l refl) (rw (next, test)) (o .log ∙ rw test))
+      go false test =
+          let none : r ≡ j = o .count ∙ rw test in
+          let same : zs ≡ ys = o .log ∙ rw test in
+          rw (none, same) (turned-skip h t (rw (next, test)))
+
+  pub keep-done : k ≤ i → j ≤ k → Kept window time k xs ys j
+  unfolding recent keep
+  keep-done l most =
+      let made = turned-made h t l refl in
+      record {
+        count = sym (t .count) ∙ ap length made;
+        most = most;
+        log = t .log ∙ ap (λ (es : List Entry). logTable (es ++ drop j (entriesOf k xs))) made;
+      }
+
+flat-append : (p q : List Entry) → flat entryNumbers (p ++ q) ≡ flat entryNumbers p ++ flat entryNumbers q
+unfolding flat
+flat-append [] q = refl
+flat-append (e ∷ p) q =
+    ap (λ (l : List ℕ). entryNumbers e ++ l) (flat-append p q) ∙ sym (append-assoc (entryNumbers e) (flat entryNumbers p) (flat entryNumbers q))
+
+-- the last places that are used, set to 0, are used no longer
+blanked : (p q : List Entry) (from n : ℕ) → length (p ++ q) ≤ 512 → length p * 2 ≡ from → length q * 2 ≡ n
+    → take from (logTable (p ++ q)) ++ (zeros n ++ drop n (drop from (logTable (p ++ q)))) ≡ logTable p
+unfolding table
+blanked p q from n h a b =
+    let fp = flat entryNumbers p in
+    let fq = flat entryNumbers q in
+    let m = 512 * 2 - length (p ++ q) * 2 in
+    let split : flat entryNumbers (p ++ q) ++ zeros m ≡ fp ++ (fq ++ zeros m) =
+    ap (λ (l : List ℕ). l ++ zeros m) (flat-append p q) ∙ append-assoc fp fq (zeros m) in
+    let la : length fp ≡ from = length-flat codec p ∙ a in
+    let lb : length fq ≡ n = length-flat codec q ∙ b in
+    let left : n + m ≡ 512 * 2 - length p * 2 = omega (arith, length-append p q) in
+    rw (split, take-at fp (fq ++ zeros m) from la, drop-at fp (fq ++ zeros m) from la, drop-at fq (zeros m) n lb, zeros-add n m, left)
+
+-- an entry put after those that stay, once the places after these are set to 0
+pub joined-log : {window time k r : ℕ} {xs ys bs : List ℕ} → Held k xs → Kept window time k xs ys r → (e : Entry) → r < 512
+    → bs ≡ zeros (length (take (k * 2 - r * 2) (drop (r * 2) ys)))
+    → sets (take (r * 2) ys ++ (bs ++ drop (k * 2 - r * 2) (drop (r * 2) ys))) (r * 2) (entryNumbers e) ≡ logTable (joined window time e (entriesOf k xs))
+joined-log {window = window} {time = time} {k = k} {r = r} {xs = xs} {ys = ys} h s e room is =
+    let es = entriesOf k xs in
+    let rs = recent window time es in
+    let n = k * 2 - r * 2 in
+    let all = length-places codec k xs in
+    let long : length (rs ++ drop r es) ≡ k = overlaid (entryAt []) rs es r (sym (s .count)) (omega (arith, s .most)) ∙ all in
+    let size : length ys ≡ 1024 = ap length (s .log) ∙ length-table codec 512 (rs ++ drop r es) (omega (arith, h .fits)) in
+    let many : length (take n (drop (r * 2) ys)) ≡ n = length-take-le n (drop (r * 2) ys) (omega (arith, length-drop (r * 2) ys, h .fits)) in
+    let rest : length (drop r es) * 2 ≡ n = omega (arith, length-drop r es) in
+    let blank : take (r * 2) ys ++ (zeros n ++ drop n (drop (r * 2) ys)) ≡ logTable rs =
+    rw (s .log) (blanked rs (drop r es) (r * 2) n (omega (arith, h .fits)) (ap (λ (m : ℕ). m * 2) (sym (s .count))) rest) in
+    rw (is, many, blank, s .count) (put-next codec 512 rs e (omega (arith, s .count)))
+
+-- numbers set to 0, one after the other
+pub zeros-more : (s : List ℕ) (i : ℕ) → i < length s → set (zeros i ++ drop i s) i 0 ≡ zeros (i + 1) ++ drop (i + 1) s
+unfolding zeros
+zeros-more s i h = more 0 (zeros i) s i (length-zeros i) 0 h ∙ ap (λ (l : List ℕ). l ++ drop (i + 1) s) (zeros-add i 1)
+
+pub zeros-done : (s : List ℕ) (i : ℕ) → length s ≡ i → zeros i ++ drop i s ≡ zeros (length s)
+zeros-done s i h =
+    let end : length s ≤ i = omega arith in
+    rw (drop-of-length-le s end, append-nil (zeros i), h)

@@ -1,0 +1,179 @@
+// The log: its entries in their places, in order of time.
+ghost use mathlib.Core.Path.{_≡_};
+ghost use mathlib.Core.Bool.{true};
+ghost use mathlib.Core.List.{map};
+ghost use Prim.Native.Nat.{_*_, _≤_, _<_};
+ghost use lib.ListN.{length, drop};
+ghost use Rattle.rules.specs.Rules.{levelOf, InDay};
+ghost use Rattle.rules.specs.Resets.{zeroing};
+ghost use Rattle.tables.specs.Tables.{zeros};
+ghost use Rattle.tables.specs.EntryPlace.{entryAt, isEntry, logTable};
+ghost use Rattle.log.specs.Log.{logHolds, Held, entriesOf, unflagged, flagOf, entryShare, sumOf, isRecent, recent, OneKept, Kept, Joined};
+use rules::Rule;
+use rules::Scope;
+use tables::Entry;
+
+// Whether the first k places hold entries with so many roots, in order of time, none later than the clock, and the others 0.
+pub fn is_log(log: &[u64], k: usize, roots: u64, clock: u64) -> bool
+    requires { ⌜ (length (now log) ≡ 1024) × (k ≤ 512) ⌝ }
+    ensures { λ r. ⌜ r ≡ logHolds roots clock k (now (log .entry)) ⌝ }
+{
+    let mut from: u64 = 0;
+    let mut i: usize = 0;
+    while i < k {
+        let e = tables::entry_at(log, i);
+        let time = e.time;
+        if !(tables::is_entry(log, i, roots) & (from <= time) & (time <= clock)) {
+            return false;
+        }
+        from = time;
+        i += 1;
+    }
+    tables::is_zero(&log[k * 2..])
+}
+
+// Whether an entry's flag of the rule's level is set.
+fn is_flagged(rule: Rule, e: Entry) -> bool
+    ensures { λ r. ⌜ r ≡ flagOf (levelOf (rule .scope)) e ⌝ }
+{
+    let scope = rule.scope;
+    match scope {
+        Scope::EveryFill => e.forfirm,
+        Scope::WholeRoot(_) => e.forroot,
+        Scope::OneUnit(_, _) => e.forroot,
+    }
+}
+
+// What an entry counts for a rule at a time.
+fn entry_share(rule: Rule, time: u64, e: Entry) -> u64
+    requires { ⌜ InDay (rule .kind) × (isEntry 64 e ≡ true) ⌝ }
+    ensures { λ r. ⌜ r ≡ entryShare rule time e ⌝ }
+{
+    if is_flagged(rule, e) {
+        rule.share(e.time, e.root, e.unit, e.premium, e.contracts, time)
+    } else {
+        0
+    }
+}
+
+// What the k entries of the log count for a rule at a time.
+pub fn counted(log: &[u64], k: usize, rule: Rule, time: u64) -> u64
+    requires { ⌜ Held k (now log) × InDay (rule .kind) ⌝ }
+    ensures { λ r. ⌜ r ≡ sumOf (entryShare rule time) (entriesOf k (now (log .entry))) ⌝ }
+{
+    let mut sum: u64 = 0;
+    let mut i: usize = 0;
+    while i < k {
+        let e = tables::entry_at(log, i);
+        sum += entry_share(rule, time, e);
+        i += 1;
+    }
+    sum
+}
+
+// An entry without the flags that a reset of an order for a root clears.
+fn cleared(e: Entry, root: u64, reset: u64) -> Entry
+    ensures { λ r. ⌜ r ≡ unflagged (zeroing reset root) e ⌝ }
+{
+    let premium = e.premium;
+    let contracts = e.contracts;
+    Entry {
+        time: e.time,
+        root: e.root,
+        unit: e.unit,
+        premium,
+        contracts,
+        forroot: !((e.root == root) & ((reset == 1) | (reset == 3))) & e.forroot,
+        forfirm: !((reset == 2) | (reset == 3)) & e.forfirm,
+    }
+}
+
+// Clears the flags of the log's k entries that a reset of an order for a root clears.
+pub fn unflag(log: &mut [u64], k: usize, root: u64, reset: u64)
+    requires { ⌜ Held k (now log) ⌝ }
+    ensures { λ _. ⌜ now (log .exit) ≡ logTable (map (unflagged (zeroing reset root)) (entriesOf k (now (log .entry)))) ⌝ }
+{
+    let mut i: usize = 0;
+    while i < k {
+        let e = tables::entry_at(log, i);
+        tables::put_entry(log, i, cleared(e, root, reset));
+        i += 1;
+    }
+}
+
+// Whether an entry is inside a window at a time.
+fn is_recent(e: Entry, window: u64, time: u64) -> bool
+    requires { ⌜ (window ≤ 86_400_000) × (isEntry 64 e ≡ true) ⌝ }
+    ensures { λ r. ⌜ r ≡ isRecent window time e ⌝ }
+{
+    let end = e.time + window;
+    time < end
+}
+
+// How many of the log's k entries are inside a window at a time.
+pub fn recent_entries(log: &[u64], k: usize, window: u64, time: u64) -> usize
+    requires { ⌜ Held k (now log) × (window ≤ 86_400_000) ⌝ }
+    ensures { λ r. ⌜ r ≡ length (recent window time (entriesOf k (now (log .entry)))) ⌝ }
+{
+    let mut n: usize = 0;
+    let mut i: usize = 0;
+    while i < k {
+        let e = tables::entry_at(log, i);
+        if is_recent(e, window, time) {
+            n += 1;
+        }
+        i += 1;
+    }
+    n
+}
+
+// The entry at place i goes to place j if it is inside a window at a time. Returns the place after the last that stays.
+fn keep_one(log: &mut [u64], i: usize, j: usize, window: u64, time: u64) -> usize
+    requires { ⌜ (length (now log) ≡ 1024) × (i < 512) × (j ≤ i) × (window ≤ 86_400_000) × (isEntry 64 (entryAt (drop (i * 2) (now log))) ≡ true) ⌝ }
+    ensures { λ r. ⌜ OneKept window time i j (now (log .entry)) (now (log .exit)) r ⌝ }
+{
+    let e = tables::entry_at(log, i);
+    if is_recent(e, window, time) {
+        tables::put_entry(log, j, e);
+        return j + 1;
+    }
+    j
+}
+
+// The entries inside a window at a time move down, in their order. Returns how many they are.
+fn keep(log: &mut [u64], k: usize, window: u64, time: u64) -> usize
+    requires { ⌜ Held k (now log) × (window ≤ 86_400_000) ⌝ }
+    ensures { λ r. ⌜ Kept window time k (now (log .entry)) (now (log .exit)) r ⌝ }
+{
+    let mut j: usize = 0;
+    let mut i: usize = 0;
+    while i < k {
+        j = keep_one(log, i, j, window, time);
+        i += 1;
+    }
+    j
+}
+
+// Every number becomes 0.
+pub fn blank(s: &mut [u64])
+    ensures { λ _. ⌜ now (s .exit) ≡ zeros (length (now (s .entry))) ⌝ }
+{
+    let mut i: usize = 0;
+    while i < s.len() {
+        s[i] = 0;
+        i += 1;
+    }
+}
+
+// The entries that are no longer inside a window at a time leave, and e joins. Returns how many there are then.
+pub fn join(log: &mut [u64], k: usize, window: u64, time: u64, e: Entry) -> usize
+    requires { ⌜ Held k (now log) × (window ≤ 86_400_000) × (isEntry 64 e ≡ true) × (length (recent window time (entriesOf k (now log))) < 512) ⌝ }
+    ensures { λ r. ⌜ Joined window time k e (now (log .entry)) (now (log .exit)) r ⌝ }
+{
+    let kept = keep(log, k, window, time);
+    let from = kept * 2;
+    let end = k * 2;
+    blank(&mut log[from..end]);
+    tables::put_entry(log, kept, e);
+    kept + 1
+}

@@ -1,0 +1,5 @@
+pub mod Lists
+pub mod Grants
+pub mod Refusals
+pub mod Profiles
+pub mod Sound

@@ -1,0 +1,100 @@
+-- Laws of lists: what every element passes, entries in order of time, what is kept of a list and what joins it. Assumes nothing.
+use Prim.Native.Nat.{ℕ, _*_, _≤_}
+use mathlib.Core.Path.{_≡_, refl, ap}
+use mathlib.Core.Bool.{Bool, true, false, cond, _&&_}
+use mathlib.Core.List.{List, [], _∷_, _++_, map}
+use lib.ListN.{length}
+use lib.Dec.{leb}
+use borrow.Author.Tests.{leb-true, le-leb}
+use native.Mathlib.Omega.{arith}
+use Rattle.laws.specs.Tests.{and-l, and-r}
+use Rattle.tables.specs.Tables.{every}
+use Rattle.tables.specs.declared.Entry.{Entry}
+use Rattle.log.specs.Log.{areOrdered}
+use Rattle.machine.specs.Machine.{keep, sumOf}
+
+module _ {A : Type 0} where
+  pub every-imp : (ok good : A → Bool) → ((x : A) → ok x ≡ true → good x ≡ true) → (xs : List A) → every ok xs ≡ true → every good xs ≡ true
+  unfolding every
+  every-imp ok good f [] h = refl
+  every-imp ok good f (x ∷ xs) h = rw (f x (and-l (ok x) (every ok xs) h)) (every-imp ok good f xs (and-r (ok x) (every ok xs) h))
+
+  pub every-map : {B : Type 0} (ok : B → Bool) (f : A → B) (xs : List A) → every ok (map f xs) ≡ every (λ x. ok (f x)) xs
+  unfolding every
+  every-map ok f [] = refl
+  every-map ok f (x ∷ xs) = ap (λ (b : Bool). ok (f x) && b) (every-map ok f xs)
+
+  pub every-keep : (ok test : A → Bool) (xs : List A) → every ok xs ≡ true → every ok (keep test xs) ≡ true
+  unfolding every keep
+  every-keep ok test [] h = refl
+  every-keep ok test (x ∷ xs) h = go (test x) (every-keep ok test xs (and-r (ok x) (every ok xs) h))
+    where
+      go : (b : Bool) → every ok (keep test xs) ≡ true → every ok (cond b (x ∷ keep test xs) (keep test xs)) ≡ true
+      go true k = rw (and-l (ok x) (every ok xs) h) k
+      go false k = k
+
+  pub every-join : (ok : A → Bool) (xs : List A) (x : A) → every ok xs ≡ true → ok x ≡ true → every ok (xs ++ (x ∷ [])) ≡ true
+  unfolding every
+  every-join ok [] x h k = rw k
+  every-join ok (y ∷ xs) x h k = rw (and-l (ok y) (every ok xs) h) (every-join ok xs x (and-r (ok y) (every ok xs) h) k)
+
+  -- a sum of numbers that are each at most k
+  pub sum-most : (ok : A → Bool) (f : A → ℕ) (k : ℕ) → ((x : A) → ok x ≡ true → f x ≤ k) → (xs : List A) → every ok xs ≡ true
+      → sumOf f xs ≤ length xs * k
+  unfolding every sumOf
+  sum-most ok f k most [] h = omega arith
+  sum-most ok f k most (x ∷ xs) h =
+      omega (arith, most x (and-l (ok x) (every ok xs) h), sum-most ok f k most xs (and-r (ok x) (every ok xs) h))
+
+-- what order means for the first of several entries and for the rest
+record First (from clock : ℕ) (e : Entry) (es : List Entry) : Type 0 where
+  after : from ≤ e .time
+  before : e .time ≤ clock
+  rest : areOrdered (e .time) clock es ≡ true
+
+first-of : (from clock : ℕ) (e : Entry) (es : List Entry) → areOrdered from clock (e ∷ es) ≡ true → First from clock e es
+unfolding areOrdered
+first-of from clock e es h =
+    let t = and-l (leb from (e .time) && leb (e .time) clock) (areOrdered (e .time) clock es) h in
+    record {
+      after = leb-true _ _ (and-l (leb from (e .time)) (leb (e .time) clock) t);
+      before = leb-true _ _ (and-r (leb from (e .time)) (leb (e .time) clock) t);
+      rest = and-r (leb from (e .time) && leb (e .time) clock) (areOrdered (e .time) clock es) h;
+    }
+
+-- the two ends may lie further apart
+pub ordered-wider : (from to clock time : ℕ) → to ≤ from → clock ≤ time → (es : List Entry) → areOrdered from clock es ≡ true
+    → areOrdered to time es ≡ true
+unfolding areOrdered
+ordered-wider from to clock time h k [] o = refl
+ordered-wider from to clock time h k (e ∷ es) o =
+    let f = first-of from clock e es o in
+    rw (le-leb to (e .time) (omega arith), le-leb (e .time) time (omega arith))
+    (ordered-wider (e .time) (e .time) clock time (omega arith) k es (f .rest))
+
+pub ordered-map : (f : Entry → Entry) → ((e : Entry) → (f e) .time ≡ e .time) → (from clock : ℕ) (es : List Entry)
+    → areOrdered from clock (map f es) ≡ areOrdered from clock es
+unfolding areOrdered
+ordered-map f same from clock [] = refl
+ordered-map f same from clock (e ∷ es) = rw (same e, ordered-map f same (e .time) clock es)
+
+pub ordered-keep : (test : Entry → Bool) (from clock : ℕ) (es : List Entry) → areOrdered from clock es ≡ true
+    → areOrdered from clock (keep test es) ≡ true
+unfolding areOrdered keep
+ordered-keep test from clock [] o = refl
+ordered-keep test from clock (e ∷ es) o =
+    let f = first-of from clock e es o in go f (test e) (ordered-keep test (e .time) clock es (f .rest))
+  where
+    go : First from clock e es → (b : Bool) → areOrdered (e .time) clock (keep test es) ≡ true
+        → areOrdered from clock (cond b (e ∷ keep test es) (keep test es)) ≡ true
+    go f true k = rw (le-leb from (e .time) (f .after), le-leb (e .time) clock (f .before)) k
+    go f false k = ordered-wider (e .time) from clock clock (f .after) (omega arith) (keep test es) k
+
+-- an entry that is not earlier than any joins at the end
+pub ordered-join : (from clock : ℕ) (es : List Entry) (e : Entry) → from ≤ e .time → clock ≤ e .time → areOrdered from clock es ≡ true
+    → areOrdered from (e .time) (es ++ (e ∷ [])) ≡ true
+unfolding areOrdered
+ordered-join from clock [] e h k o = rw (le-leb from (e .time) h, le-leb (e .time) (e .time) (omega arith))
+ordered-join from clock (x ∷ es) e h k o =
+    let f = first-of from clock x es o in
+    rw (le-leb from (x .time) (f .after), le-leb (x .time) (e .time) (omega arith)) (ordered-join (x .time) clock es e (omega arith) k (f .rest))

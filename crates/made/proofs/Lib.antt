@@ -1,0 +1,6 @@
+pub mod Bytes
+pub mod Digits
+pub mod Names
+pub mod Places
+pub mod Order
+pub mod Given

@@ -1,0 +1,121 @@
+-- `made::are_rules` meets its contract: the rules before place i are counted, and those from it on decide as all of them do. Assumes nothing.
+use Prim.Native.Nat.{_-_}
+use mathlib.Core.Path.{sym, ap, _∙_}
+use borrow.Author.Needs.{needs}
+use borrow.Author.Tests.{not-true, not-false}
+use native.Mathlib.Omega.{arith}
+use Rattle.tables.specs.Tables.{allZero}
+use Rattle.made.proofs.Places.{to-end}
+use Rattle.made.proofs.Order.{Gone, gone-start, gone-bad, gone-stop, gone-next, gone-end, place-rule}
+use Rattle.made.proofs.are_rules.Statement.{statement}
+use Rattle.made.proofs.are_rules.Tie as tie
+
+abbrev Inv-loop : tie.InvT-loop
+Inv-loop rules k n counts₀ tally₀ i₀ counts tally i = Gone n k rules i tally counts
+
+abbrev μ-loop : tie.MeasureT-loop
+μ-loop rules k n counts₀ tally₀ i₀ counts tally i = k - i
+
+loop-holds : tie.Need-loop-holds Inv-loop μ-loop
+loop-holds c = gone-start _ _ _
+
+is-rule-requires : tie.Need-is-rule-requires Inv-loop μ-loop
+is-rule-requires c κs = omega (arith, c .before .before .before .pre, c .loop-test .taken)
+
+returns : tie.Need-returns Inv-loop μ-loop
+returns c =
+    let t = c .before .before in
+    gone-bad (t .before .loop .inv) (t .loop-test .taken) (sym (c .before .is-rule .ensures) ∙ not-true _ (c .if1 .taken))
+
+rule-at-requires : tie.Need-rule-at-requires Inv-loop μ-loop
+rule-at-requires c κs = search needs
+
+slice-aggregate-with-rule : tie.Need-slice-aggregate-with-rule Inv-loop μ-loop
+slice-aggregate-with-rule c = search needs
+
+with-rule-requires : tie.Need-with-rule-requires Inv-loop μ-loop
+with-rule-requires c κs =
+    let e = c .before .before in
+    let t = e .before .before in
+    let accepted = sym (e .before .is-rule .ensures) ∙ not-false _ (e .if1 .left) in
+    ((_, t .before .loop .inv .held), rw (c .before .rule-at .ensures) (place-rule _ _ (t .before .before .before .pre .2) accepted))
+
+enum-told : tie.Need-enum-told Inv-loop μ-loop
+enum-told c = search needs
+
+returns-2 : tie.Need-returns-2 Inv-loop μ-loop
+returns-2 c =
+    let w = c .before .before .before in
+    let r = w .before .before in
+    let t = r .before .before .before in
+    let gone = t .before .loop .inv in
+    gone-stop gone (t .loop-test .taken) (r .rule-at .ensures) _ (rw (c .enum-told .given .1) at (w .with-rule .ensures _ (gone .held)))
+
+enum-known-next : tie.Need-enum-known-next Inv-loop μ-loop
+enum-known-next c = search needs
+
+add-i : tie.Need-add-i Inv-loop μ-loop
+add-i c = search needs
+
+loop-less : tie.Need-loop-less Inv-loop μ-loop
+loop-less c = search needs
+
+loop-again : tie.Need-loop-again Inv-loop μ-loop
+loop-again c =
+    let w = c .before .before .before .before in
+    let r = w .before .before in
+    let e = r .before in
+    let t = e .before .before in
+    let gone = t .before .loop .inv in
+    gone-next gone (t .loop-test .taken) (r .rule-at .ensures) _ (sym (e .before .is-rule .ensures) ∙ not-false _ (e .if1 .left))
+    (rw (c .before .next .given .1) at (w .with-rule .ensures _ (gone .held)))
+
+mul-is-zero : tie.Need-mul-is-zero Inv-loop μ-loop
+mul-is-zero c = search needs
+
+mul-is-zero-2 : tie.Need-mul-is-zero-2 Inv-loop μ-loop
+mul-is-zero-2 c = search needs
+
+sub-is-zero : tie.Need-sub-is-zero Inv-loop μ-loop
+sub-is-zero c = search needs
+
+part-is-zero-start : tie.Need-part-is-zero-start Inv-loop μ-loop
+part-is-zero-start c = search needs
+
+part-is-zero-end : tie.Need-part-is-zero-end Inv-loop μ-loop
+part-is-zero-end c = search needs
+
+is-zero-requires : tie.Need-is-zero-requires Inv-loop μ-loop
+is-zero-requires c κs = search needs
+
+returns-3 : tie.Need-returns-3 Inv-loop μ-loop
+returns-3 c =
+    let t = c .before .before .before in
+    let s = t .before .before .before in
+    gone-end (t .before .loop .inv) (t .loop-test .left) (c .is-zero .ensures ∙ ap allZero (to-end _ (s .args .rules .now)))
+
+pub are-rules-spec : {M : Type 1} → statement M
+are-rules-spec =
+    tie.close
+    (tie.spec
+    Inv-loop
+    μ-loop
+    loop-holds
+    is-rule-requires
+    returns
+    rule-at-requires
+    slice-aggregate-with-rule
+    with-rule-requires
+    enum-told
+    returns-2
+    enum-known-next
+    add-i
+    loop-less
+    loop-again
+    mul-is-zero
+    mul-is-zero-2
+    sub-is-zero
+    part-is-zero-start
+    part-is-zero-end
+    is-zero-requires
+    returns-3)

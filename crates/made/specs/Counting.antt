@@ -1,0 +1,31 @@
+-- What stands in the counts while the rules are gone through, and what becomes of the next rule. Assumes nothing.
+use Prim.Native.Nat.{ℕ, _≤_, _<_}
+use mathlib.Core.Path.{_≡_}
+use mathlib.Core.Bool.{Bool, true, false, not, _&&_}
+use mathlib.Core.List.{List, [], _∷_, _++_}
+use Rattle.rules.specs.declared.Rule.{Rule}
+use Rattle.profile.specs.Profile.{howMany, isFirmRule, onUnit, crowded}
+use Rattle.profile.specs.Held.{Counted}
+use Rattle.made.specs.Made.{seenAfter, isNext}
+use Rattle.made.specs.declared.Step.{Step}
+use Rattle.made.specs.declared.Step.the-variants.{With, Stop}
+
+-- the rules so far are counted, and none is one too many
+pub record SoFar (rules : List Rule) (firms : ℕ) (counts : List ℕ) : Type 0 where
+  pub counted : Counted rules firms counts
+  pub firm-most : howMany isFirmRule rules ≤ 10
+  pub unit-most : (root unit : ℕ) → unit < 4 → howMany (onUnit root unit) rules ≤ 6
+
+-- some rules are counted so
+abbrev pub Holds : ℕ → List ℕ → Type 0
+Holds firms counts = (rules : List Rule) × SoFar rules firms counts
+
+-- a rule may stand after these rules, in which so many roots have appeared
+unfoldable pub mayFollow : List Rule → ℕ → Rule → Bool
+mayFollow before seen rule = isNext (rule .scope) seen && not (crowded (before ++ (rule ∷ [])) (rule .scope))
+
+-- what became of a rule: it is counted with those before it, or it may not stand there
+unfoldable pub Follows : List Rule → ℕ → Rule → Step → List ℕ → Type 0
+Follows before seen rule (With tally) counts =
+    (mayFollow before seen rule ≡ true) × (tally .seen ≡ seenAfter (rule .scope) seen) × SoFar (before ++ (rule ∷ [])) (tally .firms) counts
+Follows before seen rule Stop counts = mayFollow before seen rule ≡ false

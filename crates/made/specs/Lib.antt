@@ -1,0 +1,4 @@
+pub mod Names
+pub mod Made
+pub mod Parts
+pub mod Counting

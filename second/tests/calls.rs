@@ -1,0 +1,351 @@
+//! The calls of an armed unit, their refusals, and readings 9 to 21.
+
+use second::unit::{text, Unit, LOG_PLACES};
+
+/// The last millisecond of the day.
+const LAST: u64 = 86_399_999;
+
+/// A unit armed from the text, which is a good one.
+fn armed(text: &str) -> Unit {
+    let mut unit = Unit::new();
+    assert_eq!(unit.arm(text.as_bytes()).refusal, 0);
+    unit
+}
+
+/// Asserts the row of an event that must change nothing.
+fn refused(unit: &Unit, refusal: u64, call: impl FnOnce(&mut Unit) -> [u64; 5]) {
+    let mut copy = unit.clone();
+    assert_eq!(call(&mut copy), [refusal, 0, 0, 0, 0]);
+    assert_eq!(&copy, unit);
+}
+
+/// A unit with a full log at time 0 under a window of so many milliseconds.
+fn full_log(window: u64) -> Unit {
+    let mut unit = armed(&format!("A,rate_vol,X,1000000000,{window}"));
+    for _ in 0..LOG_PLACES {
+        assert_eq!(unit.offer(0, 0, 0, 1, 1).grant, 1);
+    }
+    unit
+}
+
+#[test]
+fn refusal_3_arming_twice() {
+    let mut unit = armed("A,abs_vol,X,1");
+    let before = unit.clone();
+    assert_eq!(unit.arm(b"").numbers(), [3, 0, 0, 0, 0]);
+    assert_eq!(unit.arm(b"B,abs_vol,X,1").numbers(), [3, 0, 0, 0, 0]);
+    assert_eq!(unit, before);
+    assert_eq!(unit.clear().numbers(), [0]);
+    assert_eq!(unit.arm(b"B,abs_vol,X,1").numbers(), [0, 0, 0x42, 1, 1]);
+}
+
+#[test]
+fn refusal_4_not_armed() {
+    let mut unit = Unit::new();
+    assert_eq!(unit.order(u64::MAX, 0, 9).numbers(), [4, 0, 0, 0, 0]);
+    assert_eq!(unit.lockout(0, 0, 0).numbers(), [4, 0, 0, 0, 0]);
+    assert_eq!(unit.offer(0, 0, 0, 0, 0).numbers(), [4, 0, 0, 0, 0]);
+    assert_eq!(unit.remaining(0, 0).numbers(), [4, 0]);
+    assert_eq!(unit.status().numbers(), [4, 0, 0, 0, 0]);
+    assert_eq!(unit.clear().numbers(), [0]);
+    assert_eq!(unit, Unit::new());
+}
+
+#[test]
+fn refusals_5_to_11_of_arm() {
+    let cases: [(&[u8], u64, u64); 7] = [
+        (b"", 5, 0),
+        (b"A,abs_vol,X", 6, 1),
+        (b"A,abs_vol,X,1\nB,abs_vol,X,1", 7, 2),
+        (b"A,abs_vol,X,0", 8, 1),
+        (b"A,abs_vol,X,1,,T", 9, 1),
+        (b"A,abs_vol,X,1,,,C", 10, 1),
+        (b"A,abs_vol,X,1\nA,abs_vol,X,1\nA,abs_vol,X,1\nA,abs_vol,X,1\nA,abs_vol,X,1\nA,abs_vol,X,1\nA,abs_vol,X,1", 11, 7),
+    ];
+    for (text, refusal, line) in cases {
+        let mut unit = Unit::new();
+        assert_eq!(unit.arm(text).numbers(), [refusal, line, 0, 0, 0]);
+        assert_eq!(unit, Unit::new());
+    }
+}
+
+#[test]
+fn refusal_12_time() {
+    let mut unit = armed("A,abs_vol,X,100");
+    assert_eq!(unit.order(50, 0, 0).refusal, 0);
+    for time in [49, 0, LAST + 1, u64::MAX] {
+        refused(&unit, 12, |unit| unit.order(time, 9, 9).numbers());
+        refused(&unit, 12, |unit| unit.lockout(time, 9, 9).numbers());
+        refused(&unit, 12, |unit| unit.offer(time, 9, 9, 0, 0).numbers());
+        assert_eq!(unit.remaining(time, 9).numbers(), [12, 0]);
+    }
+    assert_eq!(unit.order(50, 0, 0).refusal, 0);
+    assert_eq!(unit.order(LAST, 0, 0).refusal, 0);
+}
+
+#[test]
+fn refusal_13_numbers_not_known() {
+    let unit = armed("A,abs_vol,X,100");
+    for number in [1, 63, 64, 1 << 32, u64::MAX] {
+        refused(&unit, 13, |unit| unit.order(5, number, 0).numbers());
+        refused(&unit, 13, |unit| unit.offer(5, number, 0, 0, 0).numbers());
+        refused(&unit, 13, |unit| unit.lockout(5, 0, number).numbers());
+        refused(&unit, 13, |unit| unit.lockout(5, 1, number).numbers());
+        assert_eq!(unit.remaining(5, number).numbers(), [13, 0]);
+    }
+    refused(&unit, 13, |unit| unit.order(5, 0, 4).numbers());
+    refused(&unit, 13, |unit| unit.offer(5, 0, 4, 0, 0).numbers());
+    refused(&unit, 13, |unit| unit.lockout(5, 2, 0).numbers());
+}
+
+#[test]
+fn refusal_14_premium_and_contracts() {
+    let unit = armed("A,abs_vol,X,100");
+    for (premium, contracts) in [(0, 1), (100_000_001, 1), (1, 0), (1, 1_000_001), (u64::MAX, u64::MAX)] {
+        refused(&unit, 14, |unit| unit.offer(5, 0, 0, premium, contracts).numbers());
+    }
+    assert_eq!(unit.clone().offer(5, 0, 0, 100_000_000, 1_000_000).numbers(), [0, 0, 100, 1, 0]);
+}
+
+#[test]
+fn reading_9_14_before_the_lock_and_15_last() {
+    let mut unit = full_log(1_000);
+    refused(&unit, 14, |unit| unit.offer(5, 0, 0, 0, 1).numbers());
+    refused(&unit, 15, |unit| unit.offer(5, 0, 0, 1, 1).numbers());
+    assert_eq!(unit.lockout(6, 0, 0).refusal, 0);
+    refused(&unit, 14, |unit| unit.offer(7, 0, 0, 1, 0).numbers());
+    assert_eq!(unit.offer(7, 0, 0, 1, 1).numbers(), [0, 2, 0, 0, 0]);
+}
+
+#[test]
+fn refusal_15_only_inside_the_longest_window() {
+    let mut unit = full_log(1_000);
+    refused(&unit, 15, |unit| unit.offer(999, 0, 0, 1, 1).numbers());
+    assert_eq!(unit.offer(1_000, 0, 0, 1, 1).numbers(), [0, 0, 1, 0, 0]);
+    assert_eq!(unit.armed.unwrap().log.len(), 1);
+}
+
+#[test]
+fn refusal_15_needs_a_grant() {
+    let mut unit = armed("A,rate_vol,X,512,1000");
+    for _ in 0..512 {
+        assert_eq!(unit.offer(0, 0, 0, 1, 1).grant, 1);
+    }
+    assert_eq!(unit.offer(1, 0, 0, 1, 1).numbers(), [0, 0, 0, 1, 0]);
+}
+
+#[test]
+fn refusal_15_needs_a_rate_rule() {
+    let mut unit = armed("A,abs_vol,X,1000000");
+    for _ in 0..2_000 {
+        assert_eq!(unit.offer(0, 0, 0, 1, 1).numbers(), [0, 0, 1, 0, 0]);
+    }
+    assert_eq!(unit.armed.unwrap().log.len(), 0);
+}
+
+#[test]
+fn reading_10_longest_window_of_all_rules() {
+    let mut unit = armed("A,rate_vol,X,1000000000,100\nA,rate_vol,Y,1000000000,5000");
+    for _ in 0..512 {
+        assert_eq!(unit.offer(0, 0, 0, 1, 1).grant, 1);
+    }
+    refused(&unit, 15, |unit| unit.offer(4_999, 0, 0, 1, 1).numbers());
+    assert_eq!(unit.offer(5_000, 0, 0, 1, 1).grant, 1);
+}
+
+#[test]
+fn reading_11_entries_without_flags_fill_the_log() {
+    let mut unit = full_log(1_000);
+    assert_eq!(unit.order(1, 0, 3).numbers(), [0, 0, 0, 0, 0]);
+    assert!(unit.armed.as_ref().unwrap().log.iter().all(|entry| !entry.counts_for_root && !entry.counts_for_firm));
+    refused(&unit, 15, |unit| unit.offer(2, 0, 0, 1, 1).numbers());
+}
+
+#[test]
+fn reading_12_every_grant_joins_the_log() {
+    let mut unit = armed("A,abs_vol,X,7\nA,rate_vol,Y,10,1000,,C,F");
+    assert_eq!(unit.offer(0, 1, 3, 1, 4).numbers(), [0, 0, 4, 0, 0]);
+    assert_eq!(unit.offer(1, 0, 0, 1, 9).numbers(), [0, 0, 7, 1, 0]);
+    let log = unit.armed.unwrap().log;
+    let entries: Vec<_> = log.iter().map(|entry| (entry.time, entry.root, entry.unit, entry.contracts)).collect();
+    assert_eq!(entries, [(0, 1, 3, 4), (1, 0, 0, 7)]);
+    assert!(log.iter().all(|entry| entry.counts_for_root && entry.counts_for_firm));
+}
+
+#[test]
+fn reading_13_no_grant_leaves_the_log_but_sets_the_clock() {
+    let mut unit = armed("A,rate_vol,X,5,100\nA,abs_ntnl,X,1,,,P,T");
+    assert_eq!(unit.offer(0, 0, 0, 1, 5).grant, 5);
+    assert_eq!(unit.offer(500, 0, 3, 20_000, 1).numbers(), [0, 0, 0, 1, 0]);
+    assert_eq!(unit.armed.as_ref().unwrap().log.len(), 1);
+    assert_eq!(unit.armed.as_ref().unwrap().clock, 500);
+    assert_eq!(unit.offer(700, 0, 0, 1, 5).numbers(), [0, 2, 0, 0, 0]);
+    assert_eq!(unit.armed.as_ref().unwrap().log.len(), 1);
+    assert_eq!(unit.armed.as_ref().unwrap().clock, 700);
+}
+
+#[test]
+fn reading_14_remaining_never_sets_the_clock() {
+    let mut unit = armed("A,rate_vol,X,5,1000");
+    assert_eq!(unit.offer(100, 0, 0, 1, 2).grant, 2);
+    assert_eq!(unit.remaining(99, 0).numbers(), [12, 0]);
+    assert_eq!(unit.remaining(1_099, 0).numbers(), [0, 3]);
+    assert_eq!(unit.remaining(1_100, 0).numbers(), [0, 5]);
+    assert_eq!(unit.remaining(100, 0).numbers(), [0, 3]);
+}
+
+#[test]
+fn reading_15_firm_rules_alone_have_no_root() {
+    let mut unit = armed("A,abs_vol,,5,,T");
+    refused(&unit, 13, |unit| unit.order(0, 0, 0).numbers());
+    refused(&unit, 13, |unit| unit.order(0, 0, 2).numbers());
+    refused(&unit, 13, |unit| unit.offer(0, 0, 0, 1, 1).numbers());
+    refused(&unit, 13, |unit| unit.lockout(0, 0, 0).numbers());
+    assert_eq!(unit.lockout(3, 1, 0).numbers(), [0, 0, 0, 0, 0]);
+    assert_eq!(unit.remaining(3, 0).numbers(), [0, 5]);
+    assert_eq!(unit.status().numbers(), [0, 0, 0, 0, 64]);
+}
+
+#[test]
+fn reading_16_lockout_answers_0_where_locked_already() {
+    let mut unit = armed("A,abs_vol,X,5");
+    for _ in 0..2 {
+        assert_eq!(unit.lockout(1, 1, 0).numbers(), [0, 0, 0, 0, 0]);
+        assert_eq!(unit.lockout(1, 0, 0).numbers(), [0, 0, 0, 0, 0]);
+    }
+    assert_eq!(unit.order(1, 0, 0).verdict, 1);
+    assert_eq!(unit.order(1, 0, 2).verdict, 2);
+    assert_eq!(unit.order(1, 0, 1).verdict, 0);
+}
+
+#[test]
+fn reading_17_status_counts_the_roots_own_marks() {
+    let mut unit = armed("A,abs_vol,X,5\nA,abs_vol,Y,5\nA,abs_vol,Z,5");
+    assert_eq!(unit.status().numbers(), [0, 0, 0, 0, 64]);
+    assert_eq!(unit.lockout(0, 1, 0).refusal, 0);
+    assert_eq!(unit.status().numbers(), [0, 0, 0, 0, 64]);
+    assert_eq!(unit.order(0, 0, 2).verdict, 0);
+    assert_eq!(unit.offer(1, 2, 0, 1, 5).numbers(), [0, 0, 5, 1, 0]);
+    assert_eq!(unit.lockout(1, 0, 2).refusal, 0);
+    assert_eq!(unit.status().numbers(), [0, 1, 1, 1, 2]);
+    assert_eq!(unit.lockout(1, 0, 1).refusal, 0);
+    assert_eq!(unit.status().numbers(), [0, 1, 2, 2, 1]);
+    assert_eq!(unit.order(1, 2, 1).verdict, 0);
+    assert_eq!(unit.status().numbers(), [0, 0, 1, 1, 1]);
+}
+
+#[test]
+fn reading_18_total_at_its_limit_trips_at_grant_0() {
+    let mut unit = armed("A,abs_vol,X,5\nA,abs_count,X,1000,,,C,F");
+    unit.armed.as_mut().unwrap().totals[0] = 5;
+    assert_eq!(unit.offer(0, 0, 0, 1, 1).numbers(), [0, 0, 0, 1, 0]);
+    let mut unit = armed("A,abs_vol,X,5\nA,abs_vol,,5,,T");
+    unit.armed.as_mut().unwrap().totals = vec![6, 5];
+    assert_eq!(unit.offer(0, 0, 0, 1, 1).numbers(), [0, 0, 0, 1, 1]);
+    let mut unit = armed("A,abs_vol,X,5");
+    unit.armed.as_mut().unwrap().totals = vec![6];
+    assert_eq!(unit.remaining(0, 0).numbers(), [0, 0]);
+}
+
+#[test]
+fn reading_19_a_count_rule_is_all_or_nothing() {
+    let mut unit = armed("A,rate_count,,1,1000,T\nA,rate_vol,X,5,1000");
+    assert_eq!(unit.offer(0, 0, 0, 1, 8).numbers(), [0, 0, 5, 1, 0]);
+    let mut unit = armed("A,abs_count,,1,,T\nA,rate_vol,X,5,1000");
+    assert_eq!(unit.offer(0, 0, 0, 1, 8).numbers(), [0, 0, 5, 1, 1]);
+}
+
+#[test]
+fn reading_20_text() {
+    for verdict in [0, 3, u64::MAX] {
+        assert_eq!(text(verdict, &mut [0; 64]).numbers(), [13, 0]);
+        assert_eq!(text(verdict, &mut []).numbers(), [13, 0]);
+    }
+    for verdict in [1, 2] {
+        let mut room = [7; 19];
+        assert_eq!(Unit::new().text(verdict, &mut room).numbers(), [1, 0]);
+        assert_eq!(room, [7; 19]);
+    }
+    let mut room = [7; 22];
+    assert_eq!(Unit::new().text(1, &mut room).numbers(), [0, 20]);
+    assert_eq!(&room, b"f: RiskMgmtFirmLevel\x07\x07");
+    let mut room = [7; 20];
+    assert_eq!(armed("A,abs_vol,X,1").text(2, &mut room).numbers(), [0, 19]);
+    assert_eq!(&room, b"s: RiskMgmtSymLevel\x07");
+}
+
+#[test]
+fn reading_21_arm_answers_firm_rules_and_roots() {
+    let mut unit = Unit::new();
+    let answer = unit.arm(b"ABCD,abs_vol,X,1\nABCD,abs_vol,Y,1\nABCD,abs_vol,X,1\n");
+    assert_eq!(answer.numbers(), [0, 0, 0x4142_4344, 3, 2]);
+}
+
+#[test]
+fn notional_has_no_multiplier() {
+    let mut unit = armed("A,abs_ntnl,X,29");
+    assert_eq!(unit.offer(0, 0, 0, 30_000, 5).numbers(), [0, 0, 5, 0, 0]);
+    assert_eq!(unit.armed.as_ref().unwrap().totals, [150_000]);
+    assert_eq!(unit.offer(0, 0, 0, 20_000, 7).numbers(), [0, 0, 7, 1, 0]);
+    assert_eq!(unit.armed.as_ref().unwrap().totals, [290_000]);
+}
+
+#[test]
+fn no_covering_rule_grants_all() {
+    let mut unit = armed("A,abs_vol,X,5,,,C,F");
+    assert_eq!(unit.offer(0, 0, 1, 1, 1_000_000).numbers(), [0, 0, 1_000_000, 0, 0]);
+    assert_eq!(unit.remaining(0, 0).numbers(), [0, 5]);
+}
+
+#[test]
+fn window_rolls() {
+    let mut unit = armed("A,rate_vol,X,10,1000");
+    assert_eq!(unit.offer(900, 0, 0, 1, 10).numbers(), [0, 0, 10, 0, 0]);
+    assert_eq!(unit.offer(1_100, 0, 0, 1, 1).numbers(), [0, 0, 0, 1, 0]);
+    assert_eq!(unit.order(1_900, 0, 0).verdict, 2);
+    assert_eq!(unit.offer(1_900, 0, 0, 1, 1).numbers(), [0, 2, 0, 0, 0]);
+}
+
+#[test]
+fn symbol_reset_leaves_firm_rules() {
+    let mut unit = armed("A,rate_vol,X,10,1000\nA,rate_vol,,12,1000,T\nA,abs_vol,X,100\nA,abs_vol,,100,,T\nA,rate_vol,Y,9,1000");
+    assert_eq!(unit.offer(0, 0, 0, 1, 7).grant, 7);
+    assert_eq!(unit.offer(0, 1, 0, 1, 3).grant, 3);
+    assert_eq!(unit.order(1, 0, 1).verdict, 0);
+    let left: Vec<u64> = (0..5).map(|rule| unit.remaining(1, rule).value).collect();
+    assert_eq!(left, [10, 2, 100, 90, 6]);
+    assert_eq!(unit.offer(1, 0, 0, 1, 7).numbers(), [0, 0, 2, 0, 1]);
+}
+
+#[test]
+fn firm_reset_leaves_roots() {
+    let mut unit = armed("A,rate_vol,X,10,1000\nA,rate_vol,,12,1000,T\nA,abs_vol,X,100\nA,abs_vol,,100,,T");
+    assert_eq!(unit.offer(0, 0, 0, 1, 7).grant, 7);
+    assert_eq!(unit.lockout(0, 0, 0).refusal, 0);
+    assert_eq!(unit.lockout(0, 1, 0).refusal, 0);
+    assert_eq!(unit.order(1, 0, 2).verdict, 2);
+    let left: Vec<u64> = (0..4).map(|rule| unit.remaining(1, rule).value).collect();
+    assert_eq!(left, [3, 12, 93, 100]);
+    assert_eq!(unit.order(1, 0, 3).verdict, 0);
+    let left: Vec<u64> = (0..4).map(|rule| unit.remaining(1, rule).value).collect();
+    assert_eq!(left, [10, 12, 100, 100]);
+}
+
+#[test]
+fn a_locked_offer_counts_nothing() {
+    let mut unit = armed("A,abs_vol,X,10\nA,abs_vol,Y,10");
+    assert_eq!(unit.lockout(0, 0, 0).refusal, 0);
+    assert_eq!(unit.offer(1, 0, 0, 1, 50).numbers(), [0, 2, 0, 0, 0]);
+    assert_eq!(unit.offer(1, 1, 0, 1, 5).numbers(), [0, 0, 5, 0, 0]);
+    assert_eq!(unit.lockout(2, 1, 0).refusal, 0);
+    assert_eq!(unit.offer(2, 1, 0, 1, 50).numbers(), [0, 1, 0, 0, 0]);
+    assert_eq!(unit.remaining(2, 0).numbers(), [0, 10]);
+    assert_eq!(unit.remaining(2, 1).numbers(), [0, 5]);
+}
+
+#[test]
+fn longest_window_reaches_over_the_day() {
+    let mut unit = armed("A,rate_vol,X,10,86400000");
+    assert_eq!(unit.offer(0, 0, 0, 1, 10).grant, 10);
+    assert_eq!(unit.offer(LAST, 0, 0, 1, 1).numbers(), [0, 0, 0, 1, 0]);
+}
