@@ -11,7 +11,7 @@ use Rattle.profile.specs.declared.Reading.{Reading}
 use Rattle.profile.specs.declared.Reading.the-variants.{Refused as NotRead}
 use Rattle.state.specs.State.{size, decode, stored, armedState}
 use Rattle.state.specs.Sound.{isSound}
-use Rattle.machine.specs.Machine.{Call, Result, firstOf, step}
+use Rattle.machine.specs.Machine.{Call, firstOf, step}
 use Rattle.machine.specs.declared.Answer.{Answer}
 use Rattle.machine.specs.declared.Answer.the-variants.{Refused, Judged, Left, Standing as Stand}
 use Rattle.calls.specs.declared.Clearing.{Clearing}

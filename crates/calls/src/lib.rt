@@ -1,10 +1,13 @@
 // The public calls over lent memory.
 ghost use mathlib.Core.Path.{_≡_};
+ghost use mathlib.Core.Bool.{not, _&&_};
 ghost use mathlib.Core.List.{_++_};
+ghost use lib.Dec.{leb};
+ghost use Rattle.measures.specs.Ranges.{isIn, times};
 ghost use Prim.Native.Nat.{_≤_};
 ghost use lib.ListN.{length, drop};
 ghost use Rattle.machine.specs.Machine.{Call};
-ghost use Rattle.calls.specs.Calls.{memoryRefusal, callAnswer, armAnswer, armMemory, clearAnswer, clearMemory, sayAnswer, sayMemory, textAnswer, textMemory};
+ghost use Rattle.calls.specs.Calls.{memoryRefusal, callAnswer, callMemory, armAnswer, armMemory, clearAnswer, clearMemory, sayAnswer, sayMemory, textAnswer, textMemory};
 use machine::Answer;
 use profile::Reading;
 
@@ -81,6 +84,79 @@ pub fn status(m: &[u64]) -> Answer
         return Answer::Refused(refusal);
     }
     Answer::Standing(bits::locked_roots(m[8], m[9]))
+}
+
+// Whether a time is out of range, or below the clock.
+fn bad_time(time: u64, clock: u64) -> bool
+    ensures { λ r. ⌜ r ≡ not (isIn times time && leb clock time) ⌝ }
+{
+    !(measures::is_in(time, 0, 86_399_999) & (clock <= time))
+}
+
+// An order: the reset comes first, then the verdict.
+pub fn order(m: &mut [u64], time: u64, root: u64, reset: u64) -> Answer
+    ensures { λ r. ⌜ r ≡ callAnswer (now (m .entry)) (Call.order time root reset) ⌝ }
+    ensures { λ r. ⌜ now (m .exit) ≡ callMemory (now (m .entry)) (Call.order time root reset) ⌝ }
+{
+    let refusal = memory_refusal(m);
+    if refusal != 0 {
+        return Answer::Refused(refusal);
+    }
+    if bad_time(time, m[1]) {
+        return Answer::Refused(12);
+    }
+    if !((root < m[3]) & (reset <= 3)) {
+        return Answer::Refused(13);
+    }
+    reset::reset_state(m, time, root, reset);
+    let verdict = reset::verdict(m, root);
+    Answer::Judged {
+        verdict,
+        grant: 0,
+        roottrip: false,
+        firmtrip: false,
+    }
+}
+
+// A lockout of a root or the firm, which the user asks for.
+pub fn lockout(m: &mut [u64], time: u64, level: u64, root: u64) -> Answer
+    ensures { λ r. ⌜ r ≡ callAnswer (now (m .entry)) (Call.lockout time level root) ⌝ }
+    ensures { λ r. ⌜ now (m .exit) ≡ callMemory (now (m .entry)) (Call.lockout time level root) ⌝ }
+{
+    let refusal = memory_refusal(m);
+    if refusal != 0 {
+        return Answer::Refused(refusal);
+    }
+    if bad_time(time, m[1]) {
+        return Answer::Refused(12);
+    }
+    if !((level == 0) & (root < m[3]) | (level == 1) & (root == 0)) {
+        return Answer::Refused(13);
+    }
+    reset::lock_out(m, time, level, root);
+    Answer::Judged {
+        verdict: 0,
+        grant: 0,
+        roottrip: false,
+        firmtrip: false,
+    }
+}
+
+// What remains of a rule's limit at a time.
+pub fn remaining(m: &[u64], time: u64, rule: u64) -> Answer
+    ensures { λ r. ⌜ r ≡ callAnswer (now (m .entry)) (Call.remaining time rule) ⌝ }
+{
+    let refusal = memory_refusal(m);
+    if refusal != 0 {
+        return Answer::Refused(refusal);
+    }
+    if bad_time(time, m[1]) {
+        return Answer::Refused(12);
+    }
+    if !(rule < m[4]) {
+        return Answer::Refused(13);
+    }
+    Answer::Left(reset::left(m, time, rule as usize))
 }
 
 // Writes words to the front of a room.

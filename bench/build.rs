@@ -1,0 +1,7 @@
+// Links the static library that the command beside this crate has made.
+fn main() {
+    let folder = std::env::var("MBRUMZHEG_LIB").expect("MBRUMZHEG_LIB names the folder of libcapi.a");
+    println!("cargo:rustc-link-search=native={folder}");
+    println!("cargo:rustc-link-lib=static=capi");
+    println!("cargo:rerun-if-env-changed=MBRUMZHEG_LIB");
+}

@@ -1,0 +1,139 @@
+-- A call on sound memory: what the machine refuses, and what it does. Assumes nothing.
+use Prim.Native.Nat.{ℕ, zero, suc, _≤_, _<_}
+use native.Mathlib.Omega.{arith}
+use mathlib.Core.Path.{_≡_, refl, sym, _∙_, subst}
+use mathlib.Core.Bool.{Bool, true, false, not, cond, _&&_, _||_, false≢true}
+use mathlib.Core.List.{List}
+use lib.ListN.{length, getD}
+use lib.Dec.{eqb, leb, ltb}
+use borrow.Author.Tests.{ne-eqb, lt-leb, ltb-true, eqb-true}
+use Rattle.measures.specs.Ranges.{isIn, times}
+use Rattle.state.specs.State.{State, profileIn, decode, stored}
+use Rattle.state.specs.Sound.{SoundState, isSound}
+use Rattle.state.specs.Laid.{Laid}
+use Rattle.state.proofs.Restored.{Tests, taken-apart, roots-number, many-rules}
+use Rattle.state.proofs.Stored.{map-length, decode-stored}
+use Rattle.state.proofs.Exactly.{made-parts, sound-fits, given-is-made, sound-decode, sound-stored, sound-is-laid, sound-rules}
+use Rattle.machine.specs.Machine.{Call, order, lockout, remaining, firstOf, badTime, isRoot, refusalOf, acted, unless, step}
+use Rattle.machine.proofs.Sound.{step-sound}
+use Rattle.machine.specs.declared.Answer.{Answer}
+use Rattle.machine.specs.declared.Answer.the-variants.{Refused}
+use Rattle.calls.specs.Calls.{memoryRefusal, callAnswer, isRefusal, callMemory}
+use Rattle.calls.proofs.Armed.{sound-memory}
+
+module _ (xs : List ℕ) (ready : memoryRefusal xs ≡ 0) where
+  tests : Tests xs
+  tests = taken-apart xs (sound-memory xs ready)
+
+  pub laid : Laid xs
+  laid = sound-is-laid xs (sound-memory xs ready)
+
+  pub roots-are : length (decode xs .roots) ≡ getD xs 3 0
+  unfolding decode
+  roots-are = roots-number xs tests
+
+  pub rules-are : length (decode xs .accounts) ≡ getD xs 4 0
+  rules-are = sym (map-length (λ a. a .rule) (decode xs .accounts)) ∙ many-rules xs tests
+
+  pub few-roots : getD xs 3 0 ≤ 64
+  few-roots = tests .roots
+
+  -- the machine refuses, and nothing changes; or it acts
+  module _ (call : Call) where
+    pub refused : (k : ℕ) → refusalOf (decode xs) call ≡ suc k → (Refused (suc k) ≡ callAnswer xs call) × (xs ≡ callMemory xs call)
+    unfolding callAnswer callMemory isRefusal step unless
+    refused k e = (rw (ready, e), rw (ready, e))
+
+    pub acts : refusalOf (decode xs) call ≡ 0 → isRefusal (acted (decode xs) call .answer) ≡ false
+        → (acted (decode xs) call .answer ≡ callAnswer xs call) × (stored (acted (decode xs) call .after) xs ≡ callMemory xs call)
+    unfolding callAnswer callMemory step unless
+    acts e f = (rw (ready, e), rw (ready, e, f))
+
+  -- 12, then 13, of the calls with a time
+  module _ (time : ℕ) (late : Bool) (is-late : late ≡ not (isIn times time && leb (getD xs 1 0) time)) where
+    pub time-is : badTime (decode xs) time ≡ late
+    unfolding badTime decode
+    time-is = sym is-late
+
+    pub order-late : (root reset : ℕ) → late ≡ true → refusalOf (decode xs) (order time root reset) ≡ 12
+    unfolding refusalOf firstOf
+    order-late root reset e = rw (time-is, e)
+
+    pub order-known : (root reset : ℕ) → late ≡ false → (b : Bool) → not (ltb root (getD xs 3 0) && leb reset 3) ≡ b
+        → refusalOf (decode xs) (order time root reset) ≡ cond b 13 0
+    unfolding refusalOf firstOf isRoot
+    order-known root reset e b f = rw (time-is, e, roots-are, f)
+
+    pub lockout-late : (level root : ℕ) → late ≡ true → refusalOf (decode xs) (lockout time level root) ≡ 12
+    unfolding refusalOf firstOf
+    lockout-late level root e = rw (time-is, e)
+
+    pub remaining-late : (rule : ℕ) → late ≡ true → refusalOf (decode xs) (remaining time rule) ≡ 12
+    unfolding refusalOf firstOf
+    remaining-late rule e = rw (time-is, e)
+
+    pub remaining-known : (rule : ℕ) → late ≡ false → (b : Bool) → not (ltb rule (getD xs 4 0)) ≡ b → refusalOf (decode xs) (remaining time rule) ≡ cond b 13 0
+    unfolding refusalOf firstOf
+    remaining-known rule e b f = rw (time-is, e, rules-are, f)
+
+    either-level : (level : ℕ) (a c : Bool) → (eqb level 0 && a || eqb level 1 && c) ≡ (leb level 1 && cond (eqb level 0) a c)
+    either-level zero true c = refl
+    either-level zero false c = refl
+    either-level (suc zero) a c = refl
+    either-level (suc (suc n)) a c =
+        rw (ne-eqb (suc (suc n)) 0 (λ e. omega arith), ne-eqb (suc (suc n)) 1 (λ e. omega arith), lt-leb (suc (suc n)) 1 (omega arith))
+
+    pub lockout-known : (level root : ℕ) → late ≡ false → (b : Bool) → not (eqb level 0 && ltb root (getD xs 3 0) || eqb level 1 && eqb root 0) ≡ b
+        → refusalOf (decode xs) (lockout time level root) ≡ cond b 13 0
+    unfolding refusalOf firstOf isRoot
+    lockout-known level root e b f =
+        rw (time-is, e, roots-are, ← either-level level (ltb root (getD xs 3 0)) (eqb root 0), f)
+
+-- after every call a sound memory is sound again
+module _ (xs : List ℕ) (ready : memoryRefusal xs ≡ 0) where
+  sound : isSound xs ≡ true
+  sound = sound-memory xs ready
+
+  module _ (call : Call) (e : refusalOf (decode xs) call ≡ 0) where
+    pub after-sound : SoundState (acted (decode xs) call .after)
+    unfolding step unless
+    after-sound =
+        subst (λ (n : ℕ). SoundState (unless n (decode xs) (acted (decode xs) call) .after)) e
+        (step-sound (decode xs) call (sound-decode xs sound) (sound-rules xs sound))
+
+    pub after-laid : Laid (stored (acted (decode xs) call .after) xs)
+    after-laid = sound-is-laid (stored (acted (decode xs) call .after) xs) (sound-stored (acted (decode xs) call .after) xs after-sound)
+
+    pub after-decoded : decode (stored (acted (decode xs) call .after) xs) ≡ acted (decode xs) call .after
+    after-decoded =
+        let s = acted (decode xs) call .after in
+        decode-stored s (sound-fits s after-sound (made-parts (profileIn s) (given-is-made (profileIn s) (after-sound .given)))) xs
+
+  pub kept-sound : (call : Call) → isSound (callMemory xs call) ≡ true
+  unfolding callMemory callAnswer isRefusal step unless
+  kept-sound call = rw ready (go (refusalOf (decode xs) call) refl)
+    where
+      stays : (a : Answer) (s : State) → SoundState s → isSound (cond (isRefusal a) xs (stored s xs)) ≡ true
+      stays a s k = pick (isRefusal a)
+        where
+          pick : (b : Bool) → isSound (cond b xs (stored s xs)) ≡ true
+          pick true = sound
+          pick false = sound-stored s xs k
+
+      go : (n : ℕ) → refusalOf (decode xs) call ≡ n
+          → isSound (cond (isRefusal (unless n (decode xs) (acted (decode xs) call) .answer)) xs (stored (unless n (decode xs) (acted (decode xs) call) .after) xs)) ≡ true
+      go zero e = stays (acted (decode xs) call .answer) (acted (decode xs) call .after) (after-sound call e)
+      go (suc n) e = sound
+
+-- a lockout that is not refused names a root below 64
+pub lockout-root : (level root roots : ℕ) → roots ≤ 64 → (eqb level 0 && ltb root roots || eqb level 1 && eqb root 0) ≡ true → root < 64
+lockout-root level root roots few h = go (eqb level 0) (ltb root roots) refl (eqb level 1) (eqb root 0) refl h
+  where
+    go : (a b : Bool) → ltb root roots ≡ b → (c d : Bool) → eqb root 0 ≡ d → (a && b || c && d) ≡ true → root < 64
+    go a true p c d q h = omega (arith, ltb-true root roots p)
+    go true false p true true q h = omega (arith, eqb-true root 0 q)
+    go false false p true true q h = omega (arith, eqb-true root 0 q)
+    go true false p true false q h = absurd (false≢true h)
+    go false false p true false q h = absurd (false≢true h)
+    go true false p false d q h = absurd (false≢true h)
+    go false false p false d q h = absurd (false≢true h)
