@@ -1,3 +1,4 @@
 pub mod Cases
 pub mod Armed
 pub mod Steps
+pub mod Offers

@@ -1,17 +1,21 @@
 -- What the calls answer on lent memory, and the memory that they leave. Assumes nothing.
 use Prim.Native.Nat.{ℕ}
-use mathlib.Core.Bool.{Bool, true, false, not, cond}
+use mathlib.Core.Path.{_≡_}
+use mathlib.Core.Bool.{Bool, true, false, not, cond, _&&_}
 use mathlib.Core.List.{List, [], _∷_, _++_}
 use lib.ListN.{length, getD, drop}
-use lib.Dec.{ltb, eqb}
+use lib.Dec.{leb, ltb, eqb}
 use Rattle.text.specs.Text.{bytes}
 use Rattle.tables.specs.Tables.{zeros}
 use Rattle.profile.specs.Profile.{outcomeOf, readingOf}
 use Rattle.profile.specs.declared.Reading.{Reading}
 use Rattle.profile.specs.declared.Reading.the-variants.{Refused as NotRead}
-use Rattle.state.specs.State.{size, decode, stored, armedState}
-use Rattle.state.specs.Sound.{isSound}
-use Rattle.machine.specs.Machine.{Call, firstOf, step}
+use Rattle.state.specs.State.{State, profileIn, size, decode, stored, armedState}
+use Rattle.state.specs.Sound.{hasRate, isSound}
+use Rattle.measures.specs.Ranges.{isIn, units, premiums, offers}
+use Rattle.machine.specs.Machine.{Call, firstOf, step, longest, recent, logPlaces, badTime, isRoot, verdictOf}
+use Rattle.machine.specs.declared.Offer.{Offer}
+use Rattle.grant.specs.Grant.{Asked}
 use Rattle.machine.specs.declared.Answer.{Answer}
 use Rattle.machine.specs.declared.Answer.the-variants.{Refused, Judged, Left, Standing as Stand}
 use Rattle.calls.specs.declared.Clearing.{Clearing}
@@ -61,6 +65,19 @@ isRefusal (Stand roots) = false
 -- a refusal changes nothing; any other answer leaves the machine's state
 unfoldable pub callMemory : List ℕ → Call → List ℕ
 callMemory xs call = cond (isRefusal (callAnswer xs call)) xs (stored (step (decode xs) call .after) xs)
+
+-- the profile has a rate rule, and the log's places hold entries inside the longest window
+unfoldable pub isFull : State → Offer → Bool
+isFull s o = hasRate (profileIn s .rules) && leb logPlaces (length (recent (longest (profileIn s .rules)) (o .time) (s .log)))
+
+-- a sound memory, and an offer that is neither refused by its numbers nor locked out
+pub record Granting (xs : List ℕ) (o : Offer) : Type 0 where
+  pub ready : memoryRefusal xs ≡ 0
+  pub asked : Asked xs o
+  pub timely : badTime (decode xs) (o .time) ≡ false
+  pub known : not (isRoot (decode xs) (o .root) && isIn units (o .unit)) ≡ false
+  pub priced : not (isIn premiums (o .premium) && isIn offers (o .contracts)) ≡ false
+  pub free : verdictOf (decode xs) (o .root) ≡ 0
 
 -- words said: 1 for room below 20 bytes, else they stand in front and the room after them is untouched
 unfoldable pub sayAnswer : List ℕ → List ℕ → Wording

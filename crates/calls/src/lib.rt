@@ -3,12 +3,15 @@ ghost use mathlib.Core.Path.{_≡_};
 ghost use mathlib.Core.Bool.{not, _&&_};
 ghost use mathlib.Core.List.{_++_};
 ghost use lib.Dec.{leb};
-ghost use Rattle.measures.specs.Ranges.{isIn, times};
-ghost use Prim.Native.Nat.{_≤_};
+ghost use Rattle.measures.specs.Ranges.{isIn, times, premiums, offers};
+ghost use Prim.Native.Nat.{_≤_, min};
 ghost use lib.ListN.{length, drop};
+ghost use Rattle.state.specs.State.{decode};
+ghost use Rattle.state.specs.Laid.{Laid};
 ghost use Rattle.machine.specs.Machine.{Call};
-ghost use Rattle.calls.specs.Calls.{memoryRefusal, callAnswer, callMemory, armAnswer, armMemory, clearAnswer, clearMemory, sayAnswer, sayMemory, textAnswer, textMemory};
+ghost use Rattle.calls.specs.Calls.{isFull, Granting, memoryRefusal, callAnswer, callMemory, armAnswer, armMemory, clearAnswer, clearMemory, sayAnswer, sayMemory, textAnswer, textMemory};
 use machine::Answer;
+use machine::Offer;
 use profile::Reading;
 
 // What Clear answers.
@@ -140,6 +143,84 @@ pub fn lockout(m: &mut [u64], time: u64, level: u64, root: u64) -> Answer
         roottrip: false,
         firmtrip: false,
     }
+}
+
+// Whether the numbers of an offer are in their ranges: premium and contracts.
+fn is_priced(o: Offer) -> bool
+    ensures { λ r. ⌜ r ≡ (isIn premiums (o .premium) && isIn offers (o .contracts)) ⌝ }
+{
+    measures::is_in(o.premium, 1, 100_000_000) & measures::is_in(o.contracts, 1, 1_000_000)
+}
+
+// Whether the log's places hold entries inside the longest window, all of them.
+fn is_full(m: &[u64], o: Offer) -> bool
+    requires { ⌜ Laid (now m) ⌝ }
+    ensures { λ r. ⌜ r ≡ isFull (decode (now (m .entry))) o ⌝ }
+{
+    let longest = grant::longest_window(m);
+    if longest == 0 {
+        return false;
+    }
+    let entries = m[5] as usize;
+    512 <= log::recent_entries(&m[842..1866], entries, longest, o.time)
+}
+
+// The lesser of two numbers.
+fn least(a: u64, b: u64) -> u64
+    ensures { λ r. ⌜ r ≡ min a b ⌝ }
+{
+    if a <= b { a } else { b }
+}
+
+// An offer that is neither refused by its numbers nor locked out: the log may be full, else it is granted what every rule in force allows.
+fn granted(m: &mut [u64], o: Offer) -> Answer
+    requires { ⌜ Granting (now m) o ⌝ }
+    ensures { λ r. ⌜ r ≡ callAnswer (now (m .entry)) (Call.offer o) ⌝ }
+    ensures { λ r. ⌜ now (m .exit) ≡ callMemory (now (m .entry)) (Call.offer o) ⌝ }
+{
+    let cuts = grant::cuts_of(m, o);
+    let grant = least(cuts.root, cuts.firm);
+    if (0 < grant) & is_full(m, o) {
+        return Answer::Refused(15);
+    }
+    let trips = grant::fill(m, o, grant, cuts);
+    Answer::Judged {
+        verdict: 0,
+        grant,
+        roottrip: trips.root,
+        firmtrip: trips.firm,
+    }
+}
+
+// An offered fill, cut to what the rules allow.
+pub fn offer(m: &mut [u64], o: Offer) -> Answer
+    ensures { λ r. ⌜ r ≡ callAnswer (now (m .entry)) (Call.offer o) ⌝ }
+    ensures { λ r. ⌜ now (m .exit) ≡ callMemory (now (m .entry)) (Call.offer o) ⌝ }
+{
+    let refusal = memory_refusal(m);
+    if refusal != 0 {
+        return Answer::Refused(refusal);
+    }
+    if bad_time(o.time, m[1]) {
+        return Answer::Refused(12);
+    }
+    if !((o.root < m[3]) & measures::is_in(o.unit, 0, 3)) {
+        return Answer::Refused(13);
+    }
+    if !is_priced(o) {
+        return Answer::Refused(14);
+    }
+    let verdict = reset::verdict(m, o.root);
+    if verdict != 0 {
+        m[1] = o.time;
+        return Answer::Judged {
+            verdict,
+            grant: 0,
+            roottrip: false,
+            firmtrip: false,
+        };
+    }
+    granted(m, o)
 }
 
 // What remains of a rule's limit at a time.

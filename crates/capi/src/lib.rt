@@ -8,6 +8,7 @@ ghost use Rattle.capi.specs.Rows.{armRow, clearRow, textRow};
 use calls::Clearing;
 use calls::Wording;
 use machine::Answer;
+use machine::Offer;
 use profile::Reading;
 
 fn put_row(row: &mut [u64; 5], a: u64, b: u64, c: u64, d: u64, e: u64)
@@ -107,6 +108,31 @@ pub extern "C" fn mbrumzheg_order(
     ensures { λ _. ⌜ now (row .exit) ≡ numbers (callAnswer (now (m .entry)) (Call.order time root reset)) ⌝ }
 {
     let answer = calls::order(m, time, root, reset);
+    put_answer(answer, row)
+}
+
+// An offered fill: refusal, verdict, grant, root trip, firm trip.
+#[no_mangle]
+pub extern "C" fn mbrumzheg_offer(
+    m: &mut [u64],
+    time: u64,
+    root: u64,
+    unit: u64,
+    premium: u64,
+    contracts: u64,
+    row: &mut [u64; 5],
+)
+    ensures { λ _. ⌜ now (m .exit) ≡ callMemory (now (m .entry)) (Call.offer (record { time = time; root = root; unit = unit; premium = premium; contracts = contracts })) ⌝ }
+    ensures { λ _. ⌜ now (row .exit) ≡ numbers (callAnswer (now (m .entry)) (Call.offer (record { time = time; root = root; unit = unit; premium = premium; contracts = contracts }))) ⌝ }
+{
+    let o = Offer {
+        time,
+        root,
+        unit,
+        premium,
+        contracts,
+    };
+    let answer = calls::offer(m, o);
     put_answer(answer, row)
 }
 

@@ -1,0 +1,150 @@
+-- An offer on sound memory: refused, locked out, or granted. Assumes nothing.
+use Prim.Native.Nat.{ℕ, zero, suc, _≤_, min}
+use native.Mathlib.Omega.{arith}
+use mathlib.Core.Path.{_≡_, refl, sym, ap, _∙_}
+use mathlib.Core.Bool.{Bool, true, false, not, cond, _&&_, and-assoc}
+use mathlib.Core.List.{List}
+use lib.ListN.{length, getD, set}
+use lib.Dec.{eqb, leb, ltb}
+use borrow.Author.Tests.{ne-eqb, lt-ltb, leb-false, ltb-true, not-false}
+use Rattle.laws.specs.Tests.{and-l, and-r}
+use Rattle.measures.specs.Ranges.{isIn, times, units, premiums, offers}
+use Rattle.measures.proofs.Determined.{test-in}
+use Rattle.rules.specs.declared.Level.the-variants.{Firm, Root}
+use Rattle.log.specs.Log.{entriesOf}
+use Rattle.state.specs.State.{profileIn, decode, encode, stored, logPart}
+use Rattle.state.specs.Sound.{hasRate}
+use Rattle.state.specs.Laid.{Laid}
+use Rattle.state.proofs.Exactly.{sound-decode}
+use Rattle.machine.specs.declared.Offer.{Offer}
+use Rattle.machine.specs.declared.Answer.the-variants.{Judged}
+use Rattle.machine.specs.Machine.{offer, firstOf, badTime, isRoot, verdictOf, grantOf, levelTrips, longest, recent, logPlaces, logFull, filled, ticked, refusalOf, judged, acted}
+use Rattle.grant.specs.Grant.{Asked, AreCuts, Ready, HasRoom}
+use Rattle.grant.specs.declared.Cuts.{Cuts}
+use Rattle.grant.proofs.Trip.{grant-cuts}
+use Rattle.grant.proofs.Windows.{rate-longest}
+use Rattle.calls.specs.Calls.{memoryRefusal, callAnswer, isRefusal, callMemory, isFull, Granting}
+use Rattle.calls.proofs.Armed.{sound-memory}
+use Rattle.calls.proofs.Steps.{laid, roots-are, time-is, acts}
+
+-- the log is full: not without a rate rule, else as the entries inside the longest window are counted
+module _ (xs : List ℕ) (h : Laid xs) (o : Offer) (n : ℕ) (e : n ≡ longest (profileIn (decode xs) .rules)) where
+  rates : (hasRate (profileIn (decode xs) .rules) ≡ ltb 0 (longest (profileIn (decode xs) .rules))) × (longest (profileIn (decode xs) .rules) ≤ 86_400_000)
+  unfolding profileIn
+  rates = rate-longest (length (decode xs .roots)) (profileIn (decode xs) .rules) (h .fits .rules)
+
+  pub window-most : n ≤ 86_400_000
+  window-most = rw e (rates .1)
+
+  pub full-none : n ≡ 0 → false ≡ isFull (decode xs) o
+  unfolding isFull
+  full-none z = rw (rates .0, ← e, z)
+
+  pub full-some : (n ≡ 0 → ⊥) → (r : ℕ) → r ≡ length (recent n (o .time) (entriesOf (getD xs 5 0) (logPart xs))) → leb 512 r ≡ isFull (decode xs) o
+  unfolding isFull decode
+  full-some z r k = rw (rates .0, ← e, lt-ltb 0 n (omega arith), k)
+
+-- an offer whose numbers are in range and that is not locked out
+module _ (xs : List ℕ) (o : Offer) (g : Granting xs o) (grant : ℕ) (is : grant ≡ grantOf (decode xs .log) o (decode xs .accounts)) where
+  full-is : logFull (decode xs) o ≡ (ltb 0 grant && isFull (decode xs) o)
+  unfolding logFull isFull
+  full-is = rw (g .free, ← is) (and-assoc (ltb 0 grant) _ _)
+
+  pub refusal-is : (b : Bool) → (ltb 0 grant && isFull (decode xs) o) ≡ b → refusalOf (decode xs) (offer o) ≡ cond b 15 0
+  unfolding refusalOf firstOf
+  refusal-is b t = rw (g .timely, g .known, g .priced, full-is, t)
+
+  pub has-room : (ltb 0 grant && isFull (decode xs) o) ≡ false → HasRoom (decode xs) o grant
+  unfolding isFull
+  has-room t r pos = leb-false logPlaces _ (go _ (rw (lt-ltb 0 grant pos, r) at t))
+    where
+      go : (b : Bool) → (true && (true && b)) ≡ false → b ≡ false
+      go b h = h
+
+  pub granted-is : (a b : Bool) → a ≡ levelTrips (decode xs .log) o grant (decode xs .accounts) (Root (o .root))
+      → b ≡ levelTrips (decode xs .log) o grant (decode xs .accounts) Firm → (ltb 0 grant && isFull (decode xs) o) ≡ false
+      → (Judged 0 grant a b ≡ callAnswer xs (offer o)) × (stored (filled (decode xs) o grant) xs ≡ callMemory xs (offer o))
+  unfolding acted judged isRefusal
+  granted-is a b p q t =
+      let d = acts xs (g .ready) (offer o) (refusal-is false t) (rw (g .free)) in
+      (rw (p, q, is) (rw (g .free) at (d .0)), rw is (rw (g .free) at (d .1)))
+
+  pub ready-is : (cuts : Cuts) → AreCuts xs o cuts → (ltb 0 grant && isFull (decode xs) o) ≡ false → Ready xs o grant cuts
+  ready-is cuts k t = record {
+    asked = g .asked;
+    totals = sound-decode xs (sound-memory xs (g .ready)) .totals;
+    levels = k;
+    least = is;
+    room = has-room t;
+  }
+
+pub least-is : (xs : List ℕ) (o : Offer) (cuts : Cuts) → AreCuts xs o cuts → (n : ℕ) → n ≡ min (cuts .root) (cuts .firm) → n ≡ grantOf (decode xs .log) o (decode xs .accounts)
+least-is xs o cuts k n e = rw (e, k .root, k .firm) (sym (grant-cuts (decode xs .log) o (decode xs .accounts)))
+
+-- the refusals of an offer by its numbers, and a locked-out offer
+module _ (xs : List ℕ) (ready : memoryRefusal xs ≡ 0) (o : Offer) (late : Bool) (is-late : late ≡ not (isIn times (o .time) && leb (getD xs 1 0) (o .time))) where
+  pub offer-late : late ≡ true → refusalOf (decode xs) (offer o) ≡ 12
+  unfolding refusalOf firstOf
+  offer-late e = rw (time-is xs ready (o .time) late is-late, e)
+
+  module _ (timely : late ≡ false) where
+    in-time : badTime (decode xs) (o .time) ≡ false
+    in-time = time-is xs ready (o .time) late is-late ∙ timely
+
+    known-is : (u : Bool) → u ≡ isIn units (o .unit)
+        → not (isRoot (decode xs) (o .root) && isIn units (o .unit)) ≡ not (ltb (o .root) (getD xs 3 0) && u)
+    unfolding isRoot
+    known-is u e = rw (roots-are xs ready, e)
+
+    pub offer-unknown : (u : Bool) → u ≡ isIn units (o .unit) → not (ltb (o .root) (getD xs 3 0) && u) ≡ true → refusalOf (decode xs) (offer o) ≡ 13
+    unfolding refusalOf firstOf
+    offer-unknown u e t = rw (in-time, known-is u e, t)
+
+    module _ (u : Bool) (unit-is : u ≡ isIn units (o .unit)) (known : not (ltb (o .root) (getD xs 3 0) && u) ≡ false) (p : Bool)
+        (priced-is : p ≡ (isIn premiums (o .premium) && isIn offers (o .contracts))) where
+      pub offer-unpriced : not p ≡ true → refusalOf (decode xs) (offer o) ≡ 14
+      unfolding refusalOf firstOf
+      offer-unpriced t = rw (in-time, known-is u unit-is, known, ← priced-is, t)
+
+      module _ (priced : not p ≡ false) where
+        pub offer-asked : Asked xs o
+        offer-asked =
+            let k = not-false _ known in
+            let q = sym priced-is ∙ not-false p priced in
+            let w = not-false _ (sym is-late ∙ timely) in
+            record {
+              laid = laid xs ready;
+              root = rw (roots-are xs ready) (ltb-true _ _ (and-l (ltb (o .root) (getD xs 3 0)) u k));
+              unit = test-in units (o .unit) (sym unit-is ∙ and-r (ltb (o .root) (getD xs 3 0)) u k);
+              premium = test-in premiums (o .premium) (and-l (isIn premiums (o .premium)) (isIn offers (o .contracts)) q);
+              contracts = test-in offers (o .contracts) (and-r (isIn premiums (o .premium)) (isIn offers (o .contracts)) q);
+              time = test-in times (o .time) (and-l (isIn times (o .time)) (leb (getD xs 1 0) (o .time)) w);
+            }
+
+        pub offer-free : verdictOf (decode xs) (o .root) ≡ 0 → Granting xs o
+        offer-free v = record {
+          ready = ready;
+          asked = offer-asked;
+          timely = in-time;
+          known = known-is u unit-is ∙ known;
+          priced = ap not (sym priced-is) ∙ priced;
+          free = v;
+        }
+
+        stored-time : set xs 1 (o .time) ≡ stored (ticked (decode xs) (o .time)) xs
+        unfolding stored encode ticked
+        stored-time = ap (λ (l : List ℕ). set l 1 (o .time)) (laid xs ready .is)
+
+        pub locked-out : (v : ℕ) → v ≡ verdictOf (decode xs) (o .root) → (v ≡ 0 → ⊥)
+            → (Judged v 0 false false ≡ callAnswer xs (offer o)) × (set xs 1 (o .time) ≡ callMemory xs (offer o))
+        unfolding refusalOf firstOf logFull acted judged isRefusal
+        locked-out v e z =
+            let r : refusalOf (decode xs) (offer o) ≡ 0 = rw (in-time, known-is u unit-is, known, ← priced-is, priced, ← e, ne-eqb v 0 z) in
+            go v e z (acts xs ready (offer o) r)
+          where
+            go : (v : ℕ) → v ≡ verdictOf (decode xs) (o .root) → (v ≡ 0 → ⊥)
+                → (isRefusal (acted (decode xs) (offer o) .answer) ≡ false
+                → (acted (decode xs) (offer o) .answer ≡ callAnswer xs (offer o)) × (stored (acted (decode xs) (offer o) .after) xs ≡ callMemory xs (offer o)))
+                → (Judged v 0 false false ≡ callAnswer xs (offer o)) × (set xs 1 (o .time) ≡ callMemory xs (offer o))
+            go zero e z d = absurd (z refl)
+            go (suc v) e z d = let f = rw (← e) at d in (f refl .0, stored-time ∙ f refl .1)

@@ -1,0 +1,126 @@
+-- The log and the marks after a grant, and the state that a fill leaves. Assumes nothing.
+use Prim.Native.Nat.{ℕ, _+_, _≤_, _<_}
+use native.Mathlib.Omega.{arith}
+use mathlib.Core.Path.{_≡_, refl, sym, ap, ap₂, _∙_, subst}
+use mathlib.Core.Bool.{Bool, true, false, cond, not, _&&_, _||_}
+use mathlib.Core.List.{List, [], _∷_, _++_, map}
+use lib.ListN.{length, getD, take, drop, set, length-append}
+use lib.Dec.{ltb}
+use borrow.Author.Tests.{ltb-true, not-true, not-false}
+use Rattle.laws.specs.Tests.{and-l, and-r}
+use Rattle.measures.specs.Ranges.{offers}
+use Rattle.bits.specs.Locks.{withBit}
+use Rattle.tables.specs.RulePlace.{rulesTable}
+use Rattle.tables.specs.EntryPlace.{isEntry, logTable, flagNumber}
+use Rattle.tables.specs.declared.Entry.{Entry}
+use Rattle.tables.proofs.EntryPlace.{entry-valid}
+use Rattle.profile.specs.Profile.{rootsTable}
+use Rattle.state.specs.State.{State, profileIn, size, totalsTable, encode, stored, decode}
+use Rattle.state.specs.Sound.{hasRate}
+use Rattle.state.specs.Laid.{Fits, Laid, withLog}
+use Rattle.state.proofs.Stores.{put-other}
+use Rattle.machine.specs.declared.Offer.{Offer}
+use Rattle.machine.specs.Machine.{recent, entryOf, longest, joinedLog}
+use Rattle.machine.proofs.Lists.{every-keep, every-join}
+use Rattle.grant.specs.Grant.{Asked, HasRoom, marked}
+use Rattle.grant.specs.declared.Trips.{Trips}
+use Rattle.grant.proofs.Windows.{rate-longest}
+
+-- whether a fill joins the log, by the longest window
+module _ (s : State) (f : Fits s) {window : ℕ} (is : window ≡ longest (profileIn s .rules)) where
+  rate-is : hasRate (profileIn s .rules) ≡ ltb 0 window
+  unfolding profileIn
+  rate-is = rate-longest (length (s .roots)) (map (λ a. a .rule) (s .accounts)) (f .rules) .0 ∙ ap (ltb 0) (sym is)
+
+  pub window-day : window ≤ 86_400_000
+  unfolding profileIn
+  window-day = omega (arith, rate-longest (length (s .roots)) (map (λ a. a .rule) (s .accounts)) (f .rules) .1, is)
+
+  module _ (o : Offer) (grant : ℕ) where
+    joins : (hasRate (profileIn s .rules) && ltb 0 grant) ≡ (ltb 0 window && ltb 0 grant)
+    joins = ap (λ (b : Bool). b && ltb 0 grant) rate-is
+
+    pub joined-off : not (ltb 0 window && ltb 0 grant) ≡ true → joinedLog (profileIn s .rules) (s .log) o grant ≡ s .log
+    unfolding joinedLog
+    joined-off out = rw (joins ∙ not-true (ltb 0 window && ltb 0 grant) out)
+
+    module _ (some : not (ltb 0 window && ltb 0 grant) ≡ false) where
+      both : (ltb 0 window && ltb 0 grant) ≡ true
+      both = not-false (ltb 0 window && ltb 0 grant) some
+
+      pub joined-on : joinedLog (profileIn s .rules) (s .log) o grant ≡ recent window (o .time) (s .log) ++ (entryOf o grant ∷ [])
+      unfolding joinedLog
+      joined-on = rw (joins ∙ both) (ap (λ (w : ℕ). recent w (o .time) (s .log) ++ (entryOf o grant ∷ [])) (sym is))
+
+      pub grant-some : 0 < grant
+      grant-some = ltb-true 0 grant (and-r (ltb 0 window) (ltb 0 grant) both)
+
+      pub room-for : HasRoom s o grant → length (recent window (o .time) (s .log)) < 512
+      room-for room =
+          subst (λ (w : ℕ). length (recent w (o .time) (s .log)) < 512) (sym is) (room (rate-is ∙ and-l (ltb 0 window) (ltb 0 grant) both) grant-some)
+
+-- the entry of a fill is in range
+pub entry-in : {xs : List ℕ} {o : Offer} {grant : ℕ} (roots : ℕ) → Asked xs o → o .root < roots → 0 < grant → grant ≤ offers .most
+    → isEntry roots (entryOf o grant) ≡ true
+unfolding entryOf
+entry-in {o = o} {grant = grant} roots a r pos most = entry-valid roots (entryOf o grant) (record {
+  time = a .time .1;
+  root = r;
+  unit = a .unit .1;
+  premium = a .premium;
+  contracts = (pos, most);
+})
+
+-- a state with the log after a fill still fits
+pub fits-joined : {xs : List ℕ} {o : Offer} {grant : ℕ} (s : State) → Fits s → Asked xs o → o .root < length (s .roots) → grant ≤ offers .most
+    → HasRoom s o grant → Fits (withLog s (joinedLog (profileIn s .rules) (s .log) o grant))
+unfolding joinedLog recent
+fits-joined {o = o} {grant = grant} s f a r most room = go (hasRate (profileIn s .rules)) refl (ltb 0 grant) refl
+  where
+    go : (b : Bool) → hasRate (profileIn s .rules) ≡ b → (g : Bool) → ltb 0 grant ≡ g
+        → Fits (withLog s (cond (b && g) (recent (longest (profileIn s .rules)) (o .time) (s .log) ++ (entryOf o grant ∷ [])) (s .log)))
+    go true p true q =
+        let kept = recent (longest (profileIn s .rules)) (o .time) (s .log) in
+        let pos = ltb-true 0 grant q in
+        record {
+          roots = f .roots;
+          accounts = f .accounts;
+          log = omega (arith, length-append kept (entryOf o grant ∷ []), room p pos);
+          rules = f .rules;
+          entries =
+              every-join (isEntry (length (s .roots))) kept (entryOf o grant) (every-keep (isEntry (length (s .roots))) _ (s .log) (f .entries))
+              (entry-in (length (s .roots)) a r pos most);
+        }
+    go true p false q = f
+    go false p true q = f
+    go false p false q = f
+
+-- another log in its places, with its number
+pub put-log : {xs ys : List ℕ} {n : ℕ} (log : List Entry) → Laid xs → n ≡ length log → ys ≡ logTable log
+    → set (take 842 xs ++ (ys ++ drop 1024 (drop 842 xs))) 5 n ≡ stored (withLog (decode xs) log) xs
+put-log {xs} log h count is =
+    (λ k. set (take 842 (h .is k) ++ (is k ++ drop 1024 (drop 842 (h .is k)))) 5 (count k)) ∙ put-other (decode xs) (h .fits) xs log
+
+flag-or : (a b : Bool) → cond a 1 (flagNumber b) ≡ flagNumber (a || b)
+flag-or true b = refl
+flag-or false b = refl
+
+marks-of : (s : State) (xs : List ℕ) (o : Offer) (trips : Trips)
+    → set (set (set (stored s xs) 1 (o .time)) 6 (cond (trips .firm) 1 (getD (stored s xs) 6 0))) 8
+    (cond (trips .root) (withBit (getD (stored s xs) 8 0) (o .root)) (getD (stored s xs) 8 0))
+    ≡ stored (marked s o trips) xs
+unfolding stored encode marked
+marks-of s xs o trips =
+    ap (λ (n : ℕ). (1 ∷ o .time ∷ s .firm ∷ length (s .roots) ∷ length (s .accounts) ∷ length (s .log) ∷ n ∷ flagNumber (s .firmLocked)
+    ∷ cond (trips .root) (withBit (s .tripped) (o .root)) (s .tripped) ∷ s .locked
+    ∷ (rootsTable (s .roots) ++ (rulesTable (map (λ a. a .rule) (s .accounts)) ++ (totalsTable (map (λ a. a .total) (s .accounts)) ++ logTable (s .log)))))
+    ++ drop size xs) (flag-or (trips .firm) (s .firmTripped))
+
+-- clock and trips in their places
+pub put-marks : {xs : List ℕ} {v w : ℕ} (o : Offer) (trips : Trips) → Laid xs → v ≡ cond (trips .firm) 1 (getD xs 6 0)
+    → w ≡ cond (trips .root) (withBit (getD xs 8 0) (o .root)) (getD xs 8 0)
+    → set (set (set xs 1 (o .time)) 6 v) 8 w ≡ stored (marked (decode xs) o trips) xs
+put-marks {xs} o trips h p q =
+    ap₂ (λ (v w : ℕ). set (set (set xs 1 (o .time)) 6 v) 8 w) p q
+    ∙ ap (λ (l : List ℕ). set (set (set l 1 (o .time)) 6 (cond (trips .firm) 1 (getD l 6 0))) 8 (cond (trips .root) (withBit (getD l 8 0) (o .root)) (getD l 8 0))) (h .is)
+    ∙ marks-of (decode xs) xs o trips

@@ -1,0 +1,88 @@
+-- What stands in a memory in which a state is laid out: the state's rules, totals and log. Assumes nothing.
+use Prim.Native.Nat.{ℕ, _+_, _*_, _-_, _<_}
+use native.Mathlib.Omega.{arith}
+use mathlib.Core.Path.{_≡_, refl, sym, ap, _∙_, subst}
+use mathlib.Core.List.{List, map}
+use lib.ListN.{length, getD, drop, List·getD-append, List·getD-map}
+use lib.Seq.{getD-take, getD-drop}
+use Rattle.rules.specs.Rules.{InRange, InDay}
+use Rattle.rules.specs.declared.Account.{Account}
+use Rattle.tables.specs.Tables.{zeros}
+use Rattle.tables.specs.RulePlace.{ruleAt, isRule}
+use Rattle.tables.specs.EntryPlace.{isEntry}
+use Rattle.tables.proofs.Tables.{every-at, read-table}
+use Rattle.tables.proofs.RulePlace.{rule-codec, rule-in-range}
+use Rattle.tables.proofs.EntryPlace.{entry-wider}
+use Rattle.log.specs.Log.{Held, entriesOf}
+use Rattle.log.proofs.Logs.{table-held}
+use Rattle.state.specs.State.{State, stored, decode, totalsTable, rulesPart, logPart, encode}
+use Rattle.state.specs.Laid.{Fits, Laid}
+use Rattle.state.proofs.Parts.{ones-table}
+use Rattle.state.proofs.Stored.{map-length, stored-rules, stored-totals, stored-log}
+use Rattle.machine.specs.Machine.{noAccount}
+use Rattle.machine.proofs.Lists.{every-imp}
+use Rattle.grant.specs.Grant.{accountAt}
+
+-- a state that fits, where it is stored
+module _ (s : State) (f : Fits s) (xs : List ℕ) where
+  rule-of : (i : ℕ) → i < length (s .accounts) → ruleAt (drop (i * 2) (rulesPart (stored s xs))) ≡ getD (s .accounts) i noAccount .rule
+  rule-of i l =
+      let rules = map (λ (a : Account). a .rule) (s .accounts) in
+      ap (λ (l : List ℕ). ruleAt (drop (i * 2) l)) (stored-rules s f xs)
+      ∙ read-table (rule-codec (length (s .roots)) (f .roots)) 256 rules i (noAccount .rule) (f .rules) (omega (arith, map-length (λ a. a .rule) (s .accounts)))
+      ∙ List·getD-map (λ (a : Account). a .rule) (s .accounts) i noAccount
+
+  total-of : (i : ℕ) → i < length (s .accounts) → getD (stored s xs) (586 + i) 0 ≡ getD (s .accounts) i noAccount .total
+  unfolding totalsTable noAccount
+  total-of i l =
+      let totals = map (λ (a : Account). a .total) (s .accounts) in
+      sym (getD-drop 586 (stored s xs) i 0) ∙ sym (getD-take 256 (drop 586 (stored s xs)) i 0 (omega (arith, f .accounts)))
+      ∙ ap (λ (l : List ℕ). getD l i 0) (stored-totals s f xs ∙ ones-table 256 totals)
+      ∙ List·getD-append totals (zeros (256 - length totals)) 0 i (omega (arith, map-length (λ a. a .total) (s .accounts)))
+      ∙ List·getD-map (λ (a : Account). a .total) (s .accounts) i noAccount
+
+  rules-number : getD (stored s xs) 4 0 ≡ length (s .accounts)
+  unfolding stored encode
+  rules-number = refl
+
+  entries-number : getD (stored s xs) 5 0 ≡ length (s .log)
+  unfolding stored encode
+  entries-number = refl
+
+  log-held : Held (length (s .log)) (logPart (stored s xs))
+  log-held =
+      subst (Held (length (s .log))) (sym (stored-log s f xs))
+      (table-held (s .log) (f .log)
+      (every-imp (isEntry (length (s .roots))) (isEntry 64) (λ e h. entry-wider (length (s .roots)) 64 e (f .roots) h) (s .log) (f .entries)))
+
+-- the same in any memory in which a state is laid out
+module _ {xs : List ℕ} (h : Laid xs) where
+  pub laid-rules : getD xs 4 0 ≡ length (decode xs .accounts)
+  laid-rules = ap (λ (l : List ℕ). getD l 4 0) (h .is) ∙ rules-number (decode xs) (h .fits) xs
+
+  pub laid-entries : getD xs 5 0 ≡ length (decode xs .log)
+  laid-entries = ap (λ (l : List ℕ). getD l 5 0) (h .is) ∙ entries-number (decode xs) (h .fits) xs
+
+  pub laid-held : Held (getD xs 5 0) (logPart xs)
+  laid-held =
+      subst (λ (n : ℕ). Held n (logPart xs)) (sym laid-entries)
+      (subst (λ (l : List ℕ). Held (length (decode xs .log)) (logPart l)) (sym (h .is)) (log-held (decode xs) (h .fits) xs))
+
+  pub laid-rule : {i : ℕ} → i < length (decode xs .accounts) → ruleAt (drop (i * 2) (rulesPart xs)) ≡ accountAt xs i .rule
+  laid-rule {i = i} l = ap (λ (l : List ℕ). ruleAt (drop (i * 2) (rulesPart l))) (h .is) ∙ rule-of (decode xs) (h .fits) xs i l
+
+  pub laid-total : {i : ℕ} → i < length (decode xs .accounts) → getD xs (586 + i) 0 ≡ accountAt xs i .total
+  laid-total {i = i} l = ap (λ (l : List ℕ). getD l (586 + i) 0) (h .is) ∙ total-of (decode xs) (h .fits) xs i l
+
+  pub laid-in-range : {i : ℕ} → i < length (decode xs .accounts) → InRange (accountAt xs i .rule .limit) × InDay (accountAt xs i .rule .kind)
+  laid-in-range {i = i} l =
+      let rules = map (λ (a : Account). a .rule) (decode xs .accounts) in
+      let ok = isRule (length (decode xs .roots)) in
+      rule-in-range (length (decode xs .roots)) (accountAt xs i .rule)
+      (ap ok (sym (List·getD-map (λ (a : Account). a .rule) (decode xs .accounts) i noAccount))
+      ∙ every-at ok rules i (noAccount .rule) (h .fits .rules) (omega (arith, map-length (λ a. a .rule) (decode xs .accounts))))
+
+-- the entries of the log's places are those of the state
+pub log-entries : (xs : List ℕ) → entriesOf (getD xs 5 0) (logPart xs) ≡ decode xs .log
+unfolding decode
+log-entries xs = refl

@@ -1,0 +1,86 @@
+-- The longest window: rule by rule, at most a day, and above 0 exactly if there is a rate rule. Assumes nothing.
+use Prim.Native.Nat.{ℕ, zero, suc, _+_, _≤_, _<_, max}
+use native.Mathlib.Nat.{zero-max}
+use native.Mathlib.Omega.{arith}
+use mathlib.Core.Path.{_≡_, refl, sym, ap, ap₂, _∙_}
+use mathlib.Core.Bool.{Bool, true, _&&_, _||_}
+use mathlib.Core.List.{List, [], _∷_, map}
+use lib.ListN.{length, getD, drop, drop-of-length-le, List·getD-map}
+use lib.Dec.{ltb, leb}
+use borrow.Author.Tests.{lt-ltb, leb-true}
+use Rattle.laws.specs.Tests.{and-l, and-r}
+use Rattle.rules.specs.Rules.{isRate}
+use Rattle.rules.specs.declared.Kind.{Kind}
+use Rattle.rules.specs.declared.Kind.the-variants.{Rate, Absolute}
+use Rattle.rules.specs.declared.Rule.{Rule}
+use Rattle.rules.specs.declared.Account.{Account}
+use Rattle.tables.specs.Tables.{every}
+use Rattle.tables.specs.RulePlace.{isLimit, isKind, isScope, isRule}
+use Rattle.state.specs.Sound.{hasRate}
+use Rattle.state.proofs.Stored.{map-length}
+use Rattle.machine.specs.Machine.{windowOf, longest, noAccount}
+use Rattle.grant.proofs.Cut.{next}
+
+-- after i rules the longest window is n
+pub record Spanned (rules : List Rule) (i n : ℕ) : Type 0 where
+  pub rest : max n (longest (drop i rules)) ≡ longest rules
+
+pub spanned-none : (rules : List Rule) → Spanned rules 0 0
+spanned-none rules = record { rest = omega arith }
+
+pub spanned-more : {rules : List Rule} {i n m w : ℕ} (d : Rule) → Spanned rules i n → i < length rules → w ≡ windowOf (getD rules i d .kind)
+    → m ≡ max w n → Spanned rules (i + 1) m
+unfolding longest
+spanned-more {rules} {i} {n} d s l is e =
+    let on : longest (drop i rules) ≡ max (windowOf (getD rules i d .kind)) (longest (drop (i + 1) rules)) = ap longest (next rules i d l) in
+    record { rest = omega (arith, s .rest) }
+
+pub spanned-done : {rules : List Rule} {i n : ℕ} → Spanned rules i n → length rules ≤ i → n ≡ longest rules
+unfolding longest
+spanned-done {rules} {i} {n} s l =
+    let none : longest (drop i rules) ≡ 0 = ap longest (drop-of-length-le rules l) in
+    omega (arith, s .rest)
+
+-- the windows of kinds in range
+window-in : (kind : Kind) → isKind kind ≡ true → (isRate kind ≡ ltb 0 (windowOf kind)) × (windowOf kind ≤ 86_400_000)
+unfolding isKind isRate windowOf
+window-in (Rate w) h =
+    let low = leb-true 100 w (and-l (leb 100 w) (leb w 86_400_000) h) in
+    (sym (lt-ltb 0 w (omega arith)), leb-true w 86_400_000 (and-r (leb 100 w) (leb w 86_400_000) h))
+window-in Absolute h = (refl, omega arith)
+
+-- the greater of two numbers is above 0 if one of them is
+either : (m n : ℕ) → (ltb 0 m || ltb 0 n) ≡ ltb 0 (max m n)
+either zero n = ap (ltb 0) (sym (zero-max n))
+either (suc m) n = ap (λ (b : Bool). b || ltb 0 n) (lt-ltb 0 (suc m) (omega arith)) ∙ sym (lt-ltb 0 (max (suc m) n) (omega arith))
+
+-- the kind of a valid rule is in range
+kind-in : (roots : ℕ) (rule : Rule) → isRule roots rule ≡ true → isKind (rule .kind) ≡ true
+unfolding isRule
+kind-in roots rule h =
+    let l = isLimit (rule .limit) in
+    let k = isKind (rule .kind) in
+    and-r l k (and-l (l && k) (isScope roots (rule .scope)) h)
+
+-- valid rules have a rate rule exactly if their longest window is above 0, and it is at most a day
+pub rate-longest : (roots : ℕ) (rules : List Rule) → every (isRule roots) rules ≡ true
+    → (hasRate rules ≡ ltb 0 (longest rules)) × (longest rules ≤ 86_400_000)
+unfolding every hasRate longest
+rate-longest roots [] h = (refl, omega arith)
+rate-longest roots (rule ∷ rest) h =
+    let w = window-in (rule .kind) (kind-in roots rule (and-l (isRule roots rule) (every (isRule roots) rest) h)) in
+    let r = rate-longest roots rest (and-r (isRule roots rule) (every (isRule roots) rest) h) in (
+      ap₂ (λ (a b : Bool). a || b) (w .0) (r .0) ∙ either (windowOf (rule .kind)) (longest rest),
+      omega (arith, w .1, r .1),
+    )
+
+-- the same for the rules of accounts
+pub spanned-account : (accounts : List Account) {i n m w : ℕ} {rule : Rule} → Spanned (map (λ a. a .rule) accounts) i n → i < length accounts
+    → rule ≡ getD accounts i noAccount .rule → w ≡ windowOf (rule .kind) → m ≡ max w n → Spanned (map (λ a. a .rule) accounts) (i + 1) m
+spanned-account accounts {i} s l is w e =
+    spanned-more (noAccount .rule) s (omega (arith, map-length (λ a. a .rule) accounts))
+    (w ∙ ap (λ (r : Rule). windowOf (r .kind)) (is ∙ sym (List·getD-map (λ (a : Account). a .rule) accounts i noAccount))) e
+
+pub spanned-end : (accounts : List Account) {i n : ℕ} → Spanned (map (λ a. a .rule) accounts) i n → length accounts ≤ i
+    → n ≡ longest (map (λ a. a .rule) accounts)
+spanned-end accounts s l = spanned-done s (omega (arith, map-length (λ a. a .rule) accounts))

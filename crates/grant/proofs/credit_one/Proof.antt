@@ -1,0 +1,130 @@
+-- `grant::credit_one` meets its contract: the total of an absolute rule that covers the offer rises, and no other number changes. Assumes nothing.
+use Prim.Native.Nat.{ℕ, _+_}
+use mathlib.Core.Path.{_≡_, sym, ap, ap₂, _∙_, subst}
+use mathlib.Core.Bool.{Bool, false, not, _&&_, _||_, or-false}
+use lib.Dec.{eqb}
+use borrow.Author.Tests.{not-false}
+use Rattle.laws.specs.Tests.{and-r}
+use Rattle.measures.specs.Ranges.{In, totals}
+use Rattle.rules.specs.Rules.{InRange, added, ceiling}
+use Rattle.rules.specs.declared.Level.the-variants.{Firm, Root}
+use Rattle.rules.specs.declared.Rule.{Rule}
+use Rattle.rules.specs.declared.Account.{Account}
+use Rattle.grant.specs.Grant.{accountAt}
+use Rattle.grant.proofs.Memory.{laid-total, laid-in-range}
+use Rattle.grant.proofs.Cut.{concerns-firm, concerns-root}
+use Rattle.grant.proofs.Accounts.{credited-off, fills-off, credited-on, fills-on, put-credited, keep-credited}
+use borrow.Author.Needs.{needs}
+use Rattle.grant.proofs.credit_one.Statement.{statement}
+use Rattle.grant.proofs.credit_one.Tie as tie
+
+rule-in-requires : tie.Need-rule-in-requires
+rule-in-requires c κs = search needs
+
+is-absolute-requires : tie.Need-is-absolute-requires
+is-absolute-requires c κs = search needs
+
+covers-requires : tie.Need-covers-requires
+covers-requires c κs = search needs
+
+same-length : tie.Need-same-length
+same-length c = search needs
+
+returns : tie.Need-returns
+returns c =
+    let at-rule = c .before .before .before in
+    let start = at-rule .before .before .before in
+    let args = start .args in
+    let xs = args .m .now in
+    let a = accountAt xs (args .i) in
+    let absolute = c .before .before .is-absolute .ensures in
+    let inside = c .before .covers .ensures in
+    let is = at-rule .rule-in .ensures in
+    record {
+      memory = keep-credited (args .i) (args .o) (args .grant) (start .pre .0) (credited-off (args .o) (args .grant) a is absolute inside (c .if1 .taken));
+      root = sym (ap (λ (b : Bool). args .before .root || b) (fills-off (args .o) (args .grant) a is absolute inside (Root (args .o .root)) (c .if1 .taken)) ∙ or-false (args .before .root));
+      firm = sym (ap (λ (b : Bool). args .before .firm || b) (fills-off (args .o) (args .grant) a is absolute inside Firm (c .if1 .taken)) ∙ or-false (args .before .firm));
+    }
+
+add-at : tie.Need-add-at
+add-at c = search needs
+
+mul-total : tie.Need-mul-total
+mul-total c = search needs
+
+slice-read-total : tie.Need-slice-read-total
+slice-read-total c = search needs
+
+filled-requires : tie.Need-filled-requires
+filled-requires c κs =
+    let p = c .before .before .before .before .before .before .before .pre in
+    (subst (In totals) (sym (laid-total (p .0) (p .1))) (p .2), p .3, p .4)
+
+mul-m : tie.Need-mul-m
+mul-m c = search needs
+
+slice-write-m : tie.Need-slice-write-m
+slice-write-m c = search needs
+
+reached-requires : tie.Need-reached-requires
+reached-requires c κs =
+    let at-rule = c .before .before .before .before .before in
+    let p = at-rule .before .before .before .pre in
+    subst (λ (r : Rule). InRange (r .limit)) (sym (at-rule .rule-in .ensures)) (laid-in-range (p .0) (p .1) .0)
+
+is-firm-requires : tie.Need-is-firm-requires
+is-firm-requires c κs = search needs
+
+same-length-2 : tie.Need-same-length-2
+same-length-2 c = search needs
+
+returns-2 : tie.Need-returns-2
+returns-2 c =
+    let at-filled = c .before .before .before .before in
+    let at-if = at-filled .before .before in
+    let at-rule = at-if .before .before .before in
+    let start = at-rule .before .before .before in
+    let args = start .args in
+    let o = args .o in
+    let xs = args .m .now in
+    let a = accountAt xs (args .i) in
+    let p = start .pre in
+    let is = at-rule .rule-in .ensures in
+    let absolute = at-if .before .before .is-absolute .ensures in
+    let inside = at-if .before .covers .ensures in
+    let some = at-if .if1 .left in
+    let raised : at-filled .filled .result .total ≡ a .total + added (a .rule .limit) (o .premium) (args .grant) =
+    ap (λ (b : Account). b .total) (at-filled .filled .ensures)
+    ∙ ap₂ (λ (n : ℕ) (r : Rule). n + added (r .limit) (o .premium) (args .grant)) (laid-total (p .0) (p .1)) is in
+    let x = at-if .before .before .is-absolute .result in
+    let y = at-if .before .covers .result in
+    let covered : not y ≡ false = ap not (and-r x y (not-false (x && y) some)) in
+    let firm = c .before .before .is-firm .ensures in
+    let full =
+    c .before .before .before .reached .ensures ∙ ap₂ (λ (n : ℕ) (r : Rule). eqb n (ceiling (r .limit))) raised is
+    ∙ sym (fills-on o (args .grant) a is absolute inside some) in
+    record {
+      memory = put-credited o (args .grant) (p .0) (p .1) (raised ∙ sym (credited-on o (args .grant) a is absolute inside some));
+      root = ap₂ (λ (b f : Bool). args .before .root || (b && f)) (sym (concerns-root o a is inside covered firm)) full;
+      firm = ap₂ (λ (b f : Bool). args .before .firm || (b && f)) (sym (concerns-firm o a is inside covered firm)) full;
+    }
+
+pub credit-one-spec : {M : Type 1} → statement M
+credit-one-spec =
+    tie.close
+    (tie.spec
+    rule-in-requires
+    is-absolute-requires
+    covers-requires
+    same-length
+    returns
+    add-at
+    mul-total
+    slice-read-total
+    filled-requires
+    mul-m
+    slice-write-m
+    reached-requires
+    is-firm-requires
+    same-length-2
+    returns-2)

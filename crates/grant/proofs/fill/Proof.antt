@@ -1,0 +1,46 @@
+-- `grant::fill` meets its contract: after the totals, the log, and the clock with the trips, memory holds the state that the machine gives. Assumes nothing.
+use Rattle.grant.proofs.After.{held-laid}
+use Rattle.grant.proofs.Steps.{grant-in, paid-holds, paid-asked, paid-has-room, logged-holds, logged-root, trips-root, trips-firm, filled-memory}
+use borrow.Author.Needs.{needs}
+use Rattle.grant.proofs.fill.Statement.{statement}
+use Rattle.grant.proofs.fill.Tie as tie
+
+credit-requires : tie.Need-credit-requires
+credit-requires c κs =
+    let r = c .before .before .pre in
+    (r .asked, r .totals, grant-in r)
+
+join-log-requires : tie.Need-join-log-requires
+join-log-requires c κs =
+    let at-credit = c .before .before .before in
+    let r = at-credit .before .before .before .pre in
+    let h = paid-holds r (at-credit .credit .ensures) in
+    (paid-asked r h, grant-in r, paid-has-room r h)
+
+mark-requires : tie.Need-mark-requires
+mark-requires c κs =
+    let at-join = c .before .before .before .before .before .before .before .before in
+    let at-credit = at-join .before .before .before .before in
+    let r = at-credit .before .before .before .pre in
+    let h = logged-holds r (paid-holds r (at-credit .credit .ensures)) (at-join .join-log .ensures) in
+    (held-laid h, logged-root r h)
+
+same-length : tie.Need-same-length
+same-length c = search needs
+
+returns : tie.Need-returns
+returns c =
+    let at-join = c .before .before .before .before .before .before .before .before .before .before .before in
+    let at-credit = at-join .before .before .before .before in
+    let r = at-credit .before .before .before .pre in
+    let e = at-credit .credit .ensures in
+    let h = logged-holds r (paid-holds r e) (at-join .join-log .ensures) in
+    record {
+      memory = filled-memory r (trips-root r e) (trips-firm r e) h (c .before .before .mark .ensures);
+      root = trips-root r e;
+      firm = trips-firm r e;
+    }
+
+pub fill-spec : {M : Type 1} → statement M
+fill-spec =
+    tie.close (tie.spec credit-requires join-log-requires mark-requires same-length returns)

@@ -1,0 +1,100 @@
+-- `grant::lower` meets its contract: a rule that covers the offer is of its root or of the firm, and lowers that cut alone. Assumes nothing.
+use mathlib.Core.Path.{sym, _∙_, subst}
+use Rattle.rules.specs.Rules.{InRange}
+use Rattle.rules.specs.declared.Level.the-variants.{Firm, Root}
+use Rattle.rules.specs.declared.Rule.{Rule}
+use Rattle.state.specs.State.{decode}
+use Rattle.grant.specs.Grant.{accountAt}
+use Rattle.grant.proofs.Memory.{laid-in-range}
+use Rattle.grant.proofs.Cut.{lowered-off, lowered-firm, lowered-root, allows-is}
+use borrow.Author.Needs.{needs}
+use Rattle.grant.proofs.lower.Statement.{statement}
+use Rattle.grant.proofs.lower.Tie as tie
+
+rule-in-requires : tie.Need-rule-in-requires
+rule-in-requires c κs = search needs
+
+covers-requires : tie.Need-covers-requires
+covers-requires c κs = search needs
+
+returns : tie.Need-returns
+returns c =
+    let at-rule = c .before .before in
+    let start = at-rule .before .before in
+    let args = start .args in
+    let xs = args .m .now in
+    let a = accountAt xs (args .i) in
+    let test = c .before .covers .ensures in
+    record {
+      root = lowered-off (args .o) a (at-rule .rule-in .ensures) test (decode xs .log) (Root (args .o .root)) (args .cuts .root) (c .if1 .taken);
+      firm = lowered-off (args .o) a (at-rule .rule-in .ensures) test (decode xs .log) Firm (args .cuts .firm) (c .if1 .taken);
+    }
+
+counted-by-requires : tie.Need-counted-by-requires
+counted-by-requires c κs = search needs
+
+allowance-requires : tie.Need-allowance-requires
+allowance-requires c κs =
+    let at-rule = c .before .before .before in
+    let p = at-rule .before .before .pre in
+    (subst (λ (r : Rule). InRange (r .limit)) (sym (at-rule .rule-in .ensures)) (laid-in-range (p .0 .laid) (p .1) .0), p .0 .premium .0)
+
+is-firm-requires : tie.Need-is-firm-requires
+is-firm-requires c κs = search needs
+
+least-requires : tie.Need-least-requires
+least-requires c κs = search needs
+
+returns-2 : tie.Need-returns-2
+returns-2 c =
+    let at-rule = c .before .before .before .before .before .before .before in
+    let start = at-rule .before .before in
+    let args = start .args in
+    let xs = args .m .now in
+    let a = accountAt xs (args .i) in
+    let at-most = c .before .before .before in
+    let at-covers = at-most .before .before .before in
+    let is = at-rule .rule-in .ensures in
+    let allows = allows-is (decode xs .log) (args .o) a is (at-most .before .counted-by .ensures) (at-most .allowance .ensures) in
+    let inside = at-most .before .before .if1 .left in
+    let firm = c .before .before .is-firm .ensures in
+    record {
+      root = sym (rw (c .before .if2 .taken) at (lowered-root (args .o) a is (at-covers .covers .ensures) inside firm (decode xs .log) allows (args .cuts .root)));
+      firm = c .least .ensures ∙ sym (rw (c .before .if2 .taken) at (lowered-firm (args .o) a is (at-covers .covers .ensures) inside firm (decode xs .log) allows (args .cuts .firm)));
+    }
+
+least-requires-2 : tie.Need-least-requires-2
+least-requires-2 c κs = search needs
+
+returns-3 : tie.Need-returns-3
+returns-3 c =
+    let at-rule = c .before .before .before .before .before .before .before in
+    let start = at-rule .before .before in
+    let args = start .args in
+    let xs = args .m .now in
+    let a = accountAt xs (args .i) in
+    let at-most = c .before .before .before in
+    let at-covers = at-most .before .before .before in
+    let is = at-rule .rule-in .ensures in
+    let allows = allows-is (decode xs .log) (args .o) a is (at-most .before .counted-by .ensures) (at-most .allowance .ensures) in
+    let inside = at-most .before .before .if1 .left in
+    let firm = c .before .before .is-firm .ensures in
+    record {
+      root = c .least2 .ensures ∙ sym (rw (c .before .if2 .left) at (lowered-root (args .o) a is (at-covers .covers .ensures) inside firm (decode xs .log) allows (args .cuts .root)));
+      firm = sym (rw (c .before .if2 .left) at (lowered-firm (args .o) a is (at-covers .covers .ensures) inside firm (decode xs .log) allows (args .cuts .firm)));
+    }
+
+pub lower-spec : {M : Type 1} → statement M
+lower-spec =
+    tie.close
+    (tie.spec
+    rule-in-requires
+    covers-requires
+    returns
+    counted-by-requires
+    allowance-requires
+    is-firm-requires
+    least-requires
+    returns-2
+    least-requires-2
+    returns-3)

@@ -1,0 +1,261 @@
+// An offer's grant: what the rules of each level allow of it, and what a fill leaves in memory.
+ghost use mathlib.Core.Path.{_≡_};
+ghost use mathlib.Core.Bool.{true, cond, not};
+ghost use Prim.Native.Nat.{_≤_, _<_, min, max};
+ghost use lib.ListN.{length, getD};
+ghost use Rattle.measures.specs.Ranges.{In, premiums, offers, totals};
+ghost use Rattle.rules.specs.Rules.{levelOf, isRate};
+ghost use Rattle.rules.specs.declared.Level.the-variants.{Firm, Root};
+ghost use Rattle.state.specs.State.{profileIn, stored, decode};
+ghost use Rattle.state.specs.Laid.{Laid, withLog};
+ghost use Rattle.machine.specs.Machine.{counted, sameLevel, windowOf, longest, joinedLog};
+ghost use Rattle.grant.specs.Grant.{accountAt, Asked, areTotals, Lowered, AreCuts, Credited, AllCredited, HasRoom, marked, Ready, Filled};
+use machine::Offer;
+use measures::Contracts;
+use measures::TenThousandths;
+use rules::Kind;
+use rules::Rule;
+use rules::Scope;
+use tables::Entry;
+
+// The least that the rules of the offer's root allow of it, and the least that those of the firm do.
+pub struct Cuts {
+    pub root: u64,
+    pub firm: u64,
+}
+
+// Whether an absolute rule of the offer's root stands at its limit, and whether one of the firm does.
+pub struct Reached {
+    pub root: bool,
+    pub firm: bool,
+}
+
+// Whether a fill trips the offer's root, and whether it trips the firm.
+pub struct Trips {
+    pub root: bool,
+    pub firm: bool,
+}
+
+// The lesser of two numbers.
+fn least(a: u64, b: u64) -> u64
+    ensures { λ r. ⌜ r ≡ min a b ⌝ }
+{
+    if a <= b { a } else { b }
+}
+
+// The greater of two numbers.
+fn greatest(a: u64, b: u64) -> u64
+    ensures { λ r. ⌜ r ≡ max a b ⌝ }
+{
+    if a <= b { b } else { a }
+}
+
+// Whether a rule counts for the firm.
+fn is_firm(rule: Rule) -> bool
+    ensures { λ r. ⌜ r ≡ sameLevel (levelOf (rule .scope)) Firm ⌝ }
+{
+    let scope = rule.scope;
+    match scope {
+        Scope::EveryFill => true,
+        Scope::WholeRoot(_) => false,
+        Scope::OneUnit(_, _) => false,
+    }
+}
+
+// Whether a rule is an absolute rule.
+fn is_absolute(rule: Rule) -> bool
+    ensures { λ r. ⌜ r ≡ not (isRate (rule .kind)) ⌝ }
+{
+    let kind = rule.kind;
+    match kind {
+        Kind::Rate(_) => false,
+        Kind::Absolute => true,
+    }
+}
+
+// A rate rule's window, 0 for an absolute rule.
+fn window(rule: Rule) -> u64
+    ensures { λ r. ⌜ r ≡ windowOf (rule .kind) ⌝ }
+{
+    let kind = rule.kind;
+    match kind {
+        Kind::Rate(window) => window,
+        Kind::Absolute => 0,
+    }
+}
+
+// Rule i of a memory.
+fn rule_in(m: &[u64], i: usize) -> Rule
+    requires { ⌜ Laid (now m) × (i < length (decode (now m) .accounts)) ⌝ }
+    ensures { λ r. ⌜ r ≡ accountAt (now (m .entry)) i .rule ⌝ }
+{
+    tables::rule_at(&m[74..586], i)
+}
+
+// What rule i has counted at a time: its total, or what the log counts for it.
+fn counted_by(m: &[u64], i: usize, rule: Rule, time: u64) -> u64
+    requires { ⌜ Laid (now m) × (i < length (decode (now m) .accounts)) × (rule ≡ accountAt (now m) i .rule) ⌝ }
+    ensures { λ r. ⌜ r ≡ counted (decode (now (m .entry)) .log) time (accountAt (now (m .entry)) i) ⌝ }
+{
+    if is_absolute(rule) {
+        let at = 586 + i;
+        return m[at];
+    }
+    let k = m[5] as usize;
+    log::counted(&m[842..1866], k, rule, time)
+}
+
+// The cuts after rule i: that of its level is lowered to what it allows, if it covers the offer.
+fn lower(m: &[u64], o: Offer, i: usize, cuts: Cuts) -> Cuts
+    requires { ⌜ Asked (now m) o × (i < length (decode (now m) .accounts)) ⌝ }
+    ensures { λ r. ⌜ Lowered (now (m .entry)) o i cuts r ⌝ }
+{
+    let rule = rule_in(m, i);
+    if !rule.covers(o.root, o.unit) {
+        return cuts;
+    }
+    let counted = counted_by(m, i, rule, o.time);
+    let most = rule.allowance(counted, TenThousandths(o.premium), Contracts(o.contracts));
+    if is_firm(rule) {
+        return Cuts {
+            root: cuts.root,
+            firm: least(most.0, cuts.firm),
+        };
+    }
+    Cuts {
+        root: least(most.0, cuts.root),
+        firm: cuts.firm,
+    }
+}
+
+// The cuts of an offer.
+pub fn cuts_of(m: &[u64], o: Offer) -> Cuts
+    requires { ⌜ Asked (now m) o ⌝ }
+    ensures { λ r. ⌜ AreCuts (now (m .entry)) o r ⌝ }
+{
+    let rules = m[4] as usize;
+    let mut cuts = Cuts {
+        root: o.contracts,
+        firm: o.contracts,
+    };
+    let mut i: usize = 0;
+    while i < rules {
+        cuts = lower(m, o, i, cuts);
+        i += 1;
+    }
+    cuts
+}
+
+// The longest window of the rules, 0 if none is a rate rule.
+pub fn longest_window(m: &[u64]) -> u64
+    requires { ⌜ Laid (now m) ⌝ }
+    ensures { λ r. ⌜ r ≡ longest (profileIn (decode (now (m .entry))) .rules) ⌝ }
+{
+    let rules = m[4] as usize;
+    let mut longest: u64 = 0;
+    let mut i: usize = 0;
+    while i < rules {
+        let rule = rule_in(m, i);
+        longest = greatest(window(rule), longest);
+        i += 1;
+    }
+    longest
+}
+
+// One of two numbers, by a test.
+fn pick(test: bool, a: u64, b: u64) -> u64
+    ensures { λ r. ⌜ r ≡ cond test a b ⌝ }
+{
+    if test { a } else { b }
+}
+
+// Rule i is credited with a grant: its total rises if it is absolute and covers the offer.
+fn credit_one(m: &mut [u64], o: Offer, grant: u64, i: usize, before: Reached) -> Reached
+    requires { ⌜ Laid (now m) × (i < length (decode (now m) .accounts)) × In totals (accountAt (now m) i .total) × (o .premium ≤ premiums .most) × (grant ≤ offers .most) ⌝ }
+    ensures { λ r. ⌜ Credited o grant i (now (m .entry)) (now (m .exit)) before r ⌝ }
+{
+    let rule = rule_in(m, i);
+    if !(is_absolute(rule) & rule.covers(o.root, o.unit)) {
+        return before;
+    }
+    let at = 586 + i;
+    let total = m[at];
+    let account = rule.filled(total, TenThousandths(o.premium), Contracts(grant));
+    m[at] = account.total;
+    let full = rule.reached(account.total);
+    let firm = is_firm(rule);
+    Reached {
+        root: before.root | (!firm & full),
+        firm: before.firm | (firm & full),
+    }
+}
+
+// Every rule is credited with a grant.
+fn credit(m: &mut [u64], o: Offer, grant: u64) -> Reached
+    requires { ⌜ Asked (now m) o × (areTotals (decode (now m)) ≡ true) × (grant ≤ offers .most) ⌝ }
+    ensures { λ r. ⌜ AllCredited o grant (now (m .entry)) (now (m .exit)) r ⌝ }
+{
+    let rules = m[4] as usize;
+    let mut reached = Reached {
+        root: false,
+        firm: false,
+    };
+    let mut i: usize = 0;
+    while i < rules {
+        reached = credit_one(m, o, grant, i, reached);
+        i += 1;
+    }
+    reached
+}
+
+// The fill joins the log, if the grant is above 0 and a rule is a rate rule.
+fn join_log(m: &mut [u64], o: Offer, grant: u64)
+    requires { ⌜ Asked (now m) o × (grant ≤ offers .most) × HasRoom (decode (now m)) o grant ⌝ }
+    ensures { λ _. ⌜ now (m .exit) ≡ stored (withLog (decode (now (m .entry))) (joinedLog (profileIn (decode (now (m .entry))) .rules) (decode (now (m .entry)) .log) o grant)) (now (m .entry)) ⌝ }
+{
+    let longest = longest_window(m);
+    if !((0 < longest) & (0 < grant)) {
+        return;
+    }
+    let k = m[5] as usize;
+    let e = Entry {
+        time: o.time,
+        root: o.root,
+        unit: o.unit,
+        premium: TenThousandths(o.premium),
+        contracts: Contracts(grant),
+        forroot: true,
+        forfirm: true,
+    };
+    let n = log::join(&mut m[842..1866], k, longest, o.time, e);
+    m[5] = n as u64;
+}
+
+// The clock and the trips.
+fn mark(m: &mut [u64], o: Offer, trips: Trips)
+    requires { ⌜ Laid (now m) × (o .root < length (decode (now m) .roots)) ⌝ }
+    ensures { λ _. ⌜ now (m .exit) ≡ stored (marked (decode (now (m .entry))) o trips) (now (m .entry)) ⌝ }
+{
+    let firm = pick(trips.firm, 1, m[6]);
+    let tripped = m[8];
+    let roots = pick(trips.root, bits::mark(tripped, o.root), tripped);
+    m[1] = o.time;
+    m[6] = firm;
+    m[8] = roots;
+}
+
+// Memory after a grant: totals, log, clock and trips. Returns the trips.
+pub fn fill(m: &mut [u64], o: Offer, grant: u64, cuts: Cuts) -> Trips
+    requires { ⌜ Ready (now m) o grant cuts ⌝ }
+    ensures { λ r. ⌜ Filled (now (m .entry)) o grant (now (m .exit)) r ⌝ }
+{
+    let reached = credit(m, o, grant);
+    join_log(m, o, grant);
+    let less = grant < o.contracts;
+    let trips = Trips {
+        root: reached.root | (less & (cuts.root == grant)),
+        firm: reached.firm | (less & (cuts.firm == grant)),
+    };
+    mark(m, o, trips);
+    trips
+}
