@@ -1,0 +1,68 @@
+//! The proved library linked into a native program: its exported functions behind safe ones.
+
+extern "C" {
+    fn mbrumzheg_arm(m: *mut u64, len: usize, text: *const u8, text_len: usize, row: *mut [u64; 5]);
+    fn mbrumzheg_clear(m: *mut u64, len: usize, row: *mut [u64; 5]);
+    fn mbrumzheg_order(m: *mut u64, len: usize, time: u64, root: u64, reset: u64, row: *mut [u64; 5]);
+    fn mbrumzheg_lockout(m: *mut u64, len: usize, time: u64, level: u64, root: u64, row: *mut [u64; 5]);
+    fn mbrumzheg_offer(m: *mut u64, len: usize, time: u64, root: u64, unit: u64, premium: u64, contracts: u64, row: *mut [u64; 5]);
+    fn mbrumzheg_remaining(m: *const u64, len: usize, time: u64, rule: u64, row: *mut [u64; 5]);
+    fn mbrumzheg_status(m: *const u64, len: usize, row: *mut [u64; 5]);
+    fn mbrumzheg_text(verdict: u64, room: *mut u8, len: usize, row: *mut [u64; 5]);
+}
+
+/// How many numbers the state takes.
+pub const SIZE: usize = 1866;
+
+/// An answer: five numbers, the refusal first.
+pub type Row = [u64; 5];
+
+// SAFETY, of all below: a slice is lent for the call alone, and the row is five numbers.
+
+pub fn arm(m: &mut [u64], text: &[u8]) -> Row {
+    let mut row = [0; 5];
+    unsafe { mbrumzheg_arm(m.as_mut_ptr(), m.len(), text.as_ptr(), text.len(), &mut row) };
+    row
+}
+
+pub fn clear(m: &mut [u64]) -> Row {
+    let mut row = [0; 5];
+    unsafe { mbrumzheg_clear(m.as_mut_ptr(), m.len(), &mut row) };
+    row
+}
+
+pub fn order(m: &mut [u64], time: u64, root: u64, reset: u64) -> Row {
+    let mut row = [0; 5];
+    unsafe { mbrumzheg_order(m.as_mut_ptr(), m.len(), time, root, reset, &mut row) };
+    row
+}
+
+pub fn lockout(m: &mut [u64], time: u64, level: u64, root: u64) -> Row {
+    let mut row = [0; 5];
+    unsafe { mbrumzheg_lockout(m.as_mut_ptr(), m.len(), time, level, root, &mut row) };
+    row
+}
+
+pub fn offer(m: &mut [u64], time: u64, root: u64, unit: u64, premium: u64, contracts: u64) -> Row {
+    let mut row = [0; 5];
+    unsafe { mbrumzheg_offer(m.as_mut_ptr(), m.len(), time, root, unit, premium, contracts, &mut row) };
+    row
+}
+
+pub fn remaining(m: &[u64], time: u64, rule: u64) -> Row {
+    let mut row = [0; 5];
+    unsafe { mbrumzheg_remaining(m.as_ptr(), m.len(), time, rule, &mut row) };
+    row
+}
+
+pub fn status(m: &[u64]) -> Row {
+    let mut row = [0; 5];
+    unsafe { mbrumzheg_status(m.as_ptr(), m.len(), &mut row) };
+    row
+}
+
+pub fn text(verdict: u64, room: &mut [u8]) -> Row {
+    let mut row = [0; 5];
+    unsafe { mbrumzheg_text(verdict, room.as_mut_ptr(), room.len(), &mut row) };
+    row
+}
