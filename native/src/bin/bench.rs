@@ -1,5 +1,5 @@
 //! Prints, from one run, what the proved calls cost against one plain pass over the same numbers.
-use native::{arm, offer, status, SIZE};
+use native::{arm, offer, remaining, status, SIZE};
 use std::hint::black_box;
 use std::time::Instant;
 
@@ -65,7 +65,17 @@ fn main() {
     for n in 0..50 {
         assert_eq!(offer(&mut busy, 1000 + n, 0, n % 4, 70_000, 5), [0, 0, 5, 0, 0], "all of it is granted");
     }
+    line("Status, 6 rate rules, 50 entries", &busy, |m| {
+        black_box(status(m));
+    });
+    // Remaining is the test of the state and one pass over the log
+    line("Remaining, 6 rate rules, 50 entries", &busy, |m| {
+        black_box(remaining(m, 2000, 0));
+    });
     line("Offer, 6 covering rate rules, 50 entries", &busy, |m| {
+        black_box(offer(m, 2000, 0, 1, 70_000, 5));
+    });
+    line("Offer, 6 covering rate rules, no entry", &armed(&six), |m| {
         black_box(offer(m, 2000, 0, 1, 70_000, 5));
     });
 }
