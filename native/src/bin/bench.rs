@@ -8,29 +8,30 @@ fn pass(m: &[u64]) -> u64 {
     m[..SIZE].iter().fold(0, |a, x| a | x)
 }
 
-/// The least nanoseconds of a call, over rounds of many calls, each on the memory as it was.
-fn least(m: &[u64], mut call: impl FnMut(&mut [u64])) -> f64 {
-    let mut best = f64::MAX;
-    let mut copy = m.to_vec();
-    for _ in 0..400 {
-        let mut spent = 0;
-        for _ in 0..100 {
-            copy.copy_from_slice(m);
-            let start = Instant::now();
-            call(black_box(&mut copy));
-            spent += start.elapsed().as_nanos();
-        }
-        best = best.min(spent as f64 / 100.0);
+/// The nanoseconds of a call, on the average of a hundred, each on the memory as it was.
+fn round(m: &[u64], copy: &mut [u64], call: &mut dyn FnMut(&mut [u64])) -> f64 {
+    let mut spent = 0;
+    for _ in 0..100 {
+        copy.copy_from_slice(m);
+        let start = Instant::now();
+        call(black_box(copy));
+        spent += start.elapsed().as_nanos();
     }
-    best
+    spent as f64 / 100.0
 }
 
-fn line(name: &str, m: &[u64], call: impl FnMut(&mut [u64])) {
-    let none = least(m, |_| {});
-    let plain = least(m, |m| {
-        black_box(pass(m));
-    }) - none;
-    let proved = least(m, call) - none;
+/// The least of nothing, a plain pass and a call, their rounds taking turns so that what disturbs one disturbs all.
+fn line(name: &str, m: &[u64], mut call: impl FnMut(&mut [u64])) {
+    let (mut none, mut plain, mut proved) = (f64::MAX, f64::MAX, f64::MAX);
+    let mut copy = m.to_vec();
+    for _ in 0..600 {
+        none = none.min(round(m, &mut copy, &mut |_| {}));
+        plain = plain.min(round(m, &mut copy, &mut |m| {
+            black_box(pass(m));
+        }));
+        proved = proved.min(round(m, &mut copy, &mut call));
+    }
+    let (plain, proved) = (plain - none, proved - none);
     println!("{name}: plain pass {plain:.0} ns, the call {proved:.0} ns, ratio {:.2}", proved / plain);
 }
 
