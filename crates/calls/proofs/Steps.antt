@@ -1,7 +1,7 @@
 -- A call on sound memory: what the machine refuses, and what it does. Assumes nothing.
 use Prim.Native.Nat.{ℕ, zero, suc, _≤_, _<_}
 use native.Mathlib.Omega.{arith}
-use mathlib.Core.Path.{_≡_, refl, sym, _∙_, subst}
+use mathlib.Core.Path.{_≡_, refl, sym, _∙_, subst, ap}
 use mathlib.Core.Bool.{Bool, true, false, not, cond, _&&_, _||_, false≢true}
 use mathlib.Core.List.{List}
 use lib.ListN.{length, getD}
@@ -14,7 +14,8 @@ use Rattle.state.specs.Laid.{Laid}
 use Rattle.state.proofs.Restored.{Tests, taken-apart, roots-number, many-rules}
 use Rattle.state.proofs.Stored.{map-length, decode-stored}
 use Rattle.state.proofs.Exactly.{made-parts, sound-fits, given-is-made, sound-decode, sound-stored, sound-is-laid, sound-rules}
-use Rattle.machine.specs.Machine.{Call, order, lockout, remaining, firstOf, badTime, isRoot, refusalOf, acted, unless, step}
+use Rattle.machine.specs.Machine.{Call, order, lockout, remaining, status, firstOf, badTime, isRoot, refusalOf, acted, unless, step}
+use Rattle.machine.proofs.Same.{remaining-same, status-same}
 use Rattle.machine.proofs.Sound.{step-sound}
 use Rattle.machine.specs.declared.Answer.{Answer}
 use Rattle.machine.specs.declared.Answer.the-variants.{Refused}
@@ -137,3 +138,23 @@ lockout-root level root roots few h = go (eqb level 0) (ltb root roots) refl (eq
     go false false p true false q h = absurd (false≢true h)
     go true false p false d q h = absurd (false≢true h)
     go false false p false d q h = absurd (false≢true h)
+
+-- a call that leaves the machine's state leaves the memory, number for number
+same-memory : (xs : List ℕ) (call : Call) → step (decode xs) call .after ≡ decode xs → callMemory xs call ≡ xs
+unfolding callMemory callAnswer isRefusal
+same-memory xs call same = go (memoryRefusal xs) refl
+  where
+    either : (b : Bool) (ys : List ℕ) → ys ≡ xs → cond b xs ys ≡ xs
+    either true ys e = refl
+    either false ys e = e
+
+    go : (n : ℕ) → memoryRefusal xs ≡ n
+        → cond (isRefusal (cond (eqb n 0) (step (decode xs) call .answer) (Refused n))) xs (stored (step (decode xs) call .after) xs) ≡ xs
+    go zero e = either (isRefusal (step (decode xs) call .answer)) _ (ap (λ (s : State). stored s xs) same ∙ sym (laid xs e .is))
+    go (suc n) e = rw (ne-eqb (suc n) 0 (λ z. omega arith))
+
+pub remaining-keeps : (xs : List ℕ) (time rule : ℕ) → callMemory xs (remaining time rule) ≡ xs
+remaining-keeps xs time rule = same-memory xs (remaining time rule) (remaining-same (decode xs) time rule)
+
+pub status-keeps : (xs : List ℕ) → callMemory xs status ≡ xs
+status-keeps xs = same-memory xs status (status-same (decode xs))

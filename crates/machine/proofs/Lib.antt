@@ -3,3 +3,4 @@ pub mod Grants
 pub mod Refusals
 pub mod Profiles
 pub mod Sound
+pub mod Same
