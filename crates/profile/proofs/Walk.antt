@@ -3,7 +3,7 @@ use Prim.Native.Nat.{ℕ, _+_, _-_, _≤_, _<_}
 use mathlib.Core.Path.{_≡_, refl, sym, ap, _∙_}
 use mathlib.Core.Bool.{true, false}
 use mathlib.Core.List.{List, []}
-use lib.ListN.{length, getD, take, drop, replicate}
+use lib.ListN.{length, getD, take, drop, replicate, length-take, length-drop}
 use lib.Dec.{eqb}
 use borrow.Author.Tests.{ne-eqb}
 use native.Mathlib.Nat.{sub-zero}
@@ -13,7 +13,8 @@ use Rattle.laws.specs.Lists.{ended}
 use Rattle.rules.specs.declared.Rule.{Rule}
 use Rattle.text.specs.Text.{pieces, lines, indexOf}
 use Rattle.text.proofs.Lists.{line-here, first-line, within}
-use Rattle.line.specs.Line.{firmIn, lineOf}
+use Rattle.line.specs.Line.{firmIn, lineOf, anyLine}
+use Rattle.line.proofs.Laws.{any-line}
 use Rattle.tables.specs.Tables.{zeros, flat, table}
 use Rattle.line.specs.declared.Line.the-variants.{Is, Refused as Faulty}
 use Rattle.line.proofs.Laws.{line-refused}
@@ -118,3 +119,7 @@ module _ {text : List ℕ} {firm : ℕ} {tally : Tally} {at : ℕ} {roots rules 
             reach = omega (arith, end-within);
             rest = one-line ∙ rw (e, j .0, more);
           }
+
+-- a line of a text that is no longer than a profile may be is no longer either
+pub line-within : (firm n at : ℕ) (text : List ℕ) → length text ≤ 65_536 → lineOf firm (take n (drop at text)) ≡ anyLine firm (take n (drop at text))
+line-within firm n at text short = sym (any-line firm (take n (drop at text)) (simp (length-take, length-drop) (omega (arith, short))))

@@ -1,12 +1,13 @@
 -- `profile::read_lines` meets its contract: a profile is held after every line, and the lines that are left decide the outcome. Assumes nothing.
 use Prim.Native.Nat.{_+_, _-_}
-use mathlib.Core.Path.{sym, _∙_}
+use mathlib.Core.Path.{_≡_, sym, _∙_}
 use borrow.Author.Needs.{needs}
 use native.Mathlib.Omega.{arith}
-use lib.ListN.{length, take, drop, length-take, length-drop}
+use lib.ListN.{length, take, drop}
+use Rattle.line.specs.Line.{lineOf, anyLine}
 use Rattle.profile.proofs.Said.{said}
 use Rattle.profile.proofs.Admission.{roots-long, rules-long}
-use Rattle.profile.proofs.Walk.{Walk, walk-start, walk-end, end-within, walk-fault, walk-many, walk-next}
+use Rattle.profile.proofs.Walk.{Walk, walk-start, walk-end, end-within, walk-fault, walk-many, walk-next, line-within}
 use Rattle.profile.proofs.read_lines.Statement.{statement}
 use Rattle.profile.proofs.read_lines.Tie as tie
 
@@ -25,6 +26,14 @@ found c = c .before .before .before .before
 
 abbrev begun : tie.After-find Inv-loop μ-loop → tie.Start Inv-loop μ-loop
 begun c = c .before .before .before .before .before .before .before
+
+-- the line that was found is no longer than the text
+short : (f : tie.After-find Inv-loop μ-loop)
+    → let line = take (f .find .result - f .before .before .loop .at) (drop (f .before .before .loop .at) (begun f .args .text .now)) in
+    lineOf (begun f .args .firm) line ≡ anyLine (begun f .args .firm) line
+short f =
+    let at = f .before .before .loop .at in
+    line-within (begun f .args .firm) (f .find .result - at) at (begun f .args .text .now) (begun f .pre .0)
 
 loop-holds : tie.Need-loop-holds Inv-loop μ-loop
 loop-holds c = walk-start _ _ (c .before .before .before .before .pre .1)
@@ -45,7 +54,7 @@ part-read-line-end : tie.Need-part-read-line-end Inv-loop μ-loop
 part-read-line-end c = end-within (c .before .before .loop .inv) (c .before .loop-test .taken) (c .find .ensures)
 
 read-line-requires : tie.Need-read-line-requires Inv-loop μ-loop
-read-line-requires c κs = simp (length-take, length-drop) (omega (arith, begun (c .before) .pre .0))
+read-line-requires c κs = search needs
 
 enum-known-fault : tie.Need-enum-known-fault Inv-loop μ-loop
 enum-known-fault c = search needs
@@ -66,7 +75,7 @@ same-length-3 c = search needs
 returns : tie.Need-returns Inv-loop μ-loop
 returns c =
     let f = c .before .before .before .before .before in
-    walk-fault (f .before .before .loop .inv) (f .before .loop-test .taken) (f .find .ensures) (sym (c .before .before .before .read-line .ensures) ∙ c .before .fault .given .1)
+    walk-fault (f .before .before .loop .inv) (f .before .loop-test .taken) (f .find .ensures) (short f ∙ (sym (c .before .before .before .read-line .ensures) ∙ c .before .fault .given .1))
 
 enum-known-rule : tie.Need-enum-known-rule Inv-loop μ-loop
 enum-known-rule c = search needs
@@ -75,7 +84,7 @@ admit-requires : tie.Need-admit-requires Inv-loop μ-loop
 admit-requires c κs =
     let r = c .before .before .before .before in
     let w = found r .before .before .loop .inv in
-    ((w .profile, w .held), said _ _ (sym (r .before .before .read-line .ensures) ∙ r .rule .given .1))
+    ((w .profile, w .held), said _ _ (short (found r) ∙ (sym (r .before .before .read-line .ensures) ∙ r .rule .given .1)))
 
 enum-told : tie.Need-enum-told Inv-loop μ-loop
 enum-told c = search needs
@@ -99,7 +108,7 @@ returns-2 c =
     let r = taken a in
     let f = found r in
     let w = f .before .before .loop .inv in
-    walk-many w (f .before .loop-test .taken) (f .find .ensures) (sym (r .before .before .read-line .ensures) ∙ r .rule .given .1) _
+    walk-many w (f .before .loop-test .taken) (f .find .ensures) (short (found r) ∙ (sym (r .before .before .read-line .ensures) ∙ r .rule .given .1)) _
     (c .enum-told .given .1) (a .before .before .before .before .before .before .admit .ensures (w .profile) (w .held))
 
 enum-known-next : tie.Need-enum-known-next Inv-loop μ-loop
@@ -119,7 +128,7 @@ loop-again c =
     let r = taken a in
     let f = found r in
     let w = f .before .before .loop .inv in
-    walk-next w (f .before .loop-test .taken) (f .find .ensures) (sym (r .before .before .read-line .ensures) ∙ r .rule .given .1) _
+    walk-next w (f .before .loop-test .taken) (f .find .ensures) (short (found r) ∙ (sym (r .before .before .read-line .ensures) ∙ r .rule .given .1)) _
     (c .before .next .given .1) (a .before .before .before .before .before .before .admit .ensures (w .profile) (w .held))
 
 same-length-7 : tie.Need-same-length-7 Inv-loop μ-loop
