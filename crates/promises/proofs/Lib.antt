@@ -4,5 +4,10 @@ pub mod Locks
 pub mod Marks
 pub mod Counted
 pub mod Keeps
+pub mod Fresh
 pub mod Theorem
+pub mod Holds
+pub mod Never
+pub mod Unarmed
+pub mod Day
 pub mod Resets

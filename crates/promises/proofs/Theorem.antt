@@ -1,9 +1,9 @@
 -- Demand 3 holds of every run: a freshly armed state tells what an empty history tells, each call keeps that, and a history in which each grant
 -- found room keeps every limit. Assumes nothing.
 use Prim.Native.Nat.{ℕ, zero-le}
-use mathlib.Core.Path.{_≡_, refl, _∙_}
+use mathlib.Core.Path.{_≡_, refl, ap}
 use mathlib.Core.Bool.{false}
-use mathlib.Core.List.{List, [], _∷_, map-map, map-id}
+use mathlib.Core.List.{List, [], _∷_}
 use lib.Pow.{pow-pos}
 use Rattle.bits.proofs.Words.{bit-beyond}
 use Rattle.rules.specs.Rules.{countedOf}
@@ -12,13 +12,13 @@ use Rattle.rules.specs.declared.Level.the-variants.{Firm, Root}
 use Rattle.rules.specs.declared.Kind.{Kind}
 use Rattle.rules.specs.declared.Kind.the-variants.{Rate, Absolute}
 use Rattle.rules.specs.declared.Rule.{Rule}
-use Rattle.rules.specs.declared.Account.{Account}
 use Rattle.profile.specs.Profile.{Profile}
 use Rattle.state.specs.State.{profileIn, armedState}
 use Rattle.machine.specs.Machine.{Call, isTripped, isLockedOut, isLocked, sumOf, counted}
 use Rattle.promises.specs.Run.{Run, afterCall, runFrom, runOf}
 use Rattle.promises.specs.Demand.{deedsOf, countedIn, Demand3}
 use Rattle.promises.proofs.Lists.{all-make, all-map, all-mem}
+use Rattle.promises.proofs.Fresh.{fresh-profile}
 use Rattle.promises.proofs.Past.{Kept, kept-within}
 use Rattle.promises.proofs.Locks.{lockedIn, locked-by}
 use Rattle.promises.proofs.Keeps.{Right, Inv, step-keeps}
@@ -42,7 +42,7 @@ module _ (profile : Profile) where
   armed-inv : Inv (profile .rules) (armedState profile) []
   unfolding armedState profileIn lockedIn Kept
   armed-inv = record {
-    same = map-map (λ (a : Account). a .rule) (λ (rule : Rule). record { rule = rule; total = 0 }) (profile .rules) ∙ map-id (profile .rules);
+    same = ap (λ (p : Profile). p .rules) (fresh-profile profile);
     right =
         all-map (Right (armedState profile) []) (λ (rule : Rule). record { rule = rule; total = 0 }) (profile .rules) (all-make armed-right (profile .rules));
     kept = all-make (λ rule. tt) (profile .rules);
