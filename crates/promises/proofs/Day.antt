@@ -3,7 +3,7 @@
 use Prim.Native.Nat.{ℕ, _<_}
 use native.Mathlib.Omega.{arith}
 use mathlib.Core.Path.{_≡_, refl, sym, ap, _∙_, subst⁻¹}
-use mathlib.Core.List.{List, [], _∷_, _++_}
+use mathlib.Core.List.{List, [], _++_}
 use lib.ListN.{drop}
 use Rattle.tables.specs.Tables.{zeros}
 use Rattle.profile.specs.Profile.{outcomeOf}
@@ -14,31 +14,14 @@ use Rattle.state.proofs.Exactly.{exactly}
 use Rattle.machine.specs.Machine.{Call}
 use Rattle.calls.specs.Calls.{armAnswer}
 use Rattle.calls.proofs.Cases.{arm-marked, clear-done}
-use Rattle.promises.specs.Run.{Event, Run, afterCall, runFrom, runOf}
+use Rattle.promises.specs.Run.{Event, runOf}
 use Rattle.promises.specs.Demand.{Demand3}
-use Rattle.promises.specs.Day.{Day, afterCallOn, dayFrom, callsOn, dayOf, NeverRefused, DayPromised}
+use Rattle.promises.specs.Day.{callsOn, dayOf, NeverRefused, DayPromised}
 use Rattle.promises.proofs.Theorem.{demand3}
-use Rattle.promises.proofs.Holds.{Holds, arm-holds, call-answers, call-holds}
+use Rattle.promises.proofs.Holds.{arm-holds}
+use Rattle.promises.proofs.Follows.{Follows, follows-on}
 use Rattle.promises.proofs.Never.{run-never}
 use Rattle.promises.proofs.Unarmed.{cleared-idle}
-
--- a day and a run of the machine that have come equally far
-record Follows (past : List ℕ) (run : Run) (day : Day) : Type 0 where
-  holds : Holds (run .now) past (day .memory)
-  same : day .history ≡ run .history
-
-follows-on : {past : List ℕ} {run : Run} {day : Day} → Follows past run day → (calls : List Call) → Follows past (runFrom run calls) (dayFrom day calls)
-unfolding runFrom dayFrom afterCall afterCallOn
-follows-on f [] = f
-follows-on f (call ∷ calls) =
-    follows-on
-    (record {
-      holds = call-holds (f .holds) call;
-      same = λ i. record { call = call; answer = call-answers (f .holds) call i } ∷ f .same i;
-    })
-    calls
-
--- ---- the theorem
 
 module _ (memory text : List ℕ) (firm rules roots : ℕ) (ok : armAnswer memory text ≡ Accepted firm rules roots) (calls : List Call) where
   follows : Follows (drop size memory) (runOf (outcomeOf text .profile) calls) (dayOf memory text calls)

@@ -7,6 +7,7 @@ pub mod Keeps
 pub mod Fresh
 pub mod Theorem
 pub mod Holds
+pub mod Follows
 pub mod Never
 pub mod Unarmed
 pub mod Day
