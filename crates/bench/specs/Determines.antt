@@ -8,10 +8,20 @@ use contract.Lifetimes.{Lfts}
 use denote.Triple.Clauses.{Lasts, atExit}
 use borrow.Fn.Kinds.{PK, RK, In, Out, Dens, resT, endedOf}
 
-abbrev pub Determines : (n : ℕ) (ps : List (PK n)) (r : RK n) → In n ps → Out n ps r → Type 0
-Determines n ps r Asked Learnt =
-    (κs : Lfts n) (args : Dens κs ps) → Asked κs args
-    → (x y : resT r κs .Denot) (u v : Lasts (endedOf n ps r) κs args)
-    → Learnt κs args x (atExit (endedOf n ps r) κs args u)
-    → Learnt κs args y (atExit (endedOf n ps r) κs args v)
-    → (x ≡ y) × (u ≡ v)
+module _ (n : ℕ) (ps : List (PK n)) (r : RK n) where
+  abbrev pub Determines : In n ps → Out n ps r → Type 0
+  Determines Asked Learnt =
+      (κs : Lfts n) (args : Dens κs ps) → Asked κs args
+      → (x y : resT r κs .Denot) (u v : Lasts (endedOf n ps r) κs args)
+      → Learnt κs args x (atExit (endedOf n ps r) κs args u)
+      → Learnt κs args y (atExit (endedOf n ps r) κs args v)
+      → (x ≡ y) × (u ≡ v)
+
+  -- the same of an answer that is a part of what was lent: the bytes in it are determined
+  abbrev pub DeterminesBytes : ((κs : Lfts n) → resT r κs .Denot → List ℕ) → In n ps → Out n ps r → Type 0
+  DeterminesBytes bytes Asked Learnt =
+      (κs : Lfts n) (args : Dens κs ps) → Asked κs args
+      → (x y : resT r κs .Denot) (u v : Lasts (endedOf n ps r) κs args)
+      → Learnt κs args x (atExit (endedOf n ps r) κs args u)
+      → Learnt κs args y (atExit (endedOf n ps r) κs args v)
+      → (bytes κs x ≡ bytes κs y) × (u ≡ v)
