@@ -1,3 +1,4 @@
 pub mod Bench
 pub mod One
 pub mod Determined
+pub mod Runs
