@@ -1,4 +1,6 @@
-pub mod Bench
 pub mod One
-pub mod Determined
 pub mod Runs
+pub mod Computed
+pub mod Bench
+pub mod ShutOut
+pub mod Determined

@@ -11,7 +11,7 @@ use Rattle.rules.specs.Rules.{isRate}
 use Rattle.rules.specs.declared.Rule.{Rule}
 use Rattle.rules.specs.declared.Account.{Account}
 use Rattle.tables.specs.Tables.{every}
-use Rattle.profile.specs.Profile.{Profile, outcomeOf}
+use Rattle.profile.specs.Profile.{Profile, outcomeOf, readingOf}
 use Rattle.profile.proofs.Laws.{Answer as Read, none, size as sized, fault, answered}
 use Rattle.made.specs.Made.{isMade}
 use Rattle.made.specs.Parts.{isTotal}
@@ -25,11 +25,11 @@ use Rattle.state.proofs.Exactly.{made-parts, made-given, sound-fits, given-is-m
 use Rattle.machine.specs.Machine.{Call, order, lockout, offer, remaining, status, verdictOf, firstOf, refusalOf, judged, acted, unless, step}
 use Rattle.machine.proofs.Same.{refused-same}
 use Rattle.machine.specs.declared.Answer.{Answer}
-use Rattle.calls.specs.Calls.{isShort, armRefusal, armMemory, memoryRefusal, callAnswer, callMemory, isRefusal}
+use Rattle.calls.specs.Calls.{isShort, armRefusal, armAnswer, armMemory, memoryRefusal, callAnswer, callMemory, isRefusal}
 use Rattle.calls.proofs.Armed.{refusal-none}
 use Rattle.calls.proofs.Steps.{kept-sound, refused, acts, after-decoded}
 use Rattle.bench.specs.Rows.{answersOf}
-use Rattle.bench.specs.Library.{Library, Meets, Unarmed, answersBy}
+use Rattle.bench.specs.Library.{Library, Meets, Unarmed, answersBy, refusalIn}
 
 -- memory that passes the test meets no refusal
 pub no-refusal : (xs : List ℕ) → isSound xs ≡ true → memoryRefusal xs ≡ 0
@@ -59,7 +59,7 @@ none-counted (rule ∷ rules) = go (isRate (rule .kind)) (none-counted rules)
     go true e = e
     go false e = e
 
-same-profile : (p : Profile) → profileIn (armedState p) ≡ p
+pub same-profile : (p : Profile) → profileIn (armedState p) ≡ p
 unfolding armedState profileIn
 same-profile p = λ i. record {
   firm = p .firm;
@@ -97,6 +97,10 @@ module _ (xs text : List ℕ) (u : Unarmed xs) (ok : outcomeOf text .refusal ≡
   arm-stores : armMemory xs text ≡ stored fresh xs
   unfolding armMemory armRefusal isShort firstOf
   arm-stores = rw (le-ltb _ _ (u .long), eq-eqb _ _ (u .mark), eq-eqb _ _ ok)
+
+  pub arm-accepted : refusalIn (armAnswer xs text) ≡ 0
+  unfolding armAnswer armRefusal isShort firstOf readingOf refusalIn
+  arm-accepted = rw (le-ltb _ _ (u .long), eq-eqb _ _ (u .mark), eq-eqb _ _ ok)
 
   pub arm-ready : memoryRefusal (armMemory xs text) ≡ 0
   arm-ready = rw arm-stores (no-refusal (stored fresh xs) (sound-stored fresh xs fresh-sound))

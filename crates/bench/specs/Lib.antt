@@ -1,4 +1,4 @@
+pub mod Library
 pub mod Rows
 pub mod Table
-pub mod Library
 pub mod Determines

@@ -5,9 +5,10 @@ use mathlib.Core.List.{List, [], _∷_, map}
 use Rattle.text.specs.Text.{bytes}
 use Rattle.rules.specs.declared.Rule.{Rule}
 use Rattle.profile.specs.Profile.{outcomeOf}
-use Rattle.state.specs.State.{State, armedState}
-use Rattle.machine.specs.Machine.{Call, order, offer, remaining, step, numbers, windowOf}
+use Rattle.state.specs.State.{State, profileIn, decode, armedState}
+use Rattle.machine.specs.Machine.{Call, step, numbers, windowOf}
 use Rattle.machine.specs.declared.Answer.{Answer}
+use Rattle.bench.specs.Library.{Library, answersBy, refusalIn}
 
 -- a window of 0 stands for an absolute rule; an answer is its row of document 01's numbers, the refusal first
 pub record Row : Type 0 where
@@ -23,7 +24,7 @@ unfoldable pub answersOf : State → List Call → List Answer
 answersOf s [] = []
 answersOf s (call ∷ calls) = step s call .answer ∷ answersOf (step s call .after) calls
 
--- what is seen of a row: the refusal of its text, the windows of the rules that are read, and the numbers of the answers on a unit so armed
+-- what is seen of a row on the machine: the refusal of its text, the windows of the rules that are read, and the numbers of the answers on a unit so armed
 pub record Seen : Type 0 where
   pub refusal : ℕ
   pub windows : List ℕ
@@ -37,6 +38,14 @@ seen row = record {
   refusal = outcomeOf (bytes (row .text)) .refusal;
   windows = windowsOf (outcomeOf (bytes (row .text)) .profile .rules);
   answers = map numbers (answersOf (armedState (outcomeOf (bytes (row .text)) .profile)) (callsOf row));
+}
+
+-- the same of a library that is given a memory
+unfoldable pub seenBy : Library → List ℕ → Row → Seen
+seenBy l xs row = record {
+  refusal = refusalIn (l .arm xs (bytes (row .text)) .answer);
+  windows = windowsOf (profileIn (decode (l .arm xs (bytes (row .text)) .memory)) .rules);
+  answers = map numbers (answersBy l (l .arm xs (bytes (row .text)) .memory) (callsOf row));
 }
 
 -- what has to be seen
