@@ -210,6 +210,12 @@ module _ (l k : Library) (m : Meets l) (n : Meets k) where
   pub same-answer : (xs : List ℕ) (call : Call) → l .call xs call .answer ≡ k .call xs call .answer
   same-answer xs call = one (m .callAnswers xs call) (n .callAnswers xs call)
 
+  pub not-inventing-remaining : (xs : List ℕ) (time rule : ℕ) → l .call xs (remaining time rule) .answer ≡ k .call xs (remaining time rule) .answer
+  not-inventing-remaining xs time rule = same-answer xs (remaining time rule)
+
+  pub not-inventing-status : (xs : List ℕ) → l .call xs status .answer ≡ k .call xs status .answer
+  not-inventing-status xs = same-answer xs status
+
   pub same-memory : (xs : List ℕ) (call : Call) → l .call xs call .memory ≡ k .call xs call .memory
   same-memory xs call = one (m .callLeaves xs call) (n .callLeaves xs call)
 

@@ -9,19 +9,15 @@ use denote.Triple.Clauses.{Lasts, atExit}
 use borrow.Fn.Kinds.{PK, RK, In, Out, Dens, resT, endedOf}
 
 module _ (n : ℕ) (ps : List (PK n)) (r : RK n) where
-  abbrev pub Determines : In n ps → Out n ps r → Type 0
-  Determines Asked Learnt =
+  -- as far as `sees` tells answers apart
+  abbrev pub DeterminesSeen : (Seen : Lfts n → Type 0) → ((κs : Lfts n) → resT r κs .Denot → Seen κs) → In n ps → Out n ps r → Type 0
+  DeterminesSeen Seen sees Asked Learnt =
       (κs : Lfts n) (args : Dens κs ps) → Asked κs args
       → (x y : resT r κs .Denot) (u v : Lasts (endedOf n ps r) κs args)
       → Learnt κs args x (atExit (endedOf n ps r) κs args u)
       → Learnt κs args y (atExit (endedOf n ps r) κs args v)
-      → (x ≡ y) × (u ≡ v)
+      → (sees κs x ≡ sees κs y) × (u ≡ v)
 
-  -- the same of an answer that is a part of what was lent: the bytes in it are determined
-  abbrev pub DeterminesBytes : ((κs : Lfts n) → resT r κs .Denot → List ℕ) → In n ps → Out n ps r → Type 0
-  DeterminesBytes bytes Asked Learnt =
-      (κs : Lfts n) (args : Dens κs ps) → Asked κs args
-      → (x y : resT r κs .Denot) (u v : Lasts (endedOf n ps r) κs args)
-      → Learnt κs args x (atExit (endedOf n ps r) κs args u)
-      → Learnt κs args y (atExit (endedOf n ps r) κs args v)
-      → (bytes κs x ≡ bytes κs y) × (u ≡ v)
+  -- the whole answer
+  abbrev pub Determines : In n ps → Out n ps r → Type 0
+  Determines Asked Learnt = DeterminesSeen (λ κs. resT r κs .Denot) (λ κs x. x) Asked Learnt

@@ -32,6 +32,13 @@ pub record Meets (l : Library) : Type 0 where
   pub callAnswers : (xs : List ℕ) (call : Call) → l .call xs call .answer ≡ callAnswer xs call
   pub callLeaves : (xs : List ℕ) (call : Call) → l .call xs call .memory ≡ callMemory xs call
 
+-- there is one that does: the contracts' own functions
+abbrev pub asContracted : Library
+asContracted = record {
+  arm = λ xs text. record { answer = armAnswer xs text; memory = armMemory xs text };
+  call = λ xs call. record { answer = callAnswer xs call; memory = callMemory xs call };
+}
+
 -- a memory that may be armed: it is long enough, and its mark is 0
 pub record Unarmed (xs : List ℕ) : Type 0 where
   pub long : size ≤ length xs

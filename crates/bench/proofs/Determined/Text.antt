@@ -1,6 +1,8 @@
 -- The contracts of `text` determine what a call gives: one theorem for each public function. Assumes nothing.
+use Prim.Native.Nat.{ℕ}
+use mathlib.Core.List.{List}
 use mathlib.Core.Path.{refl}
-use Rattle.bench.specs.Determines.{DeterminesBytes, Determines}
+use Rattle.bench.specs.Determines.{DeterminesSeen, Determines}
 use Rattle.bench.proofs.One.{one}
 use Rattle.text.proofs.find.Kinds as find-kinds
 use Rattle.text.proofs.find.Reads as find-reads
@@ -17,7 +19,7 @@ pub find : Determines 1 find-kinds.ps find-kinds.r find-reads.Asked find-reads.L
 find κs args asked x y u v p q = (one p q, refl)
 
 -- the answer is a part of the line that was lent: the bytes in it are determined, and where it lies is not said
-pub field-at : DeterminesBytes 1 field-at-kinds.ps field-at-kinds.r (λ κs part. part .now) field-at-reads.Asked field-at-reads.Learnt
+pub field-at : DeterminesSeen 1 field-at-kinds.ps field-at-kinds.r (λ κs. List ℕ) (λ κs part. part .now) field-at-reads.Asked field-at-reads.Learnt
 field-at κs args asked x y u v p q = (one p q, refl)
 
 pub equal : Determines 2 equal-kinds.ps equal-kinds.r equal-reads.Asked equal-reads.Learnt
