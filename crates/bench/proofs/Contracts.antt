@@ -5,7 +5,6 @@ use denote.Triple.Clauses.{AtExit}
 use borrow.Fn.Kinds.{Dens, resT, endedOf}
 use Rattle.machine.specs.Machine.{order, lockout, offer, remaining, status}
 use Rattle.calls.specs.Calls.{armAnswer, armMemory, callAnswer, callMemory}
-use Rattle.bench.specs.Library.{Meets, asContracted}
 use Rattle.calls.proofs.arm.Kinds as arm-kinds
 use Rattle.calls.proofs.arm.Reads as arm-reads
 use Rattle.calls.proofs.order.Kinds as order-kinds
@@ -49,12 +48,3 @@ remaining-says κs args x e = refl
 pub status-says : (κs : Lfts 1) (args : Dens κs status-kinds.ps) (x : resT status-kinds.r κs .Denot) (e : AtExit (endedOf 1 status-kinds.ps status-kinds.r) κs)
     → status-reads.Learnt κs args x e ≡ (x ≡ callAnswer (args .0 .now) status)
 status-says κs args x e = refl
-
--- so there is a library that meets them
-pub contracts-met : Meets asContracted
-contracts-met = record {
-  armAnswers = λ xs text. refl;
-  armLeaves = λ xs text. refl;
-  callAnswers = λ xs call. refl;
-  callLeaves = λ xs call. refl;
-}

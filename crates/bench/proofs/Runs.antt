@@ -1,7 +1,7 @@
 -- A day on lent memory is a day of the machine: arming leaves the freshly armed state, and each call leaves what the machine leaves. Assumes nothing.
-use Prim.Native.Nat.{ℕ, zero, suc, zero-le}
+use Prim.Native.Nat.{ℕ, zero, suc, _≤_, zero-le}
 use native.Mathlib.Omega.{arith}
-use mathlib.Core.Path.{_≡_, refl, sym, ap, _∙_, subst}
+use mathlib.Core.Path.{_≡_, refl, sym, ap, ap₂, _∙_, subst}
 use mathlib.Core.Bool.{Bool, true, false, not, cond, _&&_}
 use mathlib.Core.List.{List, [], _∷_, map, map-map, map-id}
 use lib.ListN.{length}
@@ -17,7 +17,7 @@ use Rattle.made.specs.Made.{isMade}
 use Rattle.made.specs.Parts.{isTotal}
 use Rattle.made.proofs.Given.{given-made}
 use Rattle.log.specs.Log.{areOrdered}
-use Rattle.state.specs.State.{State, profileIn, armedState, stored, decode}
+use Rattle.state.specs.State.{State, profileIn, armedState, size, stored, decode}
 use Rattle.state.specs.Sound.{Given, SoundState, isSound}
 use Rattle.state.proofs.Restored.{taken-apart}
 use Rattle.state.proofs.Stored.{decode-stored}
@@ -25,11 +25,12 @@ use Rattle.state.proofs.Exactly.{made-parts, made-given, sound-fits, given-is-m
 use Rattle.machine.specs.Machine.{Call, order, lockout, offer, remaining, status, verdictOf, firstOf, refusalOf, judged, acted, unless, step}
 use Rattle.machine.proofs.Same.{refused-same}
 use Rattle.machine.specs.declared.Answer.{Answer}
-use Rattle.calls.specs.Calls.{isShort, armRefusal, armAnswer, armMemory, memoryRefusal, callAnswer, callMemory, isRefusal}
+use Rattle.calls.specs.Calls.{isShort, markOf, armRefusal, armAnswer, armMemory, memoryRefusal, callAnswer, callMemory, isRefusal}
 use Rattle.calls.proofs.Armed.{refusal-none}
 use Rattle.calls.proofs.Steps.{kept-sound, refused, acts, after-decoded}
 use Rattle.bench.specs.Rows.{answersOf}
 use Rattle.bench.specs.Library.{Library, Meets, Unarmed, answersBy, refusalIn}
+use Rattle.bench.specs.Lent.{Memory, Text, Sent}
 
 -- memory that passes the test meets no refusal
 pub no-refusal : (xs : List ℕ) → isSound xs ≡ true → memoryRefusal xs ≡ 0
@@ -68,7 +69,7 @@ same-profile p = λ i. record {
 }
 
 -- a freshly armed state is sound
-armed-sound : (p : Profile) → isMade p ≡ true → SoundState (armedState p)
+pub armed-sound : (p : Profile) → isMade p ≡ true → SoundState (armedState p)
 unfolding armedState areOrdered every
 armed-sound p h = record {
   clock = (zero-le, zero-le);
@@ -87,7 +88,7 @@ stored-decoded : (s : State) (xs : List ℕ) → SoundState s → decode (stored
 stored-decoded s xs k = decode-stored s (sound-fits s k (made-parts (profileIn s) (given-is-made (profileIn s) (k .given)))) xs
 
 -- arming a memory with an accepted text
-module _ (xs text : List ℕ) (u : Unarmed xs) (ok : outcomeOf text .refusal ≡ 0) where
+module _ (xs text : List ℕ) (long : size ≤ length xs) (mark : markOf xs ≡ 0) (ok : outcomeOf text .refusal ≡ 0) where
   abbrev fresh : State
   fresh = armedState (outcomeOf text .profile)
 
@@ -96,11 +97,11 @@ module _ (xs text : List ℕ) (u : Unarmed xs) (ok : outcomeOf text .refusal ≡
 
   arm-stores : armMemory xs text ≡ stored fresh xs
   unfolding armMemory armRefusal isShort firstOf
-  arm-stores = rw (le-ltb _ _ (u .long), eq-eqb _ _ (u .mark), eq-eqb _ _ ok)
+  arm-stores = rw (le-ltb _ _ long, eq-eqb _ _ mark, eq-eqb _ _ ok)
 
   pub arm-accepted : refusalIn (armAnswer xs text) ≡ 0
   unfolding armAnswer armRefusal isShort firstOf readingOf refusalIn
-  arm-accepted = rw (le-ltb _ _ (u .long), eq-eqb _ _ (u .mark), eq-eqb _ _ ok)
+  arm-accepted = rw (le-ltb _ _ long, eq-eqb _ _ mark, eq-eqb _ _ ok)
 
   pub arm-ready : memoryRefusal (armMemory xs text) ≡ 0
   arm-ready = rw arm-stores (no-refusal (stored fresh xs) (sound-stored fresh xs fresh-sound))
@@ -142,17 +143,23 @@ module _ (xs : List ℕ) (ready : memoryRefusal xs ≡ 0) (call : Call) where
       go (suc n) e = ap decode (sym (refused xs ready call n e .1)) ∙ sym (refused-same (decode xs) call n e)
 
 -- a day of calls on sound memory is a day of the machine
-module _ (l : Library) (m : Meets l) where
-  pub day-answers : (xs : List ℕ) → memoryRefusal xs ≡ 0 → (calls : List Call) → answersBy l xs calls ≡ answersOf (decode xs) calls
+module _ (l : Library) (meets : Meets l) where
+  pub day-answers : (m : Memory) → memoryRefusal (m .now) ≡ 0 → (day : List Sent) → answersBy l m day ≡ answersOf (decode (m .now)) (map (λ c. c .call) day)
   unfolding answersBy answersOf
-  day-answers xs ready [] = refl
-  day-answers xs ready (call ∷ calls) =
-      rw (m .callAnswers xs call, m .callLeaves xs call, call-answer xs ready call, ← call-decoded xs ready call)
-      (ap (λ (later : List Answer). step (decode xs) call .answer ∷ later) (day-answers (callMemory xs call) (call-ready xs ready call) calls))
+  day-answers m ready [] = refl
+  day-answers m ready (c ∷ day) =
+      let xs = m .now in
+      let after = l .call m c .memory in
+      let is : after .now ≡ callMemory xs (c .call) = meets .callLeaves m c in
+      let ready-after : memoryRefusal (after .now) ≡ 0 = ap memoryRefusal is ∙ call-ready xs ready (c .call) in
+      let decoded : decode (after .now) ≡ step (decode xs) (c .call) .after = ap decode is ∙ call-decoded xs ready (c .call) in
+      ap₂ (λ (a : Answer) (later : List Answer). a ∷ later) (meets .callAnswers m c ∙ call-answer xs ready (c .call))
+      (day-answers after ready-after day ∙ ap (λ (s : State). answersOf s (map (λ c. c .call) day)) decoded)
 
   -- and so is one that begins with arming
-  pub armed-answers : (xs text : List ℕ) → Unarmed xs → outcomeOf text .refusal ≡ 0 → (calls : List Call)
-      → answersBy l (l .arm xs text .memory) calls ≡ answersOf (armedState (outcomeOf text .profile)) calls
-  armed-answers xs text u ok calls =
-      rw (m .armLeaves xs text) (day-answers (armMemory xs text) (arm-ready xs text u ok) calls
-      ∙ ap (λ (s : State). answersOf s calls) (arm-decoded xs text u ok))
+  pub armed-answers : (m : Memory) (t : Text) → Unarmed m → outcomeOf (t .now) .refusal ≡ 0 → (day : List Sent)
+      → answersBy l (l .arm m t .memory) day ≡ answersOf (armedState (outcomeOf (t .now) .profile)) (map (λ c. c .call) day)
+  armed-answers m t u ok day =
+      let is = meets .armLeaves m t in
+      day-answers (l .arm m t .memory) (ap memoryRefusal is ∙ arm-ready (m .now) (t .now) (u .long) (u .mark) ok) day
+      ∙ ap (λ (s : State). answersOf s (map (λ c. c .call) day)) (ap decode is ∙ arm-decoded (m .now) (t .now) (u .long) (u .mark) ok)

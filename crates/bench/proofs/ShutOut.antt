@@ -1,19 +1,17 @@
 -- No library that meets the contracts refuses everything, grants a fixed number, stores nothing, counts the first fill alone, or invents what
 -- Remaining or Status say. Assumes nothing.
-use Prim.Native.Nat.{ℕ, zero, suc}
+use Prim.Native.Nat.{ℕ, zero, suc, _^_}
 use native.Mathlib.Omega.{arith}
 use mathlib.Core.Path.{_≡_, refl, sym, ap, _∙_, subst}
 use mathlib.Core.Logic.{_↔_}
 use mathlib.Core.Bool.{Bool, true, false, cond, false≢true}
 use mathlib.Core.List.{List, [], _∷_}
-use lib.ListN.{length, getD}
+use lib.ListN.{getD}
 use lib.Dec.{eqb}
 use borrow.Author.Tests.{ne-eqb}
 use Rattle.bits.specs.Locks.{standingOf}
-use Rattle.bits.specs.declared.Standing.{Standing}
 use Rattle.rules.specs.Allowance.{Largest, KeepsAll}
-use Rattle.text.specs.Text.{bytes}
-use Rattle.tables.specs.Tables.{zeros}
+use Rattle.tables.specs.Tables.{zeros, every}
 use Rattle.tables.proofs.Tables.{length-zeros}
 use Rattle.profile.specs.Profile.{outcomeOf}
 use Rattle.state.specs.State.{State, size, decode, armedState}
@@ -24,9 +22,10 @@ use Rattle.machine.specs.declared.Answer.the-variants.{Refused, Judged, Left, S
 use Rattle.machine.proofs.Grants.{covering, grant-largest}
 use Rattle.calls.specs.Calls.{memoryRefusal, callAnswer, isRefusal}
 use Rattle.calls.proofs.Armed.{refusal-unarmed}
-use Rattle.bench.specs.Rows.{answersOf}
+use Rattle.bench.specs.Lent.{Memory, Text, numbersIn, Sent, Offered, sent}
 use Rattle.bench.specs.Library.{Library, Meets, Unarmed, answersBy, refusalIn, refusalBy, RefusesTexts, RefusesCalls, GrantsAlways, ArmStoresNothing, StoresNoFill, CountsFirstOnly}
 use Rattle.bench.proofs.One.{one}
+use Rattle.bench.proofs.Words.{below-zeros, tested-below}
 use Rattle.bench.proofs.Computed.{hundred, forty, hundred-read, forties}
 use Rattle.bench.proofs.Runs.{not-refused, arm-accepted, arm-ready, arm-decoded, call-ready, call-decoded, armed-answers}
 
@@ -97,77 +96,92 @@ forty-twenty : Judged 0 40 false false ≡ Judged 0 20 true false → ⊥
 forty-twenty e = let z : _≡_ {A = ℕ} 40 20 = cc in omega arith
 
 -- memory of zeros may be armed
-abbrev blank : List ℕ
-blank = zeros size
+abbrev blank : Memory
+blank = record { now = zeros size; words = below-zeros size }
 
 blank-unarmed : Unarmed blank
 unfolding zeros
 blank-unarmed = record { long = omega (arith, length-zeros size); mark = refl }
 
-module _ (l : Library) (m : Meets l) where
+-- the limit of 100, and the offer of 40
+pub limit : Text
+unfolding every
+limit = record { now = hundred; bytes = tested-below 256 hundred refl }
+
+pub offered : Offered
+unfolding every
+offered = record { offer = forty; words = tested-below (2 ^ 64) (numbersIn (offer forty)) refl }
+
+module _ (l : Library) (meets : Meets l) where
   -- ---- what holds on every memory
 
   -- a call is refused with a number exactly if that number's condition is the first that holds
-  pub refused-exactly : (xs : List ℕ) (call : Call) (n : ℕ) → (l .call xs call .answer ≡ Refused (suc n)) ↔ (refusalBy xs call ≡ suc n)
-  refused-exactly xs call n =
-      (λ e. by-refused xs call (suc n) (sym (m .callAnswers xs call) ∙ e) .0, λ e. m .callAnswers xs call ∙ refused-by xs call n e)
+  pub refused-exactly : (m : Memory) (c : Sent) (n : ℕ) → (l .call m c .answer ≡ Refused (suc n)) ↔ (refusalBy (m .now) (c .call) ≡ suc n)
+  refused-exactly m c n = (
+    λ e. by-refused (m .now) (c .call) (suc n) (sym (meets .callAnswers m c) ∙ e) .0,
+    λ e. meets .callAnswers m c ∙ refused-by (m .now) (c .call) n e,
+  )
 
   -- a grant is the largest number up to the offer that keeps every limit of a rule that covers it
-  pub grant-is-largest : (xs : List ℕ) (o : Offer) (grant : ℕ) (root firm : Bool) → l .call xs (offer o) .answer ≡ Judged 0 grant root firm
-      → Largest (KeepsAll (covering (decode xs .log) o (decode xs .accounts)) (o .premium)) (o .contracts) grant
+  pub grant-is-largest : (m : Memory) (o : Offered) (grant : ℕ) (root firm : Bool) → l .call m (sent o) .answer ≡ Judged 0 grant root firm
+      → Largest (KeepsAll (covering (decode (m .now) .log) (o .offer) (decode (m .now) .accounts)) (o .offer .premium)) (o .offer .contracts) grant
   unfolding acted isRefusal
-  grant-is-largest xs o grant root firm e =
-      let s = decode xs in
-      let t = taken xs (offer o) (Judged 0 grant root firm) (sym (m .callAnswers xs (offer o)) ∙ e) refl in
-      subst (Largest (KeepsAll (covering (s .log) o (s .accounts)) (o .premium)) (o .contracts)) (granted s o (verdictOf s (o .root)) grant root firm t)
-      (grant-largest (s .log) o (s .accounts))
+  grant-is-largest m o grant root firm e =
+      let s = decode (m .now) in
+      let asked = o .offer in
+      let t = taken (m .now) (offer asked) (Judged 0 grant root firm) (sym (meets .callAnswers m (sent o)) ∙ e) refl in
+      subst (Largest (KeepsAll (covering (s .log) asked (s .accounts)) (asked .premium)) (asked .contracts))
+      (granted s asked (verdictOf s (asked .root)) grant root firm t) (grant-largest (s .log) asked (s .accounts))
 
   -- the memory after a call is sound, and stands for the state that the machine leaves
-  pub stores : (xs : List ℕ) (call : Call) → memoryRefusal xs ≡ 0
-      → (memoryRefusal (l .call xs call .memory) ≡ 0) × (decode (l .call xs call .memory) ≡ step (decode xs) call .after)
-  stores xs call ready = rw (m .callLeaves xs call) (call-ready xs ready call, call-decoded xs ready call)
+  pub stores : (m : Memory) (c : Sent) → memoryRefusal (m .now) ≡ 0
+      → (memoryRefusal (l .call m c .memory .now) ≡ 0) × (decode (l .call m c .memory .now) ≡ step (decode (m .now)) (c .call) .after)
+  stores m c ready = rw (meets .callLeaves m c) (call-ready (m .now) ready (c .call), call-decoded (m .now) ready (c .call))
 
-  -- arming with an accepted text changes the memory: it is sound after, and stands for the freshly armed state
-  pub arm-stores : (xs text : List ℕ) → Unarmed xs → outcomeOf text .refusal ≡ 0
-      → (memoryRefusal (l .arm xs text .memory) ≡ 0) × (decode (l .arm xs text .memory) ≡ armedState (outcomeOf text .profile))
-  arm-stores xs text u ok = rw (m .armLeaves xs text) (arm-ready xs text u ok, arm-decoded xs text u ok)
+  -- arming with an accepted text leaves a sound memory, which stands for the freshly armed state
+  pub arm-stores : (m : Memory) (t : Text) → Unarmed m → outcomeOf (t .now) .refusal ≡ 0
+      → (memoryRefusal (l .arm m t .memory .now) ≡ 0) × (decode (l .arm m t .memory .now) ≡ armedState (outcomeOf (t .now) .profile))
+  arm-stores m t u ok =
+      rw (meets .armLeaves m t) (arm-ready (m .now) (t .now) (u .long) (u .mark) ok, arm-decoded (m .now) (t .now) (u .long) (u .mark) ok)
 
   -- Remaining is the limit less the counted amount, or 0 if that is below 0
-  pub remaining-is : (xs : List ℕ) (time rule : ℕ) → refusalBy xs (remaining time rule) ≡ 0
-      → l .call xs (remaining time rule) .answer ≡ Left (leftOf (decode xs) time (getD (decode xs .accounts) rule noAccount))
+  pub remaining-is : (m : Memory) (c : Sent) (time rule : ℕ) → c .call ≡ remaining time rule → refusalBy (m .now) (remaining time rule) ≡ 0
+      → l .call m c .answer ≡ Left (leftOf (decode (m .now)) time (getD (decode (m .now) .accounts) rule noAccount))
   unfolding acted
-  remaining-is xs time rule e = m .callAnswers xs (remaining time rule) ∙ acted-answer xs (remaining time rule) e
+  remaining-is m c time rule is e = meets .callAnswers m c ∙ ap (callAnswer (m .now)) is ∙ acted-answer (m .now) (remaining time rule) e
 
   -- Status is how the two words stand
-  pub status-is : (xs : List ℕ) → refusalBy xs status ≡ 0 → l .call xs status .answer ≡ Stand (standingOf (decode xs .tripped) (decode xs .locked))
+  pub status-is : (m : Memory) (c : Sent) → c .call ≡ status → refusalBy (m .now) status ≡ 0
+      → l .call m c .answer ≡ Stand (standingOf (decode (m .now) .tripped) (decode (m .now) .locked))
   unfolding acted
-  status-is xs e = m .callAnswers xs status ∙ acted-answer xs status e
+  status-is m c is e = meets .callAnswers m c ∙ ap (callAnswer (m .now)) is ∙ acted-answer (m .now) status e
 
   -- ---- three offers of 40 under a limit of 100, on any memory that may be armed
 
-  module _ (xs : List ℕ) (u : Unarmed xs) where
-    abbrev armed : List ℕ
-    armed = l .arm xs hundred .memory
+  module _ (m : Memory) (u : Unarmed m) where
+    abbrev armed : Memory
+    armed = l .arm m limit .memory
 
-    abbrev one-fill : List ℕ
-    one-fill = l .call armed (offer forty) .memory
+    abbrev one-fill : Memory
+    one-fill = l .call armed (sent offered) .memory
 
-    abbrev two-fills : List ℕ
-    two-fills = l .call one-fill (offer forty) .memory
+    abbrev two-fills : Memory
+    two-fills = l .call one-fill (sent offered) .memory
 
-    answers : answersBy l armed (offer forty ∷ offer forty ∷ offer forty ∷ [])
+    answers : answersBy l armed (sent offered ∷ sent offered ∷ sent offered ∷ [])
         ≡ Judged 0 40 false false ∷ Judged 0 40 false false ∷ Judged 0 20 true false ∷ []
-    answers = armed-answers l m xs hundred u hundred-read _ ∙ forties
+    unfolding limit offered
+    answers = armed-answers l meets m limit u hundred-read _ ∙ forties
 
-    pub first : l .call armed (offer forty) .answer ≡ Judged 0 40 false false
+    pub first : l .call armed (sent offered) .answer ≡ Judged 0 40 false false
     unfolding answersBy
     first = let e = answers in cc
 
-    pub second : l .call one-fill (offer forty) .answer ≡ Judged 0 40 false false
+    pub second : l .call one-fill (sent offered) .answer ≡ Judged 0 40 false false
     unfolding answersBy
     second = let e = answers in cc
 
-    pub third : l .call two-fills (offer forty) .answer ≡ Judged 0 20 true false
+    pub third : l .call two-fills (sent offered) .answer ≡ Judged 0 20 true false
     unfolding answersBy
     third = let e = answers in cc
 
@@ -175,52 +189,60 @@ module _ (l : Library) (m : Meets l) where
 
   -- a library that refuses every text, or every call
   pub not-refusing-all : (RefusesTexts l → ⊥) × (RefusesCalls l → ⊥)
-  unfolding isRefusal
+  unfolding isRefusal limit
   not-refusing-all = (
-    λ all. all blank hundred (ap refusalIn (m .armAnswers blank hundred) ∙ arm-accepted blank hundred blank-unarmed hundred-read),
-    λ all. false≢true (sym (ap isRefusal (first blank blank-unarmed)) ∙ all (armed blank blank-unarmed) (offer forty)),
+    λ all.
+        all blank limit
+        (ap refusalIn (meets .armAnswers blank limit)
+        ∙ arm-accepted (blank .now) hundred (blank-unarmed .long) (blank-unarmed .mark) hundred-read),
+    λ all. false≢true (sym (ap isRefusal (first blank blank-unarmed)) ∙ all (armed blank blank-unarmed) (sent offered)),
   )
 
   -- one with a fixed grant
   pub not-a-fixed-grant : (g : ℕ) → GrantsAlways l g → ⊥
   not-a-fixed-grant g all =
-      let a : 40 ≡ g = all _ forty 40 false false (first blank blank-unarmed) in
-      let b : 20 ≡ g = all _ forty 20 true false (third blank blank-unarmed) in
+      let a : 40 ≡ g = all _ offered 40 false false (first blank blank-unarmed) in
+      let b : 20 ≡ g = all _ offered 20 true false (third blank blank-unarmed) in
       omega arith
 
   -- one that stores nothing: no profile, or no fill
   pub not-storing-nothing : (ArmStoresNothing l → ⊥) × (StoresNoFill l → ⊥)
+  unfolding limit
   not-storing-nothing = (
     λ none.
-        let ready : memoryRefusal blank ≡ 0 = subst (λ (ys : List ℕ). memoryRefusal ys ≡ 0) (none blank hundred) (arm-stores blank hundred blank-unarmed hundred-read .0) in
-        let unarmed : 4 ≡ memoryRefusal blank = refusal-unarmed blank (blank-unarmed .long) (blank-unarmed .mark) in
+        let ready : memoryRefusal (blank .now) ≡ 0 =
+        subst (λ (ys : List ℕ). memoryRefusal ys ≡ 0) (none blank limit) (arm-stores blank limit blank-unarmed hundred-read .0) in
+        let unarmed : 4 ≡ memoryRefusal (blank .now) = refusal-unarmed (blank .now) (blank-unarmed .long) (blank-unarmed .mark) in
         omega arith,
     λ none.
-        let same = ap (λ (ys : List ℕ). l .call ys (offer forty) .answer) (none (one-fill blank blank-unarmed) forty) in
+        let before = one-fill blank blank-unarmed in
+        let after = two-fills blank blank-unarmed in
+        let same = meets .callAnswers after (sent offered) ∙ ap (λ (ys : List ℕ). callAnswer ys (sent offered .call)) (none before offered)
+        ∙ sym (meets .callAnswers before (sent offered)) in
         forty-twenty (sym (second blank blank-unarmed) ∙ sym same ∙ third blank blank-unarmed),
   )
 
   -- one that counts the first fill alone
   pub not-counting-only-the-first : CountsFirstOnly l → ⊥
   not-counting-only-the-first only =
-      forty-twenty (sym (second blank blank-unarmed) ∙ sym (only (armed blank blank-unarmed) forty forty forty) ∙ third blank blank-unarmed)
+      forty-twenty (sym (second blank blank-unarmed) ∙ sym (only (armed blank blank-unarmed) offered offered offered) ∙ third blank blank-unarmed)
 
 -- an invented Remaining or Status, or any other invention: two libraries that meet the contracts answer alike and leave the same memory
-module _ (l k : Library) (m : Meets l) (n : Meets k) where
-  pub same-answer : (xs : List ℕ) (call : Call) → l .call xs call .answer ≡ k .call xs call .answer
-  same-answer xs call = one (m .callAnswers xs call) (n .callAnswers xs call)
+module _ (l k : Library) (meets : Meets l) (too : Meets k) where
+  pub same-answer : (m : Memory) (c : Sent) → l .call m c .answer ≡ k .call m c .answer
+  same-answer m c = one (meets .callAnswers m c) (too .callAnswers m c)
 
-  pub not-inventing-remaining : (xs : List ℕ) (time rule : ℕ) → l .call xs (remaining time rule) .answer ≡ k .call xs (remaining time rule) .answer
-  not-inventing-remaining xs time rule = same-answer xs (remaining time rule)
+  pub not-inventing-remaining : (m : Memory) (c : Sent) (time rule : ℕ) → c .call ≡ remaining time rule → l .call m c .answer ≡ k .call m c .answer
+  not-inventing-remaining m c time rule is = same-answer m c
 
-  pub not-inventing-status : (xs : List ℕ) → l .call xs status .answer ≡ k .call xs status .answer
-  not-inventing-status xs = same-answer xs status
+  pub not-inventing-status : (m : Memory) (c : Sent) → c .call ≡ status → l .call m c .answer ≡ k .call m c .answer
+  not-inventing-status m c is = same-answer m c
 
-  pub same-memory : (xs : List ℕ) (call : Call) → l .call xs call .memory ≡ k .call xs call .memory
-  same-memory xs call = one (m .callLeaves xs call) (n .callLeaves xs call)
+  pub same-memory : (m : Memory) (c : Sent) → l .call m c .memory .now ≡ k .call m c .memory .now
+  same-memory m c = one (meets .callLeaves m c) (too .callLeaves m c)
 
-  pub same-arm-answer : (xs text : List ℕ) → l .arm xs text .answer ≡ k .arm xs text .answer
-  same-arm-answer xs text = one (m .armAnswers xs text) (n .armAnswers xs text)
+  pub same-arm-answer : (m : Memory) (t : Text) → l .arm m t .answer ≡ k .arm m t .answer
+  same-arm-answer m t = one (meets .armAnswers m t) (too .armAnswers m t)
 
-  pub same-arm-memory : (xs text : List ℕ) → l .arm xs text .memory ≡ k .arm xs text .memory
-  same-arm-memory xs text = one (m .armLeaves xs text) (n .armLeaves xs text)
+  pub same-arm-memory : (m : Memory) (t : Text) → l .arm m t .memory .now ≡ k .arm m t .memory .now
+  same-arm-memory m t = one (meets .armLeaves m t) (too .armLeaves m t)

@@ -1,3 +1,4 @@
+pub mod Lent
 pub mod Library
 pub mod Rows
 pub mod Table
