@@ -1,0 +1,95 @@
+//! Makes a script that shows a difference as short as it will go: fewer steps, shorter profiles, lower numbers.
+
+use std::time::{Duration, Instant};
+
+use crate::scripts::{Kind, Step};
+
+/// How long a script may be worked on.
+const PATIENCE: Duration = Duration::from_secs(60);
+
+/// Shortens the script while `differs` gives the place of a step that shows some difference.
+pub fn shrink(mut script: Vec<Step>, mut differs: impl FnMut(&[Step]) -> Option<usize>) -> Vec<Step> {
+    let end = Instant::now() + PATIENCE;
+    let mut keeps = |script: &[Step]| if Instant::now() < end { differs(script) } else { None };
+    loop {
+        let before = script.clone();
+        if let Some(place) = keeps(&script) {
+            script.truncate(place + 1);
+        }
+        script = fewer(script, &mut |fewer| keeps(fewer).is_some());
+        for place in 0..script.len() {
+            shorten_profile(&mut script, place, &mut |script| keeps(script).is_some());
+            lower_numbers(&mut script, place, &mut |script| keeps(script).is_some());
+        }
+        if script == before {
+            return script;
+        }
+    }
+}
+
+/// Takes items away, first many at a time and at last one by one, as long as the rest keeps what is wanted.
+fn fewer<T: Clone>(mut items: Vec<T>, keeps: &mut dyn FnMut(&[T]) -> bool) -> Vec<T> {
+    let mut many = items.len();
+    while many > 0 {
+        let mut place = 0;
+        while place < items.len() {
+            let rest = [&items[..place], &items[items.len().min(place + many)..]].concat();
+            if keeps(&rest) {
+                items = rest;
+            } else {
+                place += many;
+            }
+        }
+        many /= 2;
+    }
+    items
+}
+
+/// Puts another step into its place if the script then keeps what is wanted.
+fn replaced(script: &mut [Step], place: usize, step: Step, keeps: &mut dyn FnMut(&[Step]) -> bool) -> bool {
+    let before = std::mem::replace(&mut script[place], step);
+    let kept = keeps(script);
+    if !kept {
+        script[place] = before;
+    }
+    kept
+}
+
+/// Takes lines and then bytes out of the profile of a step.
+fn shorten_profile(script: &mut [Step], place: usize, keeps: &mut dyn FnMut(&[Step]) -> bool) {
+    if script[place].kind != Kind::Arm {
+        return;
+    }
+    let lines: Vec<Vec<u8>> = script[place].profile.split_inclusive(|byte| *byte == b'\n').map(<[u8]>::to_vec).collect();
+    fewer(lines, &mut |lines| replaced(script, place, Step::arm(lines.concat()), keeps));
+    let bytes = script[place].profile.clone();
+    fewer(bytes, &mut |bytes| replaced(script, place, Step::arm(bytes.to_vec()), keeps));
+}
+
+/// Lowers each number of a step.
+fn lower_numbers(script: &mut [Step], place: usize, keeps: &mut dyn FnMut(&[Step]) -> bool) {
+    for at in 0..script[place].own().len() {
+        let number = script[place].numbers[at];
+        lower(number, &mut |number| {
+            let mut step = script[place].clone();
+            step.numbers[at] = number;
+            replaced(script, place, step, keeps)
+        });
+    }
+}
+
+/// Tries lower numbers: 0, then by halves what lies between a number that failed and the lowest that kept.
+fn lower(number: u64, keeps: &mut dyn FnMut(u64) -> bool) {
+    if number == 0 || keeps(0) {
+        return;
+    }
+    let (mut failed, mut kept) = (0, number);
+    while kept - failed > 1 {
+        let middle = failed + (kept - failed) / 2;
+        if keeps(middle) {
+            kept = middle;
+        } else {
+            failed = middle;
+        }
+    }
+}
