@@ -1,4 +1,4 @@
-//! Makes a script that shows a difference as short as it will go: fewer steps, shorter profiles, lower numbers.
+//! Makes a script that shows a difference as short as it will go: fewer steps, shorter profiles, earlier times, lower numbers.
 
 use std::time::{Duration, Instant};
 
@@ -19,6 +19,7 @@ pub fn shrink(mut script: Vec<Step>, mut differs: impl FnMut(&[Step]) -> Option<
         script = fewer(script, &mut |fewer| keeps(fewer).is_some());
         for place in 0..script.len() {
             shorten_profile(&mut script, place, &mut |script| keeps(script).is_some());
+            move_earlier(&mut script, place, &mut |script| keeps(script).is_some());
             lower_numbers(&mut script, place, &mut |script| keeps(script).is_some());
         }
         if script == before {
@@ -64,6 +65,26 @@ fn shorten_profile(script: &mut [Step], place: usize, keeps: &mut dyn FnMut(&[St
     fewer(lines, &mut |lines| replaced(script, place, Step::arm(lines.concat()), keeps));
     let bytes = script[place].profile.clone();
     fewer(bytes, &mut |bytes| replaced(script, place, Step::arm(bytes.to_vec()), keeps));
+}
+
+/// Moves a step with a time, and those after it, to earlier times by the same stretch.
+fn move_earlier(script: &mut [Step], place: usize, keeps: &mut dyn FnMut(&[Step]) -> bool) {
+    let has_time = |step: &Step| matches!(step.kind, Kind::Order | Kind::Lockout | Kind::Offer | Kind::Remaining);
+    if !has_time(&script[place]) {
+        return;
+    }
+    lower(script[place].numbers[0], &mut |time| {
+        let stretch = script[place].numbers[0] - time;
+        let mut moved = script.to_vec();
+        for step in moved[place..].iter_mut().filter(|step| has_time(step)) {
+            step.numbers[0] = step.numbers[0].saturating_sub(stretch);
+        }
+        let kept = keeps(&moved);
+        if kept {
+            script.clone_from_slice(&moved);
+        }
+        kept
+    });
 }
 
 /// Lowers each number of a step.

@@ -53,6 +53,25 @@ fn a_wrong_number_in_memory_is_found_and_made_short() {
     assert_eq!(lines[1], "order 1001 0 3");
 }
 
+/// Counts a fill of one millisecond too long ago in Remaining.
+fn counts_too_long(step: &Step, second: &mut Lent, row: &mut Row) {
+    let [time, rule, ..] = step.numbers;
+    let Some(armed) = &second.unit().armed else { return };
+    let window = armed.profile.rules.get(rule as usize).and_then(|rule| rule.window);
+    if step.kind == Kind::Remaining && row[0] == 0 && window.is_some_and(|window| armed.log.iter().any(|entry| entry.time + window == time)) {
+        row[1] = 0;
+    }
+}
+
+#[test]
+fn times_that_hang_together_are_lowered_together() {
+    let (text, difference) = found(counts_too_long);
+    let lines: Vec<&str> = text.lines().collect();
+    assert_eq!(lines.len(), 3, "{text}");
+    assert!(lines[1] == "offer 0 0 0 1 1" && lines[2].starts_with("remaining 1"), "{text}");
+    assert!(matches!(difference, Difference::Answer { library: [0, _, 0, 0, 0], second: [0, 0, 0, 0, 0] }), "{difference}");
+}
+
 /// Takes a state whose firm mark is 2 for a sound one.
 fn overlooks_a_mark(step: &Step, second: &mut Lent, row: &mut Row) {
     if step.kind == Kind::Status && row[0] == 2 && second.numbers()[6] == 2 {
