@@ -1,6 +1,7 @@
 //! The proved library linked into a native program: its exported functions behind safe ones, and its comparison with the second program.
 
 pub mod pair;
+pub mod records;
 pub mod run;
 pub mod scripts;
 pub mod shrink;
