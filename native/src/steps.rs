@@ -5,6 +5,7 @@ use std::collections::VecDeque;
 use second::gen::{self, Call, Maker, Random};
 use second::lent::Lent;
 use second::memory::{LOG, ROOTS, RULES, TOTALS};
+use second::unit::LOG_PLACES;
 use second::LAST_TIME;
 
 use crate::scripts::{Kind, Step};
@@ -46,8 +47,24 @@ impl Day {
         for _ in 0..day.random.below(6) {
             day.queue.push_back(Step::arm(gen::damaged_profile(day.random.number())));
         }
+        if day.random.once_in(8) {
+            day.fill_the_log();
+        }
         day.queue.push_back(Step::arm(gen::valid_profile(day.random.number())));
         day
+    }
+
+    /// Arms with wide limits, and fills the log or leaves a place or two.
+    fn fill_the_log(&mut self) {
+        let [window, other] = [(); 2].map(|_| self.random.pick(&[100, 101, 1_000, 60_000, 600_000, 86_400_000]));
+        let count = self.random.pick(&[511, 512, 513, 1_000_000_000]);
+        let profile = format!("FULL,rate_vol,X,1000000000,{window}\nFULL,rate_count,,{count},{other},T\nFULL,abs_vol,Y,600,,,C,F");
+        self.queue.push_back(Step::arm(profile.into_bytes()));
+        let mut time = self.random.below(1_000);
+        for _ in 0..self.random.between(509, 514) {
+            time += u64::from(self.random.once_in(20));
+            self.queue.push_back(Step::new(Kind::Offer, &[time, self.random.below(2), self.random.below(4), 1, 1]));
+        }
     }
 
     /// The next step, by how the second program stands; none when the day is over.
@@ -73,7 +90,11 @@ impl Day {
                 // what is unsound may still be taken back later
                 self.repair = if unsound { repair } else { Vec::new() };
                 let usual = self.usual(second);
-                let step = if choice < 25 { self.with_any_number(usual) } else { usual };
+                let step = match choice {
+                    15..=24 => self.with_any_number(usual),
+                    25..=64 => self.when_the_oldest_leaves(usual, second),
+                    _ => usual,
+                };
                 self.queue.push_back(step);
             }
         }
@@ -92,6 +113,19 @@ impl Day {
             Call::Status => Step::new(Kind::Status, &[]),
             Call::Text { verdict, room } => Step::new(Kind::Text, &[verdict, room]),
         }
+    }
+
+    /// An offer on a full log at the time at which its oldest entry leaves, or one millisecond beside it; other calls as they are.
+    fn when_the_oldest_leaves(&mut self, mut step: Step, second: &mut Lent) -> Step {
+        let Some(armed) = &second.unit().armed else { return step };
+        let (oldest, longest) = (armed.log.front(), armed.profile.longest_window());
+        if let (Kind::Offer, LOG_PLACES, Some(oldest), Some(longest)) = (step.kind, armed.log.len(), oldest, longest) {
+            let time = oldest.time + longest - 1 + self.random.below(3);
+            if (armed.clock..=LAST_TIME).contains(&time) {
+                step.numbers[0] = time;
+            }
+        }
+        step
     }
 
     /// The call with any number in one of its places, at times in more.

@@ -9,7 +9,7 @@ use crate::scripts::{Kind, Step};
 use crate::SIZE;
 
 /// What has to come up at least once, beside each refusal from 1 to 15, in groups that are printed a line each.
-const WANTED: [(&str, &[&str]); 9] = [
+const WANTED: [(&str, &[&str]); 10] = [
     ("calls", &["arm", "clear", "order", "lockout", "offer", "remaining", "status", "text"]),
     ("offers", &["granted whole", "cut above 0", "cut to 0", "under a locked firm", "under a locked root"]),
     ("trips", &["of a root", "of the firm", "of both", "of an absolute rule just reached"]),
@@ -18,6 +18,7 @@ const WANTED: [(&str, &[&str]); 9] = [
     ("offers when a window", &["ended 1 ms ago", "ends", "ends in 1 ms"]),
     ("armed with", &["256 rules", "64 roots", "10 firm rules", "6 rules on a unit", "firm rules alone"]),
     ("damaged states", &["sound", "unsound", "with mark 0", "taken back"]),
+    ("offers on a full log when the oldest entry", &["left 1 ms ago", "leaves", "leaves in 1 ms"]),
     ("lent numbers", &["0", "1", "1865", "other short", "1866", "1867", "more"]),
 ];
 /// The groups by their places.
@@ -29,7 +30,8 @@ const LOCKOUTS: usize = 4;
 const WINDOWS: usize = 5;
 const PROFILES: usize = 6;
 const DAMAGED: usize = 7;
-const LENT: usize = 8;
+const OLDEST: usize = 8;
+const LENT: usize = 9;
 
 /// Counts of what came up.
 #[derive(Default)]
@@ -106,8 +108,12 @@ impl Tally {
                 armed.log.get(place).is_some_and(|entry| entry.time == begin)
             })
         };
-        let ends = [time.saturating_sub(1), time, time.saturating_add(1)].map(ends_at);
+        let times = [time.saturating_sub(1), time, time.saturating_add(1)];
+        let ends = times.map(ends_at);
+        let full = armed.log.len() == LOG_PLACES;
+        let leaves = armed.log.front().zip(armed.profile.longest_window()).map(|(oldest, longest)| oldest.time + longest);
         (0..3).filter(|place| ends[*place]).for_each(|place| self.see(WINDOWS, place));
+        (0..3).filter(|place| full && leaves == Some(times[*place])).for_each(|place| self.see(OLDEST, place));
     }
 
     fn see_profile(&mut self, second: &mut Lent) {
