@@ -1,6 +1,8 @@
 //! The proved library linked into a native program: its exported functions behind safe ones, and its comparison with the second program.
 
+pub mod damage;
 pub mod pair;
+pub mod profiles;
 pub mod records;
 pub mod run;
 pub mod scripts;

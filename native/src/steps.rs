@@ -4,18 +4,13 @@ use std::collections::VecDeque;
 
 use second::gen::{self, Call, Maker, Random};
 use second::lent::Lent;
-use second::memory::{LOG, ROOTS, RULES, TOTALS};
 use second::unit::LOG_PLACES;
 use second::LAST_TIME;
 
+use crate::damage::{any_number, damage};
+use crate::profiles::clashing;
 use crate::scripts::{Kind, Step};
 use crate::SIZE;
-
-/// Numbers at the ends of ranges and just past them; those of the state, of limits, windows, premiums and contracts.
-const ENDS: [u64; 28] = [
-    0, 1, 2, 3, 4, 63, 64, 65, 99, 100, 255, 256, 257, 511, 512, 513, 1_000_000, 1_000_001, 86_399_999, 86_400_000, 86_400_001, 100_000_000,
-    100_000_001, 1_000_000_000, 1_000_000_001, 100_000_000_000, 1_000_000_000_000_000, 1_000_000_000_000_001,
-];
 
 /// Makes the steps of a day.
 pub struct Day {
@@ -44,8 +39,11 @@ impl Day {
                 day.queue.push_back(Step::new(Kind::Damage, &[place, day.random.number()]));
             }
         }
-        for _ in 0..day.random.below(6) {
-            day.queue.push_back(Step::arm(gen::damaged_profile(day.random.number())));
+        for _ in 0..day.random.below(20) {
+            let damaged = gen::damaged_profile(day.random.number());
+            let clashing = clashing(&mut day.random);
+            day.queue.push_back(Step::arm(if day.random.once_in(4) { damaged } else { clashing }));
+            day.queue.push_back(Step::new(Kind::Clear, &[]));
         }
         if day.random.once_in(8) {
             day.fill_the_log();
@@ -84,8 +82,7 @@ impl Day {
             0..=199 if unsound && !repair.is_empty() => self.queue.extend(repair),
             0..=59 if unsound => self.clear_and_arm(),
             0 => self.lend_less(second),
-            1..=12 => self.damage(second),
-            13..=14 => self.exchange(second),
+            1..=14 => self.damage(second),
             choice => {
                 // what is unsound may still be taken back later
                 self.repair = if unsound { repair } else { Vec::new() };
@@ -132,17 +129,9 @@ impl Day {
     fn with_any_number(&mut self, mut step: Step) -> Step {
         let places = step.own().len() as u64;
         for _ in 0..self.random.pick(&[1, 1, 2, 5]).min(places) {
-            step.numbers[self.random.below(places) as usize] = self.any_number();
+            step.numbers[self.random.below(places) as usize] = any_number(&mut self.random);
         }
         step
-    }
-
-    /// A number of any size, or one at the end of a range.
-    fn any_number(&mut self) -> u64 {
-        let wide = self.random.number();
-        let narrow = wide >> self.random.below(64);
-        let end = self.random.pick(&ENDS);
-        self.random.pick(&[wide, narrow, end, end, u64::MAX])
     }
 
     /// Clears the memory and arms it anew.
@@ -164,81 +153,12 @@ impl Day {
         self.queue.push_back(Step::new(Kind::Length, &[size + self.random.pick(&[0, 0, 1, 1, 7, 100])]));
     }
 
-    /// Changes one number of the state, at times up to three, and looks at it.
+    /// Damages the state and looks at it; what takes the damage back is kept.
     fn damage(&mut self, second: &mut Lent) {
-        for _ in 0..self.random.pick(&[1, 1, 1, 2, 3]) {
-            let (first, length) = self.table(second);
-            let place = first + self.random.below(length) as usize;
-            let number = self.damaged(second, place);
-            self.put(second, place, number);
+        for (place, number) in damage(&mut self.random, second) {
+            self.queue.push_back(Step::new(Kind::Damage, &[place as u64, number]));
+            self.repair.push(Step::new(Kind::Damage, &[place as u64, second.numbers()[place]]));
         }
         self.queue.push_back(Step::new(Kind::Status, &[]));
-    }
-
-    /// Exchanges two numbers of one table, or two pairs of numbers, and looks at them.
-    fn exchange(&mut self, second: &mut Lent) {
-        let (first, length) = self.table(second);
-        let wide = self.random.pick(&[1, 2]);
-        let places = [(); 2].map(|_| first + (self.random.below(length) / wide * wide) as usize);
-        for side in 0..wide as usize {
-            let [one, other] = places.map(|place| (place + side).min(SIZE - 1));
-            let numbers = [second.numbers()[one], second.numbers()[other]];
-            self.put(second, one, numbers[1]);
-            self.put(second, other, numbers[0]);
-        }
-        self.queue.push_back(Step::new(Kind::Status, &[]));
-    }
-
-    /// Plans that a place gets a number, and that it gets its own again.
-    fn put(&mut self, second: &Lent, place: usize, number: u64) {
-        self.queue.push_back(Step::new(Kind::Damage, &[place as u64, number]));
-        self.repair.insert(0, Step::new(Kind::Damage, &[place as u64, second.numbers()[place]]));
-    }
-
-    /// Where a table of the state begins and how many numbers of it are used, with one beyond at times.
-    fn table(&mut self, second: &mut Lent) -> (usize, u64) {
-        let Some(armed) = &second.unit().armed else { return (0, SIZE as u64) };
-        let (roots, rules, log) = (armed.roots.len(), armed.profile.rules.len(), armed.log.len());
-        let tables = [(0, 10), (ROOTS, roots), (RULES, 2 * rules), (TOTALS, rules), (LOG, 2 * log), (LOG, 2 * log), (0, SIZE)];
-        let (first, length) = self.random.pick(&tables);
-        let beyond = usize::from(length == 0 || self.random.once_in(20) && first + length < SIZE);
-        (first, (length + beyond) as u64)
-    }
-
-    /// Another number for a place: a bit, a unit of some field, a field at an end, a total near its limit, or any number.
-    fn damaged(&mut self, second: &mut Lent, place: usize) -> u64 {
-        let number = second.numbers()[place];
-        let bit = 1 << self.random.below(64);
-        match self.random.below(8) {
-            0 => number ^ bit,
-            1 => number.wrapping_add(self.random.pick(&[1, u64::MAX])),
-            2 => number.wrapping_add(self.random.pick(&[bit, bit.wrapping_neg()])),
-            3 => self.any_number(),
-            4 if place == 1 => self.random.between(number, LAST_TIME),
-            5 if (TOTALS..LOG).contains(&place) => self.total_near(second, place - TOTALS),
-            _ => self.other_field(number, place),
-        }
-    }
-
-    /// A total about as large as the limit of the rule, or any number if there is no such rule.
-    fn total_near(&mut self, second: &mut Lent, line: usize) -> u64 {
-        let rule = second.unit().armed.as_ref().and_then(|armed| armed.profile.rules.get(line));
-        let limit = rule.map_or(0, |rule| rule.limit);
-        let less = self.random.pick(&[0, 1, 2, 9, 50]);
-        self.random.pick(&[limit.saturating_sub(less), limit.saturating_sub(less), limit + less])
-    }
-
-    /// The number with another value in one of its fields.
-    fn other_field(&mut self, number: u64, place: usize) -> u64 {
-        let fields: &[(u32, u32)] = match place {
-            RULES..TOTALS if place % 2 == 0 => &[(0, 27), (27, 37)],
-            RULES..TOTALS => &[(0, 2), (2, 6), (8, 2), (10, 1), (11, 2)],
-            LOG.. if place % 2 == 0 => &[(0, 1), (1, 1), (2, 2), (4, 6), (10, 27)],
-            LOG.. => &[(0, 20), (20, 27)],
-            _ => &[(0, 64), (0, 8), (8, 8), (0, 6)],
-        };
-        let (low, width) = self.random.pick(fields);
-        let mask = u64::MAX >> (64 - width);
-        number & !(mask << low) | (self.any_number() & mask) << low
     }
 }

@@ -3,6 +3,7 @@
 use std::time::Duration;
 
 use native::pair::{as_it_is, Pair};
+use native::profiles::clashing;
 use native::run::{rate, report, run};
 use native::scripts::{Kind, Step};
 use native::SIZE;
@@ -60,13 +61,19 @@ fn each_single_bit_of_a_state_is_judged_alike() {
 #[test]
 fn profiles_are_read_alike() {
     let mut pair = Pair::new(as_it_is);
-    let mut seen = std::collections::BTreeSet::new();
-    for seed in 0..20_000 {
-        let profile = if seed % 2 == 0 { gen::profile(seed) } else { gen::damaged_profile(seed) };
-        seen.insert(agree(&mut pair, Step::arm(profile))[0]);
+    let mut random = gen::Random::new(1);
+    let mut seen = [0; 12];
+    for seed in 0..80_000 {
+        let profile = match seed % 8 {
+            0 => gen::profile(seed),
+            1 => gen::damaged_profile(seed),
+            _ => clashing(&mut random),
+        };
+        seen[agree(&mut pair, Step::arm(profile))[0] as usize] += 1;
         agree(&mut pair, Step::new(Kind::Clear, &[]));
     }
-    assert!(seen.iter().eq(&[0, 5, 6, 7, 8, 9, 10, 11]), "{seen:?}");
+    println!("{seen:?}");
+    assert!([0, 6, 7, 8, 9, 10, 11].iter().all(|refusal| seen[*refusal] > 1_000) && seen[5] > 50, "{seen:?}");
 }
 
 #[test]
