@@ -1,6 +1,7 @@
 //! The proved library and the second program side by side, on memory of their own each.
 
 use std::fmt;
+use std::panic::{catch_unwind, AssertUnwindSafe};
 
 use second::lent::{Lent, Row};
 use second::unit;
@@ -24,6 +25,8 @@ pub enum Difference {
     Answer { library: Row, second: Row },
     Memory { place: usize, library: u64, second: u64 },
     Room { library: Vec<u8>, second: Vec<u8> },
+    /// The second program did not come to an answer.
+    Panic { library: Row },
 }
 
 impl fmt::Display for Difference {
@@ -36,6 +39,7 @@ impl fmt::Display for Difference {
             Difference::Room { library, second } => {
                 write!(f, "in the room the library leaves {}, the second program {}", library.escape_ascii(), second.escape_ascii())
             }
+            Difference::Panic { library } => write!(f, "the library answers {library:?}, the second program panics"),
         }
     }
 }
@@ -82,7 +86,8 @@ impl Pair {
         }
         let [library_room, second_room] = &mut rooms;
         let library = run_library(step, &mut self.memory[..self.second.length()], library_room);
-        let mut second = run_second(step, &mut self.second, second_room);
+        let answered = catch_unwind(AssertUnwindSafe(|| run_second(step, &mut self.second, second_room)));
+        let Ok(mut second) = answered else { return Err(Difference::Panic { library }) };
         (self.twist)(step, &mut self.second, &mut second);
         self.compare(library, second, rooms)
     }

@@ -5,7 +5,7 @@ use std::time::{Duration, Instant};
 use crate::scripts::{Kind, Step};
 
 /// How long a script may be worked on.
-const PATIENCE: Duration = Duration::from_secs(60);
+const PATIENCE: Duration = Duration::from_secs(120);
 
 /// Shortens the script while `differs` gives the place of a step that shows some difference.
 pub fn shrink(mut script: Vec<Step>, mut differs: impl FnMut(&[Step]) -> Option<usize>) -> Vec<Step> {
@@ -16,6 +16,8 @@ pub fn shrink(mut script: Vec<Step>, mut differs: impl FnMut(&[Step]) -> Option<
         if let Some(place) = keeps(&script) {
             script.truncate(place + 1);
         }
+        script = fewer(script, &mut |fewer| keeps(fewer).is_some());
+        lower_alike(&mut script, &mut |script| keeps(script).is_some());
         script = fewer(script, &mut |fewer| keeps(fewer).is_some());
         for place in 0..script.len() {
             shorten_profile(&mut script, place, &mut |script| keeps(script).is_some());
@@ -44,6 +46,22 @@ fn fewer<T: Clone>(mut items: Vec<T>, keeps: &mut dyn FnMut(&[T]) -> bool) -> Ve
         many /= 2;
     }
     items
+}
+
+/// Puts 0 or 1 into one place of all steps of a kind at once, or of all but the last step.
+fn lower_alike(script: &mut [Step], keeps: &mut dyn FnMut(&[Step]) -> bool) {
+    for kind in [Kind::Offer, Kind::Order, Kind::Lockout, Kind::Remaining] {
+        for (at, number, spared) in (0..5).flat_map(|at| [(at, 0, 0), (at, 0, 1), (at, 1, 0), (at, 1, 1)]) {
+            let mut lowered = script.to_vec();
+            let changed = script.len().saturating_sub(spared);
+            for step in lowered[..changed].iter_mut().filter(|step| step.kind == kind && at < step.own().len()) {
+                step.numbers[at] = step.numbers[at].min(number);
+            }
+            if keeps(&lowered) {
+                script.clone_from_slice(&lowered);
+            }
+        }
+    }
 }
 
 /// Puts another step into its place if the script then keeps what is wanted.

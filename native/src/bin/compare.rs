@@ -8,6 +8,8 @@ use native::run::{rate, report, run};
 use native::scripts::parse;
 
 fn main() -> ExitCode {
+    // a panic of the second program is a difference like any other, and is shown as a script
+    std::panic::set_hook(Box::new(|_| {}));
     let words: Vec<String> = std::env::args().skip(1).collect();
     let words: Vec<&str> = words.iter().map(String::as_str).collect();
     let number = |place: usize, usual: u64| words.get(place).map_or(Some(usual), |word| word.parse().ok());
