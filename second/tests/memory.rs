@@ -78,7 +78,7 @@ fn each_part_of_the_sentence_can_fail() {
     let unsound: &[&[(usize, u64)]] = &[
         &[(1, 86_400_000)],                                 // the clock is no time
         &[(1, 11)],                                         // an entry is later than the clock
-        &[(2, 0)], &[(2, 0x4142_4344_45)], &[(2, 0x61)],    // no firm, one too long, a small letter
+        &[(2, 0)], &[(2, 0x41_4243_4445)], &[(2, 0x61)],    // no firm, one too long, a small letter
         &[(3, 1)], &[(3, 3)], &[(3, 65)], &[(3, u64::MAX)], // roots that have no rule, or a rule without root
         &[(10, 0x51)], &[(10, 0)], &[(10, 0x41 << 48)],     // two roots of one name, none, seven bytes
         &[(10, 0x51), (11, 0x58_595A), (74 + 3, 1 << 11 | 2 << 8 | 1 << 2 | 3)], // root 1 is named before root 0
