@@ -1,4 +1,14 @@
-//! The proved library linked into a native program: its exported functions behind safe ones.
+//! The proved library linked into a native program: its exported functions behind safe ones, and its comparison with the second program.
+
+pub mod damage;
+pub mod pair;
+pub mod profiles;
+pub mod records;
+pub mod run;
+pub mod scripts;
+pub mod shrink;
+pub mod steps;
+pub mod tally;
 
 extern "C" {
     fn mbrumzheg_arm(m: *mut u64, len: usize, text: *const u8, text_len: usize, row: *mut [u64; 5]);

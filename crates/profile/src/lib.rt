@@ -247,10 +247,11 @@ fn read_lines(
     };
     let mut at: usize = 0;
     while at < text.len() {
-        let end = text::find(text, at, b'\n');
+        let line = reader::line_from(text, at);
+        let end = at + line.len();
         // Every line before this one gave a rule.
         let number = tally.rules as u64 + 1;
-        match line::read_line(firm, &text[at..end]) {
+        match line::read_line(firm, line) {
             Line::Refused(fault) => return Reading::Refused {
                 number: fault,
                 line: number,
@@ -286,8 +287,7 @@ pub fn read(text: &[u8]) -> Scan
             rules,
         };
     }
-    let end = text::find(text, 0, b'\n');
-    let firm = line::firm_of(&text[..end]);
+    let firm = line::firm_of(reader::line_from(text, 0));
     let reading = read_lines(text, firm, &mut roots, &mut rules, &mut counts);
     Scan {
         reading,

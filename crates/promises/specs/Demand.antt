@@ -13,11 +13,12 @@ use Rattle.rules.specs.declared.Level.{Level}
 use Rattle.rules.specs.declared.Kind.{Kind}
 use Rattle.rules.specs.declared.Kind.the-variants.{Rate, Absolute}
 use Rattle.rules.specs.declared.Rule.{Rule}
+use Rattle.state.specs.State.{State}
 use Rattle.machine.specs.declared.Answer.{Answer}
 use Rattle.machine.specs.declared.Answer.the-variants.{Refused, Judged, Left, Standing}
 use Rattle.machine.specs.Machine.{Call, order, lockout, offer, remaining, status, isLocked, coversOffer, zeroing, lifting, levelNamed, sameLevel, anyOf}
 use Rattle.machine.specs.declared.Offer.{Offer}
-use Rattle.promises.specs.Run.{Event, Run}
+use Rattle.promises.specs.Run.{Event}
 
 -- ---- what was done
 
@@ -147,9 +148,9 @@ LockedBy rules level deeds =
 
 -- ---- the demand
 
--- what is promised of a run on a unit that was armed with these rules
-pub record Demand3 (rules : List Rule) (run : Run) : Type 0 where
+-- what is promised of a unit that was armed with these rules, by its state now and its history since
+pub record Demand3 (rules : List Rule) (now : State) (history : List Event) : Type 0 where
   -- the grants that any rule counts stay within its limit
-  pub sums : (rule : Rule) → List·Memᴰ rule rules → Within rule (deedsOf (run .history))
+  pub sums : (rule : Rule) → List·Memᴰ rule rules → Within rule (deedsOf history)
   -- the firm, and every root, is locked exactly if a trip or a lockout locked it and no reset has lifted that since
-  pub locksExactly : (level : Level) → (isLocked (run .now) level ≡ true) ↔ LockedBy rules level (deedsOf (run .history))
+  pub locksExactly : (level : Level) → (isLocked now level ≡ true) ↔ LockedBy rules level (deedsOf history)

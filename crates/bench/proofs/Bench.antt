@@ -1,0 +1,83 @@
+-- The bench table: every library that meets the contracts, given any memory that may be armed, does what each row wants. Assumes nothing.
+use Prim.Native.Nat.{ℕ, _^_}
+use mathlib.Core.Path.{_≡_, refl, sym, ap, ap₂, _∙_}
+use mathlib.Core.Bool.{true}
+use mathlib.Core.List.{List, [], _∷_, _++_, map}
+use lib.Dec.{ltb}
+use Rattle.laws.specs.Tests.{and-l, and-r}
+use Rattle.rules.specs.Allowance.{All}
+use Rattle.text.specs.Text.{bytes}
+use Rattle.tables.specs.Tables.{every}
+use Rattle.profile.specs.Profile.{Profile, outcomeOf}
+use Rattle.state.specs.State.{State, profileIn, decode, armedState}
+use Rattle.machine.specs.Machine.{Call, numbers}
+use Rattle.bench.specs.Lent.{Memory, Text, numbersIn, Sent}
+use Rattle.bench.specs.Library.{Library, Meets, Unarmed, refusalIn}
+use Rattle.bench.specs.Rows.{Row, Seen, callsOf, windowsOf, answersOf, seen, seenBy, wanted, Done}
+use Rattle.bench.specs.Table.{table, examples}
+use Rattle.bench.proofs.Words.{tested-below}
+use Rattle.bench.proofs.Runs.{same-profile, arm-accepted, arm-decoded, armed-answers}
+use Rattle.bench.proofs.Computed.{isText, isDay, fits, rows-fit, rows-right}
+
+-- calls that pass the test can be sent
+pub sendable : (calls : List Call) → isDay calls ≡ true → (day : List Sent) × (map (λ c. c .call) day ≡ calls)
+unfolding every
+sendable [] h = ([], refl)
+sendable (call ∷ calls) h =
+    let fit = every (λ x. ltb x (2 ^ 64)) (numbersIn call) in
+    let rest = sendable calls (and-r fit (isDay calls) h) in (
+      record { call = call; words = tested-below (2 ^ 64) (numbersIn call) (and-l fit (isDay calls) h) } ∷ rest .0,
+      ap (λ (more : List Call). call ∷ more) (rest .1),
+    )
+
+module _ (l : Library) (meets : Meets l) (m : Memory) (u : Unarmed m) where
+  module _ (t : Text) (ok : outcomeOf (t .now) .refusal ≡ 0) where
+    -- the text is accepted
+    accepted : refusalIn (l .arm m t .answer) ≡ outcomeOf (t .now) .refusal
+    accepted = ap refusalIn (meets .armAnswers m t) ∙ arm-accepted (m .now) (t .now) (u .long) (u .mark) ok ∙ sym ok
+
+    -- its rules are in the memory
+    windows : windowsOf (profileIn (decode (l .arm m t .memory .now)) .rules) ≡ windowsOf (outcomeOf (t .now) .profile .rules)
+    windows =
+        ap (λ (ys : List ℕ). windowsOf (profileIn (decode ys) .rules)) (meets .armLeaves m t)
+        ∙ ap (λ (s : State). windowsOf (profileIn s .rules)) (arm-decoded (m .now) (t .now) (u .long) (u .mark) ok)
+        ∙ ap (λ (p : Profile). windowsOf (p .rules)) (same-profile (outcomeOf (t .now) .profile))
+
+  -- a row whose text is accepted is seen as on the machine
+  as-machine : (row : Row) (t : Text) (day : List Sent) → t .now ≡ bytes (row .text) → map (λ c. c .call) day ≡ callsOf row
+      → outcomeOf (t .now) .refusal ≡ 0 → seenBy l m t day ≡ seen row
+  unfolding seen seenBy
+  as-machine row t day is sends ok =
+      λ i. record {
+        refusal = (accepted t ok ∙ ap (λ (text : List ℕ). outcomeOf text .refusal) is) i;
+        windows = (windows t ok ∙ ap (λ (text : List ℕ). windowsOf (outcomeOf text .profile .rules)) is) i;
+        answers =
+            ap (map numbers) (armed-answers l meets m t u ok day
+            ∙ ap₂ (λ (text : List ℕ) (calls : List Call). answersOf (armedState (outcomeOf text .profile)) calls) is sends) i;
+      }
+
+  -- a row that can be sent, and is right on the machine
+  done : (row : Row) → fits row ≡ true → seen row ≡ wanted row → Done l m row
+  unfolding seen wanted
+  done row f e =
+      let t : Text = record { now = bytes (row .text); bytes = tested-below 256 (bytes (row .text)) (and-l (isText (bytes (row .text))) (isDay (callsOf row)) f) } in
+      let day = sendable (callsOf row) (and-r (isText (bytes (row .text))) (isDay (callsOf row)) f) in
+      record {
+        text = t;
+        day = day .0;
+        isText = refl;
+        isDay = day .1;
+        right = as-machine row t (day .0) refl (day .1) (ap (λ (s : Seen). s .refusal) e) ∙ e;
+      }
+
+  all-done : (rows : List Row) → every fits rows ≡ true → map seen rows ≡ map wanted rows → All (Done l m) rows
+  unfolding every
+  all-done [] f e = tt
+  all-done (row ∷ rows) f e =
+      let first : seen row ≡ wanted row = cc in
+      let rest : map seen rows ≡ map wanted rows = cc in
+      (done row (and-l (fits row) (every fits rows) f) first, all-done rows (and-r (fits row) (every fits rows) f) rest)
+
+  -- B1 to B12, the examples and the slips
+  pub bench : All (Done l m) (table ++ examples)
+  bench = all-done (table ++ examples) rows-fit rows-right

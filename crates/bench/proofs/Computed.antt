@@ -1,0 +1,64 @@
+-- What the checker computes: each row of the bench table on the machine, from the profile's text to the last answer, and three offers of 40 under
+-- a limit of 100. Assumes nothing.
+use mathlib.Core.Path.{_≡_, refl}
+use Prim.Native.Nat.{ℕ, _^_}
+use mathlib.Core.Bool.{Bool, true, false, _&&_}
+use mathlib.Core.List.{List, [], _∷_, _++_, map}
+use lib.Dec.{ltb}
+use Rattle.laws.specs.Lists.{same}
+use Rattle.tables.specs.Tables.{every}
+use Rattle.bits.specs.Locks.{bit, withBit, withoutBit}
+use Rattle.text.specs.Text.{bytes, all, onto, pieces, indexOf, made, numeral, numberOf, nameOf}
+use Rattle.line.specs.Line.{typeOf, isAbsolute, limitsOf, limitOf, kindOf, timeOf, letterOf, malformed, otherFirm, outOfRange, levelClash, unitClash, faultOf, scopeOf, ruleOf, lineOf}
+use Rattle.profile.specs.Profile.{withRoot, rootsWith, numbered, joined, howMany, isFirmRule, onUnit, crowded, tooMany, afterLine, readOn, outcomeOf}
+use Rattle.rules.specs.Rules.{levelOf, covers, isRate, counts, countedOf, executions, added, ceiling, share}
+use Rattle.rules.specs.Resets.{zeroing, lifting}
+use Rattle.rules.specs.Allowance.{largest, allowance, trips}
+use Rattle.log.specs.Log.{unflagged, flagOf, entryShare, sumOf, keep, recent}
+use Rattle.made.specs.Parts.{hasRate}
+use Rattle.state.specs.State.{profileIn, armedState}
+use Rattle.machine.specs.Machine.{Call, offer, isTripped, isLockedOut, isLocked, verdictOf, wiped, resetState, ticked, counted, coversOffer, grantOf, anyOf, sameLevel, levelTrips, credited, windowOf, longest, entryOf, joinedLog, filled, logFull, firstOf, badTime, isRoot, refusalOf, leftOf, noAccount, judged, acted, unless, step, numbers}
+use Rattle.machine.specs.declared.Offer.{Offer}
+use Rattle.machine.specs.declared.Answer.the-variants.{Judged}
+use Rattle.bench.specs.Lent.{numbersIn}
+use Rattle.bench.specs.Rows.{Row, callsOf, answersOf, seen, wanted}
+use Rattle.bench.specs.Table.{table, examples}
+
+-- a row's text is of bytes, and its calls' numbers have 64 bits
+abbrev pub isText : List ℕ → Bool
+isText text = every (λ b. ltb b 256) text
+
+abbrev pub isDay : List Call → Bool
+isDay calls = every (λ c. every (λ x. ltb x (2 ^ 64)) (numbersIn c)) calls
+
+abbrev pub fits : Row → Bool
+fits row = isText (bytes (row .text)) && isDay (callsOf row)
+
+-- a profile of one rule, 100 contracts in all, and an offer of 40
+abbrev pub hundred : List ℕ
+hundred = bytes "ABCD,abs_vol,XYZ,100"
+
+abbrev pub forty : Offer
+forty = record { time = 0; root = 0; unit = 0; premium = 10_000; contracts = 40 }
+
+-- every row is seen as wanted; of three such offers the first two are granted whole, and of the third 20
+computed : (every fits (table ++ examples) ≡ true)
+    × (map seen (table ++ examples) ≡ map wanted (table ++ examples))
+    × (outcomeOf hundred .refusal ≡ 0)
+    × (answersOf (armedState (outcomeOf hundred .profile)) (offer forty ∷ offer forty ∷ offer forty ∷ [])
+    ≡ Judged 0 40 false false ∷ Judged 0 40 false false ∷ Judged 0 20 true false ∷ [])
+unfolding every table examples seen wanted answersOf same bit withBit withoutBit all onto pieces indexOf made numeral numberOf nameOf typeOf isAbsolute limitsOf limitOf kindOf timeOf letterOf malformed otherFirm outOfRange levelClash unitClash faultOf scopeOf ruleOf lineOf withRoot rootsWith numbered joined howMany isFirmRule onUnit crowded tooMany afterLine readOn outcomeOf levelOf covers isRate counts countedOf executions added ceiling share zeroing lifting largest allowance trips unflagged flagOf entryShare sumOf keep recent hasRate profileIn armedState isTripped isLockedOut isLocked verdictOf wiped resetState ticked counted coversOffer grantOf anyOf sameLevel levelTrips credited windowOf longest entryOf joinedLog filled logFull firstOf badTime isRoot refusalOf leftOf noAccount judged acted unless step numbers
+computed = (refl, refl, refl, refl)
+
+pub rows-fit : every fits (table ++ examples) ≡ true
+rows-fit = computed .0
+
+pub rows-right : map seen (table ++ examples) ≡ map wanted (table ++ examples)
+rows-right = computed .1
+
+pub hundred-read : outcomeOf hundred .refusal ≡ 0
+hundred-read = computed .2
+
+pub forties : answersOf (armedState (outcomeOf hundred .profile)) (offer forty ∷ offer forty ∷ offer forty ∷ [])
+    ≡ Judged 0 40 false false ∷ Judged 0 40 false false ∷ Judged 0 20 true false ∷ []
+forties = computed .3

@@ -1,0 +1,50 @@
+-- What the contracts of the state calls say, word for word: these are the equations that `Meets` asks of a library. Assumes nothing.
+use mathlib.Core.Path.{_≡_, refl}
+use contract.Lifetimes.{Lfts}
+use denote.Triple.Clauses.{AtExit}
+use borrow.Fn.Kinds.{Dens, resT, endedOf}
+use Rattle.machine.specs.Machine.{order, lockout, offer, remaining, status}
+use Rattle.calls.specs.Calls.{armAnswer, armMemory, callAnswer, callMemory}
+use Rattle.calls.proofs.arm.Kinds as arm-kinds
+use Rattle.calls.proofs.arm.Reads as arm-reads
+use Rattle.calls.proofs.order.Kinds as order-kinds
+use Rattle.calls.proofs.order.Reads as order-reads
+use Rattle.calls.proofs.lockout.Kinds as lockout-kinds
+use Rattle.calls.proofs.lockout.Reads as lockout-reads
+use Rattle.calls.proofs.offer.Kinds as offer-kinds
+use Rattle.calls.proofs.offer.Reads as offer-reads
+use Rattle.calls.proofs.remaining.Kinds as remaining-kinds
+use Rattle.calls.proofs.remaining.Reads as remaining-reads
+use Rattle.calls.proofs.status.Kinds as status-kinds
+use Rattle.calls.proofs.status.Reads as status-reads
+
+pub arm-says : (κs : Lfts 2) (args : Dens κs arm-kinds.ps) (x : resT arm-kinds.r κs .Denot) (e : AtExit (endedOf 2 arm-kinds.ps arm-kinds.r) κs)
+    → arm-reads.Learnt κs args x e
+    ≡ ((x ≡ armAnswer (args .0 .now) (args .1 .0 .now)) × (e .0 .now ≡ armMemory (args .0 .now) (args .1 .0 .now)))
+arm-says κs args x e = refl
+
+pub order-says : (κs : Lfts 1) (args : Dens κs order-kinds.ps) (x : resT order-kinds.r κs .Denot) (e : AtExit (endedOf 1 order-kinds.ps order-kinds.r) κs)
+    → order-reads.Learnt κs args x e
+    ≡ ((x ≡ callAnswer (args .0 .now) (order (args .1 .0) (args .1 .1 .0) (args .1 .1 .1 .0)))
+    × (e .0 .now ≡ callMemory (args .0 .now) (order (args .1 .0) (args .1 .1 .0) (args .1 .1 .1 .0))))
+order-says κs args x e = refl
+
+pub lockout-says : (κs : Lfts 1) (args : Dens κs lockout-kinds.ps) (x : resT lockout-kinds.r κs .Denot) (e : AtExit (endedOf 1 lockout-kinds.ps lockout-kinds.r) κs)
+    → lockout-reads.Learnt κs args x e
+    ≡ ((x ≡ callAnswer (args .0 .now) (lockout (args .1 .0) (args .1 .1 .0) (args .1 .1 .1 .0)))
+    × (e .0 .now ≡ callMemory (args .0 .now) (lockout (args .1 .0) (args .1 .1 .0) (args .1 .1 .1 .0))))
+lockout-says κs args x e = refl
+
+pub offer-says : (κs : Lfts 1) (args : Dens κs offer-kinds.ps) (x : resT offer-kinds.r κs .Denot) (e : AtExit (endedOf 1 offer-kinds.ps offer-kinds.r) κs)
+    → offer-reads.Learnt κs args x e
+    ≡ ((x ≡ callAnswer (args .0 .now) (offer (args .1 .0))) × (e .0 .now ≡ callMemory (args .0 .now) (offer (args .1 .0))))
+offer-says κs args x e = refl
+
+-- Remaining and Status borrow the memory without writing it; the calls' meaning keeps it too (`remaining-keeps`, `status-keeps` of `calls`)
+pub remaining-says : (κs : Lfts 1) (args : Dens κs remaining-kinds.ps) (x : resT remaining-kinds.r κs .Denot) (e : AtExit (endedOf 1 remaining-kinds.ps remaining-kinds.r) κs)
+    → remaining-reads.Learnt κs args x e ≡ (x ≡ callAnswer (args .0 .now) (remaining (args .1 .0) (args .1 .1 .0)))
+remaining-says κs args x e = refl
+
+pub status-says : (κs : Lfts 1) (args : Dens κs status-kinds.ps) (x : resT status-kinds.r κs .Denot) (e : AtExit (endedOf 1 status-kinds.ps status-kinds.r) κs)
+    → status-reads.Learnt κs args x e ≡ (x ≡ callAnswer (args .0 .now) status)
+status-says κs args x e = refl

@@ -1,0 +1,44 @@
+-- The contracts of `calls` determine what a call gives: one theorem for each public function. Assumes nothing.
+use mathlib.Core.Path.{refl}
+use Rattle.bench.specs.Determines.{Determines}
+use Rattle.bench.proofs.One.{one}
+use Rattle.calls.proofs.arm.Kinds as arm-kinds
+use Rattle.calls.proofs.arm.Reads as arm-reads
+use Rattle.calls.proofs.clear.Kinds as clear-kinds
+use Rattle.calls.proofs.clear.Reads as clear-reads
+use Rattle.calls.proofs.status.Kinds as status-kinds
+use Rattle.calls.proofs.status.Reads as status-reads
+use Rattle.calls.proofs.order.Kinds as order-kinds
+use Rattle.calls.proofs.order.Reads as order-reads
+use Rattle.calls.proofs.lockout.Kinds as lockout-kinds
+use Rattle.calls.proofs.lockout.Reads as lockout-reads
+use Rattle.calls.proofs.offer.Kinds as offer-kinds
+use Rattle.calls.proofs.offer.Reads as offer-reads
+use Rattle.calls.proofs.remaining.Kinds as remaining-kinds
+use Rattle.calls.proofs.remaining.Reads as remaining-reads
+use Rattle.calls.proofs.text.Kinds as text-kinds
+use Rattle.calls.proofs.text.Reads as text-reads
+
+pub arm : Determines 2 arm-kinds.ps arm-kinds.r arm-reads.Asked arm-reads.Learnt
+arm κs args asked x y u v p q = (one (p .0) (q .0), λ i. (one (p .1) (q .1) i, v .1))
+
+pub clear : Determines 1 clear-kinds.ps clear-kinds.r clear-reads.Asked clear-reads.Learnt
+clear κs args asked x y u v p q = (one (p .0) (q .0), λ i. (one (p .1) (q .1) i, v .1))
+
+pub status : Determines 1 status-kinds.ps status-kinds.r status-reads.Asked status-reads.Learnt
+status κs args asked x y u v p q = (one p q, refl)
+
+pub order : Determines 1 order-kinds.ps order-kinds.r order-reads.Asked order-reads.Learnt
+order κs args asked x y u v p q = (one (p .0) (q .0), λ i. (one (p .1) (q .1) i, v .1))
+
+pub lockout : Determines 1 lockout-kinds.ps lockout-kinds.r lockout-reads.Asked lockout-reads.Learnt
+lockout κs args asked x y u v p q = (one (p .0) (q .0), λ i. (one (p .1) (q .1) i, v .1))
+
+pub offer : Determines 1 offer-kinds.ps offer-kinds.r offer-reads.Asked offer-reads.Learnt
+offer κs args asked x y u v p q = (one (p .0) (q .0), λ i. (one (p .1) (q .1) i, v .1))
+
+pub remaining : Determines 1 remaining-kinds.ps remaining-kinds.r remaining-reads.Asked remaining-reads.Learnt
+remaining κs args asked x y u v p q = (one p q, refl)
+
+pub text : Determines 1 text-kinds.ps text-kinds.r text-reads.Asked text-reads.Learnt
+text κs args asked x y u v p q = (one (p .0) (q .0), λ i. (v .0, (one (p .1) (q .1) i, v .1 .1)))

@@ -1,0 +1,44 @@
+-- The contracts of `capi` determine what a call gives: one theorem for each public function. Assumes nothing.
+use mathlib.Core.Path.{refl}
+use Rattle.bench.specs.Determines.{Determines}
+use Rattle.bench.proofs.One.{one}
+use Rattle.capi.proofs.mbrumzheg_arm.Kinds as mbrumzheg-arm-kinds
+use Rattle.capi.proofs.mbrumzheg_arm.Reads as mbrumzheg-arm-reads
+use Rattle.capi.proofs.mbrumzheg_clear.Kinds as mbrumzheg-clear-kinds
+use Rattle.capi.proofs.mbrumzheg_clear.Reads as mbrumzheg-clear-reads
+use Rattle.capi.proofs.mbrumzheg_status.Kinds as mbrumzheg-status-kinds
+use Rattle.capi.proofs.mbrumzheg_status.Reads as mbrumzheg-status-reads
+use Rattle.capi.proofs.mbrumzheg_text.Kinds as mbrumzheg-text-kinds
+use Rattle.capi.proofs.mbrumzheg_text.Reads as mbrumzheg-text-reads
+use Rattle.capi.proofs.mbrumzheg_order.Kinds as mbrumzheg-order-kinds
+use Rattle.capi.proofs.mbrumzheg_order.Reads as mbrumzheg-order-reads
+use Rattle.capi.proofs.mbrumzheg_offer.Kinds as mbrumzheg-offer-kinds
+use Rattle.capi.proofs.mbrumzheg_offer.Reads as mbrumzheg-offer-reads
+use Rattle.capi.proofs.mbrumzheg_lockout.Kinds as mbrumzheg-lockout-kinds
+use Rattle.capi.proofs.mbrumzheg_lockout.Reads as mbrumzheg-lockout-reads
+use Rattle.capi.proofs.mbrumzheg_remaining.Kinds as mbrumzheg-remaining-kinds
+use Rattle.capi.proofs.mbrumzheg_remaining.Reads as mbrumzheg-remaining-reads
+
+pub mbrumzheg-arm : Determines 3 mbrumzheg-arm-kinds.ps mbrumzheg-arm-kinds.r mbrumzheg-arm-reads.Asked mbrumzheg-arm-reads.Learnt
+mbrumzheg-arm κs args asked x y u v p q = (refl, λ i. (one (p .0) (q .0) i, (v .1 .0, (one (p .1) (q .1) i, v .1 .1 .1))))
+
+pub mbrumzheg-clear : Determines 2 mbrumzheg-clear-kinds.ps mbrumzheg-clear-kinds.r mbrumzheg-clear-reads.Asked mbrumzheg-clear-reads.Learnt
+mbrumzheg-clear κs args asked x y u v p q = (refl, λ i. (one (p .0) (q .0) i, (one (p .1) (q .1) i, v .1 .1)))
+
+pub mbrumzheg-status : Determines 2 mbrumzheg-status-kinds.ps mbrumzheg-status-kinds.r mbrumzheg-status-reads.Asked mbrumzheg-status-reads.Learnt
+mbrumzheg-status κs args asked x y u v p q = (refl, λ i. (v .0, (one p q i, v .1 .1)))
+
+pub mbrumzheg-text : Determines 2 mbrumzheg-text-kinds.ps mbrumzheg-text-kinds.r mbrumzheg-text-reads.Asked mbrumzheg-text-reads.Learnt
+mbrumzheg-text κs args asked x y u v p q = (refl, λ i. (v .0, (one (p .0) (q .0) i, (one (p .1) (q .1) i, v .1 .1 .1))))
+
+pub mbrumzheg-order : Determines 2 mbrumzheg-order-kinds.ps mbrumzheg-order-kinds.r mbrumzheg-order-reads.Asked mbrumzheg-order-reads.Learnt
+mbrumzheg-order κs args asked x y u v p q = (refl, λ i. (one (p .0) (q .0) i, (v .1 .0, (v .1 .1 .0, (v .1 .1 .1 .0, (one (p .1) (q .1) i, v .1 .1 .1 .1 .1))))))
+
+pub mbrumzheg-offer : Determines 2 mbrumzheg-offer-kinds.ps mbrumzheg-offer-kinds.r mbrumzheg-offer-reads.Asked mbrumzheg-offer-reads.Learnt
+mbrumzheg-offer κs args asked x y u v p q = (refl, λ i. (one (p .0) (q .0) i, (v .1 .0, (v .1 .1 .0, (v .1 .1 .1 .0, (v .1 .1 .1 .1 .0, (v .1 .1 .1 .1 .1 .0, (one (p .1) (q .1) i, v .1 .1 .1 .1 .1 .1 .1))))))))
+
+pub mbrumzheg-lockout : Determines 2 mbrumzheg-lockout-kinds.ps mbrumzheg-lockout-kinds.r mbrumzheg-lockout-reads.Asked mbrumzheg-lockout-reads.Learnt
+mbrumzheg-lockout κs args asked x y u v p q = (refl, λ i. (one (p .0) (q .0) i, (v .1 .0, (v .1 .1 .0, (v .1 .1 .1 .0, (one (p .1) (q .1) i, v .1 .1 .1 .1 .1))))))
+
+pub mbrumzheg-remaining : Determines 2 mbrumzheg-remaining-kinds.ps mbrumzheg-remaining-kinds.r mbrumzheg-remaining-reads.Asked mbrumzheg-remaining-reads.Learnt
+mbrumzheg-remaining κs args asked x y u v p q = (refl, λ i. (v .0, (v .1 .0, (v .1 .1 .0, (one p q i, v .1 .1 .1 .1)))))

@@ -1,0 +1,34 @@
+-- The contracts of `log` determine what a call gives: one theorem for each public function. Assumes nothing.
+use mathlib.Core.Path.{refl}
+use Rattle.bench.specs.Determines.{Determines}
+use Rattle.bench.proofs.One.{one}
+use Rattle.log.proofs.is_log.Kinds as is-log-kinds
+use Rattle.log.proofs.is_log.Reads as is-log-reads
+use Rattle.log.proofs.counted.Kinds as counted-kinds
+use Rattle.log.proofs.counted.Reads as counted-reads
+use Rattle.log.proofs.unflag.Kinds as unflag-kinds
+use Rattle.log.proofs.unflag.Reads as unflag-reads
+use Rattle.log.proofs.recent_entries.Kinds as recent-entries-kinds
+use Rattle.log.proofs.recent_entries.Reads as recent-entries-reads
+use Rattle.log.proofs.blank.Kinds as blank-kinds
+use Rattle.log.proofs.blank.Reads as blank-reads
+use Rattle.log.proofs.join.Kinds as join-kinds
+use Rattle.log.proofs.join.Reads as join-reads
+
+pub is-log : Determines 1 is-log-kinds.ps is-log-kinds.r is-log-reads.Asked is-log-reads.Learnt
+is-log κs args asked x y u v p q = (one p q, refl)
+
+pub counted : Determines 1 counted-kinds.ps counted-kinds.r counted-reads.Asked counted-reads.Learnt
+counted κs args asked x y u v p q = (one p q, refl)
+
+pub unflag : Determines 1 unflag-kinds.ps unflag-kinds.r unflag-reads.Asked unflag-reads.Learnt
+unflag κs args asked x y u v p q = (refl, λ i. (one p q i, v .1))
+
+pub recent-entries : Determines 1 recent-entries-kinds.ps recent-entries-kinds.r recent-entries-reads.Asked recent-entries-reads.Learnt
+recent-entries κs args asked x y u v p q = (one p q, refl)
+
+pub blank : Determines 1 blank-kinds.ps blank-kinds.r blank-reads.Asked blank-reads.Learnt
+blank κs args asked x y u v p q = (refl, λ i. (one p q i, v .1))
+
+pub join : Determines 1 join-kinds.ps join-kinds.r join-reads.Asked join-reads.Learnt
+join κs args asked x y u v p q = (one (p .count) (q .count), λ i. (one (p .log) (q .log) i, v .1))

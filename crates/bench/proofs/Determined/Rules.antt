@@ -1,0 +1,39 @@
+-- The contracts of `rules` determine what a call gives: one theorem for each public function. Assumes nothing.
+use mathlib.Core.Path.{refl}
+use Rattle.bench.specs.Determines.{Determines}
+use Rattle.bench.proofs.One.{one}
+use Rattle.rules.proofs.Rule.covers.Kinds as rule-covers-kinds
+use Rattle.rules.proofs.Rule.covers.Reads as rule-covers-reads
+use Rattle.rules.proofs.Rule.counted.Kinds as rule-counted-kinds
+use Rattle.rules.proofs.Rule.counted.Reads as rule-counted-reads
+use Rattle.rules.proofs.Rule.allowance.Kinds as rule-allowance-kinds
+use Rattle.rules.proofs.Rule.allowance.Reads as rule-allowance-reads
+use Rattle.rules.proofs.Rule.left.Kinds as rule-left-kinds
+use Rattle.rules.proofs.Rule.left.Reads as rule-left-reads
+use Rattle.rules.proofs.Rule.filled.Kinds as rule-filled-kinds
+use Rattle.rules.proofs.Rule.filled.Reads as rule-filled-reads
+use Rattle.rules.proofs.Rule.reached.Kinds as rule-reached-kinds
+use Rattle.rules.proofs.Rule.reached.Reads as rule-reached-reads
+use Rattle.rules.proofs.Limit.added.Kinds as limit-added-kinds
+use Rattle.rules.proofs.Limit.added.Reads as limit-added-reads
+
+pub rule-covers : Determines 0 rule-covers-kinds.ps rule-covers-kinds.r rule-covers-reads.Asked rule-covers-reads.Learnt
+rule-covers κs args asked x y u v p q = (one p q, refl)
+
+pub rule-counted : Determines 0 rule-counted-kinds.ps rule-counted-kinds.r rule-counted-reads.Asked rule-counted-reads.Learnt
+rule-counted κs args asked x y u v p q = (one p q, refl)
+
+pub rule-allowance : Determines 0 rule-allowance-kinds.ps rule-allowance-kinds.r rule-allowance-reads.Asked rule-allowance-reads.Learnt
+rule-allowance κs args asked x y u v p q = (λ i. record { 0 = one p q i }, refl)
+
+pub rule-left : Determines 0 rule-left-kinds.ps rule-left-kinds.r rule-left-reads.Asked rule-left-reads.Learnt
+rule-left κs args asked x y u v p q = (one p q, refl)
+
+pub rule-filled : Determines 0 rule-filled-kinds.ps rule-filled-kinds.r rule-filled-reads.Asked rule-filled-reads.Learnt
+rule-filled κs args asked x y u v p q = (one p q, refl)
+
+pub rule-reached : Determines 0 rule-reached-kinds.ps rule-reached-kinds.r rule-reached-reads.Asked rule-reached-reads.Learnt
+rule-reached κs args asked x y u v p q = (one p q, refl)
+
+pub limit-added : Determines 0 limit-added-kinds.ps limit-added-kinds.r limit-added-reads.Asked limit-added-reads.Learnt
+limit-added κs args asked x y u v p q = (one p q, refl)

@@ -1,0 +1,9 @@
+pub mod One
+pub mod Words
+pub mod Runs
+pub mod Computed
+pub mod Bench
+pub mod Contracts
+pub mod Witness
+pub mod ShutOut
+pub mod Determined

@@ -1,0 +1,248 @@
+-- No library that meets the contracts refuses everything, grants a fixed number, stores nothing, counts the first fill alone, or invents what
+-- Remaining or Status say. Assumes nothing.
+use Prim.Native.Nat.{ℕ, zero, suc, _^_}
+use native.Mathlib.Omega.{arith}
+use mathlib.Core.Path.{_≡_, refl, sym, ap, _∙_, subst}
+use mathlib.Core.Logic.{_↔_}
+use mathlib.Core.Bool.{Bool, true, false, cond, false≢true}
+use mathlib.Core.List.{List, [], _∷_}
+use lib.ListN.{getD}
+use lib.Dec.{eqb}
+use borrow.Author.Tests.{ne-eqb}
+use Rattle.bits.specs.Locks.{standingOf}
+use Rattle.rules.specs.Allowance.{Largest, KeepsAll}
+use Rattle.tables.specs.Tables.{zeros, every}
+use Rattle.tables.proofs.Tables.{length-zeros}
+use Rattle.profile.specs.Profile.{outcomeOf}
+use Rattle.state.specs.State.{State, size, decode, armedState}
+use Rattle.machine.specs.Machine.{Call, offer, remaining, status, verdictOf, grantOf, leftOf, noAccount, refusalOf, judged, acted, unless, step}
+use Rattle.machine.specs.declared.Offer.{Offer}
+use Rattle.machine.specs.declared.Answer.{Answer}
+use Rattle.machine.specs.declared.Answer.the-variants.{Refused, Judged, Left, Standing as Stand}
+use Rattle.machine.proofs.Grants.{covering, grant-largest}
+use Rattle.calls.specs.Calls.{memoryRefusal, callAnswer, isRefusal}
+use Rattle.calls.proofs.Armed.{refusal-unarmed}
+use Rattle.bench.specs.Lent.{Memory, Text, numbersIn, Sent, Offered, sent}
+use Rattle.bench.specs.Library.{Library, Meets, Unarmed, answersBy, refusalIn, refusalBy, RefusesTexts, RefusesCalls, GrantsAlways, ArmStoresNothing, StoresNoFill, CountsFirstOnly}
+use Rattle.bench.proofs.One.{one}
+use Rattle.bench.proofs.Words.{below-zeros, tested-below}
+use Rattle.bench.proofs.Computed.{hundred, forty, hundred-read, forties}
+use Rattle.bench.proofs.Runs.{not-refused, arm-accepted, arm-ready, arm-decoded, call-ready, call-decoded, armed-answers}
+
+-- ---- each refusal has its exact condition
+
+-- an answer that the machine gives where it does not refuse is no refusal
+acted-not : (s : State) (call : Call) (n : ℕ) → acted s call .answer ≡ Refused n → ⊥
+unfolding isRefusal
+acted-not s call n e = false≢true (sym (not-refused s call) ∙ ap isRefusal e)
+
+same-number : {a n : ℕ} → Refused a ≡ Refused n → a ≡ n
+same-number e = cc
+
+not-zero : (a : ℕ) → eqb (suc a) 0 ≡ false
+not-zero a = ne-eqb (suc a) 0 (λ e. omega arith)
+
+module _ (xs : List ℕ) (call : Call) where
+  -- a call that nothing refuses is answered by the machine
+  acted-answer : refusalBy xs call ≡ 0 → callAnswer xs call ≡ acted (decode xs) call .answer
+  unfolding refusalBy callAnswer step unless
+  acted-answer e = go (memoryRefusal xs) (refusalOf (decode xs) call) e
+    where
+      go : (a b : ℕ) → cond (eqb a 0) b a ≡ 0 → cond (eqb a 0) (unless b (decode xs) (acted (decode xs) call) .answer) (Refused a) ≡ acted (decode xs) call .answer
+      go zero zero e = refl
+      go zero (suc b) e = absurd (omega arith)
+      go (suc a) b e = let k = rw (not-zero a) at e in absurd (omega (arith, k))
+
+  -- and one that is not answered by a refusal is not refused
+  taken : (a : Answer) → callAnswer xs call ≡ a → isRefusal a ≡ false → acted (decode xs) call .answer ≡ a
+  unfolding callAnswer step unless isRefusal
+  taken a e f = go (memoryRefusal xs) (refusalOf (decode xs) call) e
+    where
+      clash : (n : ℕ) → Refused n ≡ a → ⊥
+      clash n e = false≢true (sym f ∙ sym (ap isRefusal e))
+
+      go : (n k : ℕ) → cond (eqb n 0) (unless k (decode xs) (acted (decode xs) call) .answer) (Refused n) ≡ a → acted (decode xs) call .answer ≡ a
+      go zero zero e = e
+      go zero (suc k) e = absurd (clash (suc k) e)
+      go (suc n) k e = absurd (clash (suc n) (rw (not-zero n) at e))
+
+  refused-by : (n : ℕ) → refusalBy xs call ≡ suc n → callAnswer xs call ≡ Refused (suc n)
+  unfolding refusalBy callAnswer step unless
+  refused-by n e = go (memoryRefusal xs) (refusalOf (decode xs) call) e
+    where
+      go : (a b : ℕ) → cond (eqb a 0) b a ≡ suc n → cond (eqb a 0) (unless b (decode xs) (acted (decode xs) call) .answer) (Refused a) ≡ Refused (suc n)
+      go zero zero e = absurd (omega arith)
+      go zero (suc b) e = ap Refused e
+      go (suc a) b e = rw (not-zero a) (ap Refused (rw (not-zero a) at e))
+
+  by-refused : (n : ℕ) → callAnswer xs call ≡ Refused n → (refusalBy xs call ≡ n) × (n ≡ 0 → ⊥)
+  unfolding refusalBy callAnswer step unless
+  by-refused n e = go (memoryRefusal xs) (refusalOf (decode xs) call) e
+    where
+      go : (a b : ℕ) → cond (eqb a 0) (unless b (decode xs) (acted (decode xs) call) .answer) (Refused a) ≡ Refused n
+          → (cond (eqb a 0) b a ≡ n) × (n ≡ 0 → ⊥)
+      go zero zero e = absurd (acted-not (decode xs) call n e)
+      go zero (suc b) e = let k = same-number e in (k, λ z. omega arith)
+      go (suc a) b e = let k = same-number (rw (not-zero a) at e) in (rw (not-zero a) k, λ z. omega arith)
+
+-- a grant at verdict 0 is the machine's
+granted : (s : State) (o : Offer) (verdict grant : ℕ) (root firm : Bool) → judged s o verdict .answer ≡ Judged 0 grant root firm → grantOf (s .log) o (s .accounts) ≡ grant
+unfolding judged
+granted s o zero grant root firm e = cc
+granted s o (suc n) grant root firm e = let z : suc n ≡ 0 = cc in absurd (omega arith)
+
+-- 40 is not 20
+forty-twenty : Judged 0 40 false false ≡ Judged 0 20 true false → ⊥
+forty-twenty e = let z : _≡_ {A = ℕ} 40 20 = cc in omega arith
+
+-- memory of zeros may be armed
+abbrev blank : Memory
+blank = record { now = zeros size; words = below-zeros size }
+
+blank-unarmed : Unarmed blank
+unfolding zeros
+blank-unarmed = record { long = omega (arith, length-zeros size); mark = refl }
+
+-- the limit of 100, and the offer of 40
+pub limit : Text
+unfolding every
+limit = record { now = hundred; bytes = tested-below 256 hundred refl }
+
+pub offered : Offered
+unfolding every
+offered = record { offer = forty; words = tested-below (2 ^ 64) (numbersIn (offer forty)) refl }
+
+module _ (l : Library) (meets : Meets l) where
+  -- ---- what holds on every memory
+
+  -- a call is refused with a number exactly if that number's condition is the first that holds
+  pub refused-exactly : (m : Memory) (c : Sent) (n : ℕ) → (l .call m c .answer ≡ Refused (suc n)) ↔ (refusalBy (m .now) (c .call) ≡ suc n)
+  refused-exactly m c n = (
+    λ e. by-refused (m .now) (c .call) (suc n) (sym (meets .callAnswers m c) ∙ e) .0,
+    λ e. meets .callAnswers m c ∙ refused-by (m .now) (c .call) n e,
+  )
+
+  -- a grant is the largest number up to the offer that keeps every limit of a rule that covers it
+  pub grant-is-largest : (m : Memory) (o : Offered) (grant : ℕ) (root firm : Bool) → l .call m (sent o) .answer ≡ Judged 0 grant root firm
+      → Largest (KeepsAll (covering (decode (m .now) .log) (o .offer) (decode (m .now) .accounts)) (o .offer .premium)) (o .offer .contracts) grant
+  unfolding acted isRefusal
+  grant-is-largest m o grant root firm e =
+      let s = decode (m .now) in
+      let asked = o .offer in
+      let t = taken (m .now) (offer asked) (Judged 0 grant root firm) (sym (meets .callAnswers m (sent o)) ∙ e) refl in
+      subst (Largest (KeepsAll (covering (s .log) asked (s .accounts)) (asked .premium)) (asked .contracts))
+      (granted s asked (verdictOf s (asked .root)) grant root firm t) (grant-largest (s .log) asked (s .accounts))
+
+  -- the memory after a call is sound, and stands for the state that the machine leaves
+  pub stores : (m : Memory) (c : Sent) → memoryRefusal (m .now) ≡ 0
+      → (memoryRefusal (l .call m c .memory .now) ≡ 0) × (decode (l .call m c .memory .now) ≡ step (decode (m .now)) (c .call) .after)
+  stores m c ready = rw (meets .callLeaves m c) (call-ready (m .now) ready (c .call), call-decoded (m .now) ready (c .call))
+
+  -- arming with an accepted text leaves a sound memory, which stands for the freshly armed state
+  pub arm-stores : (m : Memory) (t : Text) → Unarmed m → outcomeOf (t .now) .refusal ≡ 0
+      → (memoryRefusal (l .arm m t .memory .now) ≡ 0) × (decode (l .arm m t .memory .now) ≡ armedState (outcomeOf (t .now) .profile))
+  arm-stores m t u ok =
+      rw (meets .armLeaves m t) (arm-ready (m .now) (t .now) (u .long) (u .mark) ok, arm-decoded (m .now) (t .now) (u .long) (u .mark) ok)
+
+  -- Remaining is the limit less the counted amount, or 0 if that is below 0
+  pub remaining-is : (m : Memory) (c : Sent) (time rule : ℕ) → c .call ≡ remaining time rule → refusalBy (m .now) (remaining time rule) ≡ 0
+      → l .call m c .answer ≡ Left (leftOf (decode (m .now)) time (getD (decode (m .now) .accounts) rule noAccount))
+  unfolding acted
+  remaining-is m c time rule is e = meets .callAnswers m c ∙ ap (callAnswer (m .now)) is ∙ acted-answer (m .now) (remaining time rule) e
+
+  -- Status is how the two words stand
+  pub status-is : (m : Memory) (c : Sent) → c .call ≡ status → refusalBy (m .now) status ≡ 0
+      → l .call m c .answer ≡ Stand (standingOf (decode (m .now) .tripped) (decode (m .now) .locked))
+  unfolding acted
+  status-is m c is e = meets .callAnswers m c ∙ ap (callAnswer (m .now)) is ∙ acted-answer (m .now) status e
+
+  -- ---- three offers of 40 under a limit of 100, on any memory that may be armed
+
+  module _ (m : Memory) (u : Unarmed m) where
+    abbrev armed : Memory
+    armed = l .arm m limit .memory
+
+    abbrev one-fill : Memory
+    one-fill = l .call armed (sent offered) .memory
+
+    abbrev two-fills : Memory
+    two-fills = l .call one-fill (sent offered) .memory
+
+    answers : answersBy l armed (sent offered ∷ sent offered ∷ sent offered ∷ [])
+        ≡ Judged 0 40 false false ∷ Judged 0 40 false false ∷ Judged 0 20 true false ∷ []
+    unfolding limit offered
+    answers = armed-answers l meets m limit u hundred-read _ ∙ forties
+
+    pub first : l .call armed (sent offered) .answer ≡ Judged 0 40 false false
+    unfolding answersBy
+    first = let e = answers in cc
+
+    pub second : l .call one-fill (sent offered) .answer ≡ Judged 0 40 false false
+    unfolding answersBy
+    second = let e = answers in cc
+
+    pub third : l .call two-fills (sent offered) .answer ≡ Judged 0 20 true false
+    unfolding answersBy
+    third = let e = answers in cc
+
+  -- ---- shut out
+
+  -- a library that refuses every text, or every call
+  pub not-refusing-all : (RefusesTexts l → ⊥) × (RefusesCalls l → ⊥)
+  unfolding isRefusal limit
+  not-refusing-all = (
+    λ all.
+        all blank limit
+        (ap refusalIn (meets .armAnswers blank limit)
+        ∙ arm-accepted (blank .now) hundred (blank-unarmed .long) (blank-unarmed .mark) hundred-read),
+    λ all. false≢true (sym (ap isRefusal (first blank blank-unarmed)) ∙ all (armed blank blank-unarmed) (sent offered)),
+  )
+
+  -- one with a fixed grant
+  pub not-a-fixed-grant : (g : ℕ) → GrantsAlways l g → ⊥
+  not-a-fixed-grant g all =
+      let a : 40 ≡ g = all _ offered 40 false false (first blank blank-unarmed) in
+      let b : 20 ≡ g = all _ offered 20 true false (third blank blank-unarmed) in
+      omega arith
+
+  -- one that stores nothing: no profile, or no fill
+  pub not-storing-nothing : (ArmStoresNothing l → ⊥) × (StoresNoFill l → ⊥)
+  unfolding limit
+  not-storing-nothing = (
+    λ none.
+        let ready : memoryRefusal (blank .now) ≡ 0 =
+        subst (λ (ys : List ℕ). memoryRefusal ys ≡ 0) (none blank limit) (arm-stores blank limit blank-unarmed hundred-read .0) in
+        let unarmed : 4 ≡ memoryRefusal (blank .now) = refusal-unarmed (blank .now) (blank-unarmed .long) (blank-unarmed .mark) in
+        omega arith,
+    λ none.
+        let before = one-fill blank blank-unarmed in
+        let after = two-fills blank blank-unarmed in
+        let same = meets .callAnswers after (sent offered) ∙ ap (λ (ys : List ℕ). callAnswer ys (sent offered .call)) (none before offered)
+        ∙ sym (meets .callAnswers before (sent offered)) in
+        forty-twenty (sym (second blank blank-unarmed) ∙ sym same ∙ third blank blank-unarmed),
+  )
+
+  -- one that counts the first fill alone
+  pub not-counting-only-the-first : CountsFirstOnly l → ⊥
+  not-counting-only-the-first only =
+      forty-twenty (sym (second blank blank-unarmed) ∙ sym (only (armed blank blank-unarmed) offered offered offered) ∙ third blank blank-unarmed)
+
+-- an invented Remaining or Status, or any other invention: two libraries that meet the contracts answer alike and leave the same memory
+module _ (l k : Library) (meets : Meets l) (too : Meets k) where
+  pub same-answer : (m : Memory) (c : Sent) → l .call m c .answer ≡ k .call m c .answer
+  same-answer m c = one (meets .callAnswers m c) (too .callAnswers m c)
+
+  pub not-inventing-remaining : (m : Memory) (c : Sent) (time rule : ℕ) → c .call ≡ remaining time rule → l .call m c .answer ≡ k .call m c .answer
+  not-inventing-remaining m c time rule is = same-answer m c
+
+  pub not-inventing-status : (m : Memory) (c : Sent) → c .call ≡ status → l .call m c .answer ≡ k .call m c .answer
+  not-inventing-status m c is = same-answer m c
+
+  pub same-memory : (m : Memory) (c : Sent) → l .call m c .memory .now ≡ k .call m c .memory .now
+  same-memory m c = one (meets .callLeaves m c) (too .callLeaves m c)
+
+  pub same-arm-answer : (m : Memory) (t : Text) → l .arm m t .answer ≡ k .arm m t .answer
+  same-arm-answer m t = one (meets .armAnswers m t) (too .armAnswers m t)
+
+  pub same-arm-memory : (m : Memory) (t : Text) → l .arm m t .memory .now ≡ k .arm m t .memory .now
+  same-arm-memory m t = one (meets .armLeaves m t) (too .armLeaves m t)

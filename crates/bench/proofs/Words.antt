@@ -1,0 +1,171 @@
+-- Memory stays memory of 64-bit numbers: a sound state's numbers have 64 bits, so Arm and the calls leave such. Assumes nothing.
+use Prim.Native.Nat.{ℕ, zero, suc, _*_, _-_, _^_, _≤_, _<_}
+use native.Mathlib.Nat.{lt-of-le-of-lt, lt-of-lt-of-le, le-of-eq}
+use native.Mathlib.Omega.{arith}
+use mathlib.Core.Path.{_≡_}
+use mathlib.Core.Bool.{Bool, true, false, cond}
+use mathlib.Core.List.{List, [], _∷_, _++_, map}
+use lib.ListN.{length, drop}
+use lib.Dec.{ltb, eqb, lit<, lit≤}
+use lib.Pow.{pow-mono}
+use borrow.Author.Tests.{ltb-true, eqb-true}
+use Rattle.laws.specs.Tests.{and-l, and-r, tests, under}
+use Rattle.measures.specs.Ranges.{isIn, times, totals}
+use Rattle.measures.proofs.Determined.{test-in}
+use Rattle.bits.specs.Fields.{total}
+use Rattle.bits.proofs.Packing.{packed-lt}
+use Rattle.rules.specs.Rules.{isRate}
+use Rattle.rules.specs.declared.Rule.{Rule}
+use Rattle.rules.specs.declared.Account.{Account}
+use Rattle.text.specs.Text.{isNameByte}
+use Rattle.tables.specs.Tables.{zeros, flat, table, every}
+use Rattle.tables.specs.RulePlace.{isRule, limitWidths, limitValues, scopeWidths, scopeValues, ruleNumbers, rulesTable}
+use Rattle.tables.specs.EntryPlace.{isEntry, fillWidths, fillValues, amountWidths, amountValues, entryNumbers, logTable, flagNumber}
+use Rattle.tables.specs.declared.Entry.{Entry}
+use Rattle.tables.proofs.RulePlace.{limit-fit, scope-fit}
+use Rattle.tables.proofs.EntryPlace.{fill-fit, amount-fit}
+use Rattle.profile.specs.Profile.{rootsTable}
+use Rattle.made.specs.Names.{nameBytes, isNameNumber}
+use Rattle.made.specs.Made.{areRoots}
+use Rattle.made.specs.Parts.{isTotal}
+use Rattle.made.proofs.Bytes.{made-most}
+use Rattle.made.proofs.Digits.{digits-room}
+use Rattle.state.specs.State.{State, profileIn, size, totalsTable, encode, stored}
+use Rattle.state.specs.Sound.{SoundState}
+use Rattle.state.proofs.Stored.{map-length}
+use Rattle.state.proofs.Exactly.{MadeParts}
+use Rattle.bench.specs.Lent.{Below}
+
+-- ---- numbers below a bound
+
+below-append : (bound : ℕ) (xs ys : List ℕ) → Below bound xs → Below bound ys → Below bound (xs ++ ys)
+below-append bound [] ys p q = q
+below-append bound (x ∷ xs) ys p q = (p .0, below-append bound xs ys (p .1) q)
+
+below-drop : (bound n : ℕ) (xs : List ℕ) → Below bound xs → Below bound (drop n xs)
+below-drop bound zero xs p = p
+below-drop bound (suc n) [] p = tt
+below-drop bound (suc n) (x ∷ xs) p = below-drop bound n xs (p .1)
+
+pub below-zeros : (n : ℕ) → Below (2 ^ 64) (zeros n)
+unfolding zeros
+below-zeros zero = tt
+below-zeros (suc n) = (lit< tt, below-zeros n)
+
+-- a test of each
+pub tested-below : (bound : ℕ) (xs : List ℕ) → every (λ x. ltb x bound) xs ≡ true → Below bound xs
+unfolding every
+tested-below bound [] h = tt
+tested-below bound (x ∷ xs) h =
+    (ltb-true x bound (and-l (ltb x bound) _ h), tested-below bound xs (and-r (ltb x bound) _ h))
+
+-- the numbers of records that are valid
+module _ {A : Type 0} (ok : A → Bool) (enc : A → List ℕ) (each : (a : A) → ok a ≡ true → Below (2 ^ 64) (enc a)) where
+  below-flat : (rs : List A) → every ok rs ≡ true → Below (2 ^ 64) (flat enc rs)
+  unfolding flat every
+  below-flat [] h = tt
+  below-flat (r ∷ rs) h =
+      below-append (2 ^ 64) (enc r) (flat enc rs) (each r (and-l (ok r) (every ok rs) h)) (below-flat rs (and-r (ok r) (every ok rs) h))
+
+  below-table : (w n : ℕ) (rs : List A) → every ok rs ≡ true → Below (2 ^ 64) (table w n enc rs)
+  unfolding table
+  below-table w n rs h = below-append (2 ^ 64) (flat enc rs) (zeros (n * w - length rs * w)) (below-flat rs h) (below-zeros (n * w - length rs * w))
+
+-- ---- the parts of a state
+
+rule-words : (roots : ℕ) → roots ≤ 64 → (rule : Rule) → isRule roots rule ≡ true → Below (2 ^ 64) (ruleNumbers rule)
+unfolding ruleNumbers total
+rule-words roots few rule h =
+    (packed-lt limitWidths (limitValues rule) (limit-fit roots rule few h), (packed-lt scopeWidths (scopeValues rule) (scope-fit roots rule few h), tt))
+
+entry-words : (roots : ℕ) → roots ≤ 64 → (e : Entry) → isEntry roots e ≡ true → Below (2 ^ 64) (entryNumbers e)
+unfolding entryNumbers total
+entry-words roots few e h =
+    (packed-lt fillWidths (fillValues e) (fill-fit roots e few h), (packed-lt amountWidths (amountValues e) (amount-fit roots e few h), tt))
+
+name-word : (most n : ℕ) → most ≤ 7 → isNameNumber 1 most n ≡ true → n < 2 ^ 64
+unfolding isNameNumber nameBytes
+name-word most n few h = digits-room 256 (lit< tt) 8 n (omega (arith, made-most isNameByte 1 most (nameBytes n) h))
+
+names-words : (names : List ℕ) → areRoots names ≡ true → Below (2 ^ 64) names
+unfolding areRoots
+names-words [] h = tt
+names-words (n ∷ names) h = (name-word 6 n (lit≤ tt) (search tests depth 6), names-words names (search tests depth 6))
+
+totals-words : (accounts : List Account) → every (λ a. isTotal (a .rule) (a .total)) accounts ≡ true → Below (2 ^ 64) (map (λ a. a .total) accounts)
+unfolding every isTotal
+totals-words [] h = tt
+totals-words (a ∷ rest) h = (go (isRate (a .rule .kind)) (and-l (isTotal (a .rule) (a .total)) _ h), totals-words rest (and-r (isTotal (a .rule) (a .total)) _ h))
+  where
+    go : (b : Bool) → cond b (eqb (a .total) 0) (isIn totals (a .total)) ≡ true → a .total < 2 ^ 64
+    go true e = lt-of-le-of-lt (le-of-eq (eqb-true (a .total) 0 e)) (lit< tt)
+    go false e = under (a .total) (totals .most) 64 (test-in totals (a .total) e .1) tt
+
+-- numbers in places of one
+flat-ones : (xs : List ℕ) → Below (2 ^ 64) xs → Below (2 ^ 64) (flat (λ x. x ∷ []) xs)
+unfolding flat
+flat-ones [] p = tt
+flat-ones (x ∷ xs) p = (p .0, flat-ones xs (p .1))
+
+ones-words : (n : ℕ) (xs : List ℕ) → Below (2 ^ 64) xs → Below (2 ^ 64) (table 1 n (λ x. x ∷ []) xs)
+unfolding table
+ones-words n xs p = below-append (2 ^ 64) (flat (λ x. x ∷ []) xs) (zeros (n * 1 - length xs * 1)) (flat-ones xs p) (below-zeros (n * 1 - length xs * 1))
+
+flag-word : (b : Bool) → flagNumber b < 2 ^ 64
+flag-word true = lit< tt
+flag-word false = lit< tt
+
+module _ (s : State) (k : SoundState s) (m : MadeParts (profileIn s)) where
+  abbrev n : ℕ
+  n = length (s .roots)
+
+  abbrev rules : List Rule
+  rules = map (λ a. a .rule) (s .accounts)
+
+  abbrev sums : List ℕ
+  sums = map (λ a. a .total) (s .accounts)
+
+  few : length (s .roots) ≤ 64
+  unfolding profileIn
+  few = m .few
+
+  roots-words : Below (2 ^ 64) (rootsTable (s .roots))
+  unfolding rootsTable profileIn
+  roots-words = ones-words 64 (s .roots) (names-words (s .roots) (m .names))
+
+  rules-words : Below (2 ^ 64) (rulesTable rules)
+  unfolding profileIn
+  rules-words = below-table (isRule n) ruleNumbers (rule-words n few) 2 256 rules (m .valid)
+
+  sums-words : Below (2 ^ 64) (totalsTable sums)
+  unfolding totalsTable
+  sums-words = ones-words 256 sums (totals-words (s .accounts) (k .totals))
+
+  log-words : Below (2 ^ 64) (logTable (s .log))
+  log-words = below-table (isEntry n) entryNumbers (entry-words n few) 2 512 (s .log) (k .entries)
+
+  tables-words : Below (2 ^ 64) (rootsTable (s .roots) ++ (rulesTable rules ++ (totalsTable sums ++ logTable (s .log))))
+  tables-words =
+      below-append (2 ^ 64) (rootsTable (s .roots)) (rulesTable rules ++ (totalsTable sums ++ logTable (s .log))) roots-words
+      (below-append (2 ^ 64) (rulesTable rules) (totalsTable sums ++ logTable (s .log)) rules-words
+      (below-append (2 ^ 64) (totalsTable sums) (logTable (s .log)) sums-words log-words))
+
+  many : length (s .accounts) ≤ 256
+  unfolding profileIn
+  many = omega (arith, m .most, map-length (λ a. a .rule) (s .accounts))
+
+  encode-words : Below (2 ^ 64) (encode s)
+  unfolding encode profileIn
+  encode-words =
+      let clock = under (s .clock) (times .most) 64 (k .clock .1) tt in
+      let firm = name-word 4 (s .firm) (lit≤ tt) (m .firm) in
+      let roots = under n 64 64 few tt in
+      let accounts = under (length (s .accounts)) 256 64 many tt in
+      let log = under (length (s .log)) 512 64 (k .number) tt in
+      let tripped = lt-of-lt-of-le (k .tripped) (pow-mono few) in
+      let locked = lt-of-lt-of-le (k .locked) (pow-mono few) in
+      (lit< tt, (clock, (firm, (roots, (accounts, (log, (flag-word (s .firmTripped), (flag-word (s .firmLocked), (tripped, (locked, tables-words))))))))))
+
+  pub stored-words : (xs : List ℕ) → Below (2 ^ 64) xs → Below (2 ^ 64) (stored s xs)
+  unfolding stored
+  stored-words xs p = below-append (2 ^ 64) (encode s) (drop size xs) encode-words (below-drop (2 ^ 64) size xs p)

@@ -1,0 +1,38 @@
+-- What is lent and sent to a library: memory of 64-bit numbers, a text of bytes, and a call whose numbers have 64 bits. Assumes nothing.
+use Prim.Native.Nat.{ℕ, _^_, _<_}
+use mathlib.Core.List.{List, [], _∷_}
+use Rattle.rules.specs.Allowance.{All}
+use Rattle.machine.specs.Machine.{Call, order, lockout, offer, remaining, status}
+use Rattle.machine.specs.declared.Offer.{Offer}
+
+-- numbers below a bound
+abbrev pub Below : ℕ → List ℕ → Type 0
+Below bound xs = All (λ x. x < bound) xs
+
+pub record Memory : Type 0 where
+  pub now : List ℕ
+  pub words : Below (2 ^ 64) now
+
+pub record Text : Type 0 where
+  pub now : List ℕ
+  pub bytes : Below 256 now
+
+-- the numbers of a call
+abbrev pub numbersIn : Call → List ℕ
+numbersIn (order time root reset) = time ∷ root ∷ reset ∷ []
+numbersIn (lockout time level root) = time ∷ level ∷ root ∷ []
+numbersIn (offer o) = o .time ∷ o .root ∷ o .unit ∷ o .premium ∷ o .contracts ∷ []
+numbersIn (remaining time rule) = time ∷ rule ∷ []
+numbersIn status = []
+
+pub record Sent : Type 0 where
+  pub call : Call
+  pub words : Below (2 ^ 64) (numbersIn call)
+
+-- an offer so sent
+pub record Offered : Type 0 where
+  pub offer : Offer
+  pub words : Below (2 ^ 64) (numbersIn (Call.offer offer))
+
+abbrev pub sent : Offered → Sent
+sent o = record { call = offer (o .offer); words = o .words }

@@ -1,0 +1,5 @@
+pub mod Lent
+pub mod Library
+pub mod Rows
+pub mod Table
+pub mod Determines
