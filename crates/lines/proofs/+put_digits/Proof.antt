@@ -1,12 +1,11 @@
 -- `lines::put_digits` meets its contract: the number falls with each call, and one digit is written after those before it. Assumes nothing.
-use Prim.Native.Nat.{_/_, _%_, _+_, _^_, _≤_}
-use mathlib.Core.Path.{_≡_, refl, sym, ap, subst, _∙_}
-use mathlib.Core.List.{[], _∷_}
+use Prim.Native.Nat.{_/_}
+use mathlib.Core.Path.{_≡_, sym, ap, subst, _∙_}
+use mathlib.Core.List.{[]}
 use native.Mathlib.Nat.{mod-lt, div-lt-self, pos-of-ne-zero}
 use native.Mathlib.Omega.{arith}
 use lib.ListN.{length, length-set}
 use lib.Seq.{sets}
-use borrow.Author.Needs.{needs}
 use Rattle.lines.specs.Lines.{digitBytes}
 use Rattle.lines.proofs.Texts.{digit-bytes-none, digit-bytes-more, digit-written}
 use Prim.Native.Nat.{ℕ, _<_}

@@ -1,10 +1,9 @@
 -- `lines::put_armed` meets its contract: the words, the firm's name and the numbers one after the other. Assumes nothing.
-use mathlib.Core.Path.{_≡_, _∙_}
+use mathlib.Core.Path.{_∙_}
 use mathlib.Core.List.{[], _∷_, _++_}
 use native.Mathlib.Nat.{zero-add}
 use native.Mathlib.Omega.{arith}
 use lib.Dec.{lit≤}
-use lib.ListN.{length}
 use Rattle.text.specs.Text.{bytes}
 use Rattle.lines.specs.Lines.{digitBytes, spaced, armLine}
 use Rattle.lines.proofs.Texts.{then-written, name-digits, name-few}

@@ -1,5 +1,4 @@
 -- `lines::put_decimal` meets its contract: the last digit is written after those of the tenth. Assumes nothing.
-use Prim.Native.Nat.{_+_, _≤_}
 use lib.Dec.{lit≤}
 use native.Mathlib.Omega.{arith}
 use Rattle.lines.proofs.Texts.{decimal-few, decimal-more, decimal-written}

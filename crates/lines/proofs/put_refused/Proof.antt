@@ -1,9 +1,8 @@
 -- `lines::put_refused` meets its contract: the words and the numbers one after the other. Assumes nothing.
-use mathlib.Core.Path.{_≡_, _∙_}
+use mathlib.Core.Path.{_∙_}
 use mathlib.Core.List.{[], _∷_}
 use native.Mathlib.Nat.{zero-add}
 use native.Mathlib.Omega.{arith}
-use lib.ListN.{length}
 use Rattle.text.specs.Text.{bytes}
 use Rattle.lines.specs.Lines.{spaced, armLine}
 use Rattle.lines.proofs.Texts.{then-written}
