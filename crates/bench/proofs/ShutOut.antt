@@ -22,19 +22,15 @@ use Rattle.machine.specs.declared.Answer.the-variants.{Refused, Judged, Left, S
 use Rattle.machine.proofs.Grants.{covering, grant-largest}
 use Rattle.calls.specs.Calls.{memoryRefusal, callAnswer, isRefusal}
 use Rattle.calls.proofs.Armed.{refusal-unarmed}
+use Rattle.promises.proofs.Holds.{ready-holds, holds-ready, acts-unrefused}
 use Rattle.bench.specs.Lent.{Memory, Text, numbersIn, Sent, Offered, sent}
-use Rattle.bench.specs.Library.{Library, Meets, Unarmed, answersBy, refusalIn, refusalBy, RefusesTexts, RefusesCalls, GrantsAlways, ArmStoresNothing, StoresNoFill, CountsFirstOnly}
+use Rattle.bench.specs.Library.{Library, Meets, Unarmed, answersBy, refusalBy, RefusesTexts, RefusesCalls, GrantsAlways, ArmStoresNothing, StoresNoFill, CountsFirstOnly}
 use Rattle.bench.proofs.One.{one}
 use Rattle.bench.proofs.Words.{below-zeros, tested-below}
 use Rattle.bench.proofs.Computed.{hundred, forty, hundred-read, forties}
-use Rattle.bench.proofs.Runs.{not-refused, arm-accepted, arm-ready, arm-decoded, call-ready, call-decoded, armed-answers}
+use Rattle.bench.proofs.Runs.{arm-accepted, arm-leaves, call-leaves, armed-answers}
 
 -- ---- each refusal has its exact condition
-
--- an answer that the machine gives where it does not refuse is no refusal
-acted-not : (s : State) (call : Call) (n : ℕ) → acted s call .answer ≡ Refused n → ⊥
-unfolding isRefusal
-acted-not s call n e = false≢true (sym (not-refused s call) ∙ ap isRefusal e)
 
 same-number : {a n : ℕ} → Refused a ≡ Refused n → a ≡ n
 same-number e = cc
@@ -81,7 +77,7 @@ module _ (xs : List ℕ) (call : Call) where
     where
       go : (a b : ℕ) → cond (eqb a 0) (unless b (decode xs) (acted (decode xs) call) .answer) (Refused a) ≡ Refused n
           → (cond (eqb a 0) b a ≡ n) × (n ≡ 0 → ⊥)
-      go zero zero e = absurd (acted-not (decode xs) call n e)
+      go zero zero e = absurd (acts-unrefused (decode xs) call n e)
       go zero (suc b) e = let k = same-number e in (k, λ z. omega arith)
       go (suc a) b e = let k = same-number (rw (not-zero a) at e) in (rw (not-zero a) k, λ z. omega arith)
 
@@ -136,13 +132,12 @@ module _ (l : Library) (meets : Meets l) where
   -- the memory after a call is sound, and stands for the state that the machine leaves
   pub stores : (m : Memory) (c : Sent) → memoryRefusal (m .now) ≡ 0
       → (memoryRefusal (l .call m c .memory .now) ≡ 0) × (decode (l .call m c .memory .now) ≡ step (decode (m .now)) (c .call) .after)
-  stores m c ready = rw (meets .callLeaves m c) (call-ready (m .now) ready (c .call), call-decoded (m .now) ready (c .call))
+  stores m c ready = let h = call-leaves l meets m (ready-holds (m .now) ready) c in (holds-ready h, h .state)
 
   -- arming with an accepted text leaves a sound memory, which stands for the freshly armed state
   pub arm-stores : (m : Memory) (t : Text) → Unarmed m → outcomeOf (t .now) .refusal ≡ 0
       → (memoryRefusal (l .arm m t .memory .now) ≡ 0) × (decode (l .arm m t .memory .now) ≡ armedState (outcomeOf (t .now) .profile))
-  arm-stores m t u ok =
-      rw (meets .armLeaves m t) (arm-ready (m .now) (t .now) (u .long) (u .mark) ok, arm-decoded (m .now) (t .now) (u .long) (u .mark) ok)
+  arm-stores m t u ok = let h = arm-leaves l meets m t u ok in (holds-ready h, h .state)
 
   -- Remaining is the limit less the counted amount, or 0 if that is below 0
   pub remaining-is : (m : Memory) (c : Sent) (time rule : ℕ) → c .call ≡ remaining time rule → refusalBy (m .now) (remaining time rule) ≡ 0
@@ -191,10 +186,7 @@ module _ (l : Library) (meets : Meets l) where
   pub not-refusing-all : (RefusesTexts l → ⊥) × (RefusesCalls l → ⊥)
   unfolding isRefusal limit
   not-refusing-all = (
-    λ all.
-        all blank limit
-        (ap refusalIn (meets .armAnswers blank limit)
-        ∙ arm-accepted (blank .now) hundred (blank-unarmed .long) (blank-unarmed .mark) hundred-read),
+    λ all. all blank limit (arm-accepted l meets blank limit blank-unarmed hundred-read),
     λ all. false≢true (sym (ap isRefusal (first blank blank-unarmed)) ∙ all (armed blank blank-unarmed) (sent offered)),
   )
 
