@@ -32,54 +32,43 @@ use Rattle.bench.proofs.Runs.{arm-accepted, arm-leaves, call-leaves, ar
 
 -- ---- each refusal has its exact condition
 
-same-number : {a n : ℕ} → Refused a ≡ Refused n → a ≡ n
-same-number e = cc
-
-not-zero : (a : ℕ) → eqb (suc a) 0 ≡ false
-not-zero a = ne-eqb (suc a) 0 (λ e. omega arith)
-
 module _ (xs : List ℕ) (call : Call) where
-  -- a call that nothing refuses is answered by the machine
-  acted-answer : refusalBy xs call ≡ 0 → callAnswer xs call ≡ acted (decode xs) call .answer
+  -- a call is answered by its refusal, or by the machine where there is none
+  abbrev answerAt : ℕ → Answer
+  answerAt n = unless n (decode xs) (acted (decode xs) call) .answer
+
+  answer-by : callAnswer xs call ≡ answerAt (refusalBy xs call)
   unfolding refusalBy callAnswer step unless
-  acted-answer e = go (memoryRefusal xs) (refusalOf (decode xs) call) e
+  answer-by = go (memoryRefusal xs) (refusalOf (decode xs) call)
     where
-      go : (a b : ℕ) → cond (eqb a 0) b a ≡ 0 → cond (eqb a 0) (unless b (decode xs) (acted (decode xs) call) .answer) (Refused a) ≡ acted (decode xs) call .answer
-      go zero zero e = refl
-      go zero (suc b) e = absurd (omega arith)
-      go (suc a) b e = let k = rw (not-zero a) at e in absurd (omega (arith, k))
+      go : (a b : ℕ) → cond (eqb a 0) (answerAt b) (Refused a) ≡ answerAt (cond (eqb a 0) b a)
+      go zero b = refl
+      go (suc a) b = rw (ne-eqb (suc a) 0 (λ e. omega arith))
 
-  -- and one that is not answered by a refusal is not refused
-  taken : (a : Answer) → callAnswer xs call ≡ a → isRefusal a ≡ false → acted (decode xs) call .answer ≡ a
-  unfolding callAnswer step unless isRefusal
-  taken a e f = go (memoryRefusal xs) (refusalOf (decode xs) call) e
-    where
-      clash : (n : ℕ) → Refused n ≡ a → ⊥
-      clash n e = false≢true (sym f ∙ sym (ap isRefusal e))
-
-      go : (n k : ℕ) → cond (eqb n 0) (unless k (decode xs) (acted (decode xs) call) .answer) (Refused n) ≡ a → acted (decode xs) call .answer ≡ a
-      go zero zero e = e
-      go zero (suc k) e = absurd (clash (suc k) e)
-      go (suc n) k e = absurd (clash (suc n) (rw (not-zero n) at e))
+  acted-answer : refusalBy xs call ≡ 0 → callAnswer xs call ≡ acted (decode xs) call .answer
+  unfolding unless
+  acted-answer e = answer-by ∙ ap answerAt e
 
   refused-by : (n : ℕ) → refusalBy xs call ≡ suc n → callAnswer xs call ≡ Refused (suc n)
-  unfolding refusalBy callAnswer step unless
-  refused-by n e = go (memoryRefusal xs) (refusalOf (decode xs) call) e
-    where
-      go : (a b : ℕ) → cond (eqb a 0) b a ≡ suc n → cond (eqb a 0) (unless b (decode xs) (acted (decode xs) call) .answer) (Refused a) ≡ Refused (suc n)
-      go zero zero e = absurd (omega arith)
-      go zero (suc b) e = ap Refused e
-      go (suc a) b e = rw (not-zero a) (ap Refused (rw (not-zero a) at e))
+  unfolding unless
+  refused-by n e = answer-by ∙ ap answerAt e
 
-  by-refused : (n : ℕ) → callAnswer xs call ≡ Refused n → (refusalBy xs call ≡ n) × (n ≡ 0 → ⊥)
-  unfolding refusalBy callAnswer step unless
-  by-refused n e = go (memoryRefusal xs) (refusalOf (decode xs) call) e
+  by-refused : (n : ℕ) → callAnswer xs call ≡ Refused n → refusalBy xs call ≡ n
+  unfolding unless
+  by-refused n e = go (refusalBy xs call) (sym answer-by ∙ e)
     where
-      go : (a b : ℕ) → cond (eqb a 0) (unless b (decode xs) (acted (decode xs) call) .answer) (Refused a) ≡ Refused n
-          → (cond (eqb a 0) b a ≡ n) × (n ≡ 0 → ⊥)
-      go zero zero e = absurd (acts-unrefused (decode xs) call n e)
-      go zero (suc b) e = let k = same-number e in (k, λ z. omega arith)
-      go (suc a) b e = let k = same-number (rw (not-zero a) at e) in (rw (not-zero a) k, λ z. omega arith)
+      go : (a : ℕ) → answerAt a ≡ Refused n → a ≡ n
+      go zero e = absurd (acts-unrefused (decode xs) call n e)
+      go (suc a) e = cc
+
+  -- one that is not answered by a refusal is answered by the machine
+  taken : (a : Answer) → callAnswer xs call ≡ a → isRefusal a ≡ false → acted (decode xs) call .answer ≡ a
+  unfolding unless isRefusal
+  taken a e f = go (refusalBy xs call) (sym answer-by ∙ e)
+    where
+      go : (n : ℕ) → answerAt n ≡ a → acted (decode xs) call .answer ≡ a
+      go zero e = e
+      go (suc n) e = absurd (false≢true (sym f ∙ sym (ap isRefusal e)))
 
 -- a grant at verdict 0 is the machine's
 granted : (s : State) (o : Offer) (verdict grant : ℕ) (root firm : Bool) → judged s o verdict .answer ≡ Judged 0 grant root firm → grantOf (s .log) o (s .accounts) ≡ grant
@@ -114,7 +103,7 @@ module _ (l : Library) (meets : Meets l) where
   -- a call is refused with a number exactly if that number's condition is the first that holds
   pub refused-exactly : (m : Memory) (c : Sent) (n : ℕ) → (l .call m c .answer ≡ Refused (suc n)) ↔ (refusalBy (m .now) (c .call) ≡ suc n)
   refused-exactly m c n = (
-    λ e. by-refused (m .now) (c .call) (suc n) (sym (meets .callAnswers m c) ∙ e) .0,
+    λ e. by-refused (m .now) (c .call) (suc n) (sym (meets .callAnswers m c) ∙ e),
     λ e. meets .callAnswers m c ∙ refused-by (m .now) (c .call) n e,
   )
 
