@@ -1,6 +1,7 @@
-//! The comparison of records is tried on the second program itself and on wrong versions of it.
+//! Event records: the proved library and the second program read and write alike; and the comparison itself is tried on wrong versions.
 
 use native::records::compare;
+use native::{read_record, write_record};
 use second::records::{read, write, Record};
 
 fn reader(bytes: &[u8]) -> [u64; 9] {
@@ -9,6 +10,12 @@ fn reader(bytes: &[u8]) -> [u64; 9] {
 
 fn writer([kind, time, root, unit, premium, contracts, reset, level]: [u64; 8], room: &mut [u8]) -> u64 {
     write(&Record { kind, time, root, unit, premium, contracts, reset, level }, room).refusal
+}
+
+#[test]
+fn the_library_reads_and_writes_alike() {
+    let seen = compare(500_000, 3, &read_record, &|numbers, room| write_record(numbers, room)[0]).expect("no difference");
+    assert!(100_000 < seen.read - seen.read_refused && 100_000 < seen.written - seen.write_refused, "{seen:?}");
 }
 
 #[test]

@@ -15,3 +15,5 @@ pub mod Reset
 pub mod Calls
 pub mod Capi
 pub mod Records
+pub mod Rows
+pub mod Lines

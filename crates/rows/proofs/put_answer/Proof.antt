@@ -1,8 +1,8 @@
--- `capi::put_answer` meets its contract: each arm is given which answer it is. Assumes nothing.
+-- `rows::put_answer` meets its contract: each arm is given which answer it is. Assumes nothing.
 use Rattle.machine.specs.Machine.{numbers}
 use borrow.Author.Needs.{needs}
-use Rattle.capi.proofs.put_answer.Statement.{statement}
-use Rattle.capi.proofs.put_answer.Tie as tie
+use Rattle.rows.proofs.put_answer.Statement.{statement}
+use Rattle.rows.proofs.put_answer.Tie as tie
 
 enum-known-answer : tie.Need-enum-known-answer
 enum-known-answer c = search needs
