@@ -1,0 +1,114 @@
+//! The real program, as the kit runs it, and the second program print the same bytes for the same profile and records.
+//! `native/run test` builds both and names them: PROGRAM is the command that runs the proved one, SECOND the other.
+
+use std::fs;
+use std::io::Write;
+use std::path::{Path, PathBuf};
+use std::process::{Command, Stdio};
+
+use native::profiles::clashing;
+use second::gen::{profile, records, valid_profile, Random};
+
+/// What a command prints in a folder, given an input.
+fn printed(command: &[String], folder: &Path, input: &[u8]) -> Vec<u8> {
+    let mut child = Command::new(&command[0])
+        .args(&command[1..])
+        .current_dir(folder)
+        .stdin(Stdio::piped())
+        .stdout(Stdio::piped())
+        .spawn()
+        .expect("the program starts");
+    let mut stdin = child.stdin.take().expect("an input");
+    let input = input.to_vec();
+    // A program that is refused its profile reads no input.
+    let writer = std::thread::spawn(move || drop(stdin.write_all(&input)));
+    let output = child.wait_with_output().expect("the program ends");
+    writer.join().expect("the input is written");
+    assert!(output.status.success(), "{command:?} ended with {}", output.status);
+    output.stdout
+}
+
+fn named(name: &str) -> Vec<String> {
+    std::env::var(name).expect("native/run test names the programs").split_whitespace().map(str::to_owned).collect()
+}
+
+/// A folder of its own with a file `profile`, or without one.
+fn folder(seed: u64, text: Option<&[u8]>) -> PathBuf {
+    let folder = std::env::temp_dir().join(format!("mbrumzheg-{}-{seed}", std::process::id()));
+    fs::create_dir_all(&folder).expect("a folder");
+    if let Some(text) = text {
+        fs::write(folder.join("profile"), text).expect("a profile");
+    }
+    folder
+}
+
+fn print_alike(seed: u64, text: Option<&[u8]>, input: &[u8]) -> Vec<u8> {
+    let folder = folder(seed, text);
+    let proved = printed(&named("PROGRAM"), &folder, input);
+    let second = printed(&named("SECOND"), &folder, input);
+    assert!(proved == second, "seed {seed}: {} and {}", String::from_utf8_lossy(&proved), String::from_utf8_lossy(&second));
+    fs::remove_dir_all(folder).expect("the folder goes");
+    proved
+}
+
+#[test]
+fn days_of_records_print_alike() {
+    let (mut armed, mut lines) = (0, 0);
+    for seed in 0..60 {
+        let mut random = Random::new(seed);
+        let text = match seed % 3 {
+            0 => valid_profile(seed),
+            1 => profile(seed),
+            _ => clashing(&mut random),
+        };
+        let mut input = records(seed, random.between(0, 9_000) as usize, &text);
+        for _ in 0..random.below(20) {
+            if let Some(place) = (!input.is_empty()).then(|| random.below(input.len() as u64) as usize) {
+                input[place] ^= 1 << random.below(8);
+            }
+        }
+        input.truncate(input.len() - random.below(12).min(input.len() as u64) as usize);
+        let printed = print_alike(seed, Some(&text), &input);
+        armed += usize::from(printed.starts_with(b"armed "));
+        lines += printed.iter().filter(|&&byte| byte == b'\n').count();
+    }
+    assert!((15..60).contains(&armed) && 50_000 < lines, "{armed} days were armed, {lines} lines printed");
+}
+
+#[test]
+fn a_missing_an_empty_and_a_too_long_profile_are_refused_alike() {
+    let long = b"A,abs_vol,Q,5\n".repeat(65_537 / 14 + 1);
+    for (seed, text) in [(1000, None), (1001, Some(&b""[..])), (1002, Some(&long[..65_537]))] {
+        assert_eq!(print_alike(seed, text, b""), b"refused 5 0\n");
+    }
+}
+
+/// The bytes of an event's record.
+fn bytes(numbers: [u64; 8]) -> [u8; 12] {
+    let mut room = [0; 12];
+    assert_eq!(native::write_record(numbers, &mut room)[0], 0, "the event is valid: {numbers:?}");
+    room
+}
+
+/// An offer of one contract at $1 to unit 0 of root 0.
+fn offer(time: u64) -> [u8; 12] {
+    bytes([1, time, 0, 0, 10_000, 1, 0, 0])
+}
+
+#[test]
+fn each_refusal_that_a_record_can_meet_is_printed() {
+    // 512 fills within the window fill the log; the next finds it full, and an order still passes
+    let mut input: Vec<u8> = (0..513).flat_map(offer).collect();
+    input.extend(bytes([0, 600, 0, 0, 0, 0, 0, 0]));
+    // an earlier time, an unknown root, an unknown root in a lockout, a faulty record, and a last one that is cut off
+    input.extend(offer(599));
+    input.extend(bytes([0, 600, 7, 0, 0, 0, 0, 0]));
+    input.extend(bytes([2, 600, 63, 0, 0, 0, 0, 0]));
+    input.extend([0xFF; 12]);
+    input.extend(&offer(601)[..11]);
+    let mut lines: Vec<String> = vec!["armed A 1 1".into()];
+    lines.extend((1..=512).map(|place| format!("{place} 0 0 1 0 0")));
+    lines.extend(["513 15 0 0 0 0", "514 0 0 0 0 0", "515 12 0 0 0 0", "516 13 0 0 0 0", "517 13 0 0 0 0", "518 16 0 0 0 0", "519 16 0 0 0 0"].map(String::from));
+    let printed = print_alike(2000, Some(b"A,rate_vol,Q,1000000000,86400000"), &input);
+    assert_eq!(String::from_utf8_lossy(&printed), lines.join("\n") + "\n");
+}
