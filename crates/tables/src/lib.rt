@@ -232,7 +232,12 @@ fn may_hold(rule: Rule) -> bool
     let scope = rule.scope;
     is_limit(measure_number(limit), limit_number(limit))
         & is_kind(kind_number(kind), window_number(kind))
-        & is_scope(64, scope_number(scope), root_number(scope), unit_number(scope))
+        & is_scope(
+            64,
+            scope_number(scope),
+            root_number(scope),
+            unit_number(scope),
+        )
 }
 
 // The two numbers of a rule, 0 and 0 for one that no profile may hold.
