@@ -89,7 +89,11 @@ fn rule_in(m: &[u64], i: usize) -> Rule
     requires { ⌜ Laid (now m) × (i < length (decode (now m) .accounts)) ⌝ }
     ensures { λ r. ⌜ r ≡ accountAt (now (m .entry)) i .rule ⌝ }
 {
-    tables::rule_at(&m[74..586], i)
+    let rules = &m[74..586];
+    let at = i * 2;
+    let first = rules[at];
+    let second = rules[at + 1];
+    tables::rule_of(first, second)
 }
 
 // What rule i has counted at a time: its total, or what the log counts for it.

@@ -4,11 +4,12 @@ ghost use mathlib.Core.Bool.{true, cond};
 ghost use mathlib.Core.List.{map};
 ghost use Prim.Native.Nat.{_*_, _≤_, _<_};
 ghost use lib.ListN.{length, drop};
+ghost use lib.Seq.{sets};
 ghost use Rattle.rules.specs.Rules.{added};
 ghost use Rattle.rules.specs.Resets.{zeroing};
 ghost use Rattle.tables.specs.Tables.{zeros};
 ghost use Rattle.tables.specs.RulePlace.{isRule};
-ghost use Rattle.tables.specs.EntryPlace.{entryAt, isEntry, logTable};
+ghost use Rattle.tables.specs.EntryPlace.{entryNumbers, entryAt, isEntry, logTable};
 ghost use Rattle.log.specs.Log.{logHolds, Held, entriesOf, unflagged, entryShare, sumOf, isRecent, recent, OneKept, Kept, Joined};
 ghost use Rattle.log.specs.Sieve.{firstTime, sieveOf, passes, sifted};
 use rules::Kind;
@@ -25,15 +26,40 @@ pub fn is_log(log: &[u64], k: usize, roots: u64, clock: u64) -> bool
     let mut from: u64 = 0;
     let mut i: usize = 0;
     while i < k {
-        let e = tables::entry_at(log, i);
+        let at = i * 2;
+        let first = log[at];
+        let second = log[at + 1];
+        let e = tables::entry_of(first, second);
         let time = e.time;
-        if !(tables::is_entry(log, i, roots) & (from <= time) & (time <= clock)) {
+        if !(tables::is_entry(first, second, roots) & (from <= time) & (time <= clock)) {
             return false;
         }
         from = time;
         i += 1;
     }
     tables::is_zero(&log[k * 2..])
+}
+
+// The entry at place i of a log.
+fn entry_at(log: &[u64], i: usize) -> Entry
+    requires { ⌜ (length (now log) ≡ 1024) × (i < 512) ⌝ }
+    ensures { λ r. ⌜ r ≡ entryAt (drop (i * 2) (now (log .entry))) ⌝ }
+{
+    let at = i * 2;
+    let first = log[at];
+    let second = log[at + 1];
+    tables::entry_of(first, second)
+}
+
+// Puts an entry at place i of a log.
+fn put_entry(log: &mut [u64], i: usize, e: Entry)
+    requires { ⌜ (length (now log) ≡ 1024) × (i < 512) × (isEntry 64 e ≡ true) ⌝ }
+    ensures { λ _. ⌜ now (log .exit) ≡ sets (now (log .entry)) (i * 2) (entryNumbers e) ⌝ }
+{
+    let p = tables::entry_place(e);
+    let at = i * 2;
+    log[at] = p.first;
+    log[at + 1] = p.second;
 }
 
 // What counts for a rule at a time, by the first number of an entry: the digits under a mask, which hold its root, its unit and the flag of the rule's
@@ -111,7 +137,7 @@ fn summed(log: &[u64], k: usize, limit: Limit, s: Sieve) -> u64
     let mut sum: u64 = 0;
     let mut i: usize = 0;
     while i < k {
-        let e = tables::entry_at(log, i);
+        let e = entry_at(log, i);
         let fill = log[i * 2];
         sum += entry_share(limit, s, fill, e);
         i += 1;
@@ -164,8 +190,8 @@ pub fn unflag(log: &mut [u64], k: usize, root: u64, reset: u64)
 {
     let mut i: usize = 0;
     while i < k {
-        let e = tables::entry_at(log, i);
-        tables::put_entry(log, i, cleared(e, root, reset));
+        let e = entry_at(log, i);
+        put_entry(log, i, cleared(e, root, reset));
         i += 1;
     }
 }
@@ -187,7 +213,7 @@ pub fn recent_entries(log: &[u64], k: usize, window: u64, time: u64) -> usize
     let mut n: usize = 0;
     let mut i: usize = 0;
     while i < k {
-        let e = tables::entry_at(log, i);
+        let e = entry_at(log, i);
         if is_recent(e, window, time) {
             n += 1;
         }
@@ -201,9 +227,9 @@ fn keep_one(log: &mut [u64], i: usize, j: usize, window: u64, time: u64) -> usiz
     requires { ⌜ (length (now log) ≡ 1024) × (i < 512) × (j ≤ i) × (window ≤ 86_400_000) × (isEntry 64 (entryAt (drop (i * 2) (now log))) ≡ true) ⌝ }
     ensures { λ r. ⌜ OneKept window time i j (now (log .entry)) (now (log .exit)) r ⌝ }
 {
-    let e = tables::entry_at(log, i);
+    let e = entry_at(log, i);
     if is_recent(e, window, time) {
-        tables::put_entry(log, j, e);
+        put_entry(log, j, e);
         return j + 1;
     }
     j
@@ -246,6 +272,6 @@ pub fn join(log: &mut [u64], k: usize, window: u64, time: u64, e: Entry) -> usiz
     let from = kept * 2;
     let end = k * 2;
     blank(&mut log[from..end]);
-    tables::put_entry(log, kept, e);
+    put_entry(log, kept, e);
     kept + 1
 }

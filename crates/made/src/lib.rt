@@ -1,9 +1,9 @@
 // The tests of a state's roots, rules and totals: whether they are such as some accepted profile gives.
 ghost use mathlib.Core.Path.{_≡_};
-ghost use Prim.Native.Nat.{_+_, _≤_, _<_, max};
+ghost use Prim.Native.Nat.{_+_, _*_, _≤_, _<_, max};
 ghost use mathlib.Core.Bool.{true};
 ghost use mathlib.Core.List.{List};
-ghost use lib.ListN.{length};
+ghost use lib.ListN.{length, drop};
 ghost use Rattle.rules.specs.Rules.{isRate};
 ghost use Rattle.rules.specs.declared.Rule.{Rule};
 ghost use Rattle.text.specs.Text.{isNameByte};
@@ -140,16 +140,30 @@ pub fn are_rules(rules: &[u64], k: usize, n: u64) -> bool
     let mut tally = Tally { seen: 0, firms: 0 };
     let mut i: usize = 0;
     while i < k {
-        if !tables::is_rule(rules, i, n) {
+        let at = i * 2;
+        let first = rules[at];
+        let second = rules[at + 1];
+        if !tables::is_rule(first, second, n) {
             return false;
         }
-        match with_rule(tables::rule_at(rules, i), tally, &mut counts) {
+        match with_rule(tables::rule_of(first, second), tally, &mut counts) {
             Step::Stop => return false,
             Step::With(next) => tally = next,
         }
         i += 1;
     }
     (tally.seen == n) & tables::is_zero(&rules[k * 2..])
+}
+
+// The rule at place i of the rules.
+fn rule_at(rules: &[u64], i: usize) -> Rule
+    requires { ⌜ (length (now rules) ≡ 512) × (i < 256) ⌝ }
+    ensures { λ r. ⌜ r ≡ ruleAt (drop (i * 2) (now (rules .entry))) ⌝ }
+{
+    let at = i * 2;
+    let first = rules[at];
+    let second = rules[at + 1];
+    tables::rule_of(first, second)
 }
 
 // Whether a rule of this kind is a rate rule.
@@ -180,7 +194,7 @@ pub fn are_totals(rules: &[u64], totals: &[u64], k: usize) -> bool
 {
     let mut i: usize = 0;
     while i < k {
-        let rule = tables::rule_at(rules, i);
+        let rule = rule_at(rules, i);
         if !is_total(rule, totals[i]) {
             return false;
         }
@@ -196,7 +210,7 @@ pub fn has_rate(rules: &[u64], k: usize) -> bool
 {
     let mut i: usize = 0;
     while i < k {
-        let rule = tables::rule_at(rules, i);
+        let rule = rule_at(rules, i);
         let kind = rule.kind;
         if is_rate(kind) {
             return true;

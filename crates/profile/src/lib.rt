@@ -1,11 +1,13 @@
 // A whole profile: from its text to the firm, the roots and the rules, or the first fault and its line.
 ghost use mathlib.Core.Path.{_≡_};
+ghost use mathlib.Core.Bool.{true};
 ghost use mathlib.Core.List.{List};
 ghost use Prim.Native.Nat.{ℕ, _+_, _*_, _≤_, _<_, max};
 ghost use lib.ListN.{length, getD};
 ghost use lib.Seq.{sets};
 ghost use Rattle.rules.specs.declared.Scope.the-variants.{EveryFill};
 ghost use Rattle.text.specs.Text.{lines, indexOf};
+ghost use Rattle.tables.specs.RulePlace.{ruleNumbers, isRule};
 ghost use Rattle.profile.specs.Profile.{Profile, readOn, startOf, scanOf};
 ghost use Rattle.profile.specs.Lawful.{Said};
 ghost use Rattle.profile.specs.Held.{Held, Holds, Joins, Told, Names, noTally, scopeAt, unitWith, unitsWith, isOver, unitNumbers, hasRoom, mayCover, countsWith};
@@ -147,6 +149,17 @@ pub fn cover(counts: &mut [u64], root: usize, rule: Rule) -> bool
     true
 }
 
+// Puts a rule at place i of the rules.
+fn put_rule(rules: &mut [u64], i: usize, rule: Rule)
+    requires { ⌜ (length (now rules) ≡ 512) × (i < 256) × (isRule 64 rule ≡ true) ⌝ }
+    ensures { λ _. ⌜ now (rules .exit) ≡ sets (now (rules .entry)) (i * 2) (ruleNumbers rule) ⌝ }
+{
+    let p = tables::rule_place(rule);
+    let at = i * 2;
+    rules[at] = p.first;
+    rules[at + 1] = p.second;
+}
+
 // Takes a firm rule in, unless there are 10.
 fn admit_firm(tally: Tally, rule: Rule, rules: &mut [u64]) -> Admitted
     requires { ⌜ (length (now rules) ≡ 512) × (tally .rules < 256) × Said rule × (rule .scope ≡ EveryFill) ⌝ }
@@ -157,7 +170,7 @@ fn admit_firm(tally: Tally, rule: Rule, rules: &mut [u64]) -> Admitted
         return Admitted::TooMany;
     }
     let at = tally.rules;
-    tables::put_rule(rules, at, rule);
+    put_rule(rules, at, rule);
     let after = at + 1;
     let more = firms + 1;
     Admitted::With(Tally {
@@ -198,7 +211,7 @@ fn admit_root(
     // The name stands there already, unless the root is new.
     roots[root] = name;
     let at = tally.rules;
-    tables::put_rule(rules, at, numbered);
+    put_rule(rules, at, numbered);
     let after = at + 1;
     Admitted::With(Tally {
         rules: after,

@@ -2,13 +2,14 @@
 ghost use mathlib.Core.Path.{_≡_};
 ghost use mathlib.Core.Bool.{cond};
 ghost use mathlib.Core.List.{map};
-ghost use Prim.Native.Nat.{_<_};
-ghost use lib.ListN.{length, getD};
+ghost use Prim.Native.Nat.{_*_, _<_};
+ghost use lib.ListN.{length, getD, drop};
 ghost use lib.Dec.{eqb};
 ghost use Rattle.bits.specs.Locks.{withBit, withoutBit};
 ghost use Rattle.rules.specs.Rules.{levelOf};
 ghost use Rattle.rules.specs.Resets.{zeroing, lifting};
 ghost use Rattle.rules.specs.declared.Level.the-variants.{Root};
+ghost use Rattle.tables.specs.RulePlace.{ruleAt};
 ghost use Rattle.state.specs.State.{stored, decode};
 ghost use Rattle.state.specs.Laid.{Laid, withAccounts};
 ghost use Rattle.machine.specs.Machine.{verdictOf, levelNamed, lockedOut, wiped, resetState, leftOf, noAccount};
@@ -100,6 +101,17 @@ fn lifted(word: u64, root: u64, reset: u64) -> u64
     }
 }
 
+// The rule at place i of the rules.
+fn rule_at(rules: &[u64], i: usize) -> Rule
+    requires { ⌜ (length (now rules) ≡ 512) × (i < 256) ⌝ }
+    ensures { λ r. ⌜ r ≡ ruleAt (drop (i * 2) (now (rules .entry))) ⌝ }
+{
+    let at = i * 2;
+    let first = rules[at];
+    let second = rules[at + 1];
+    tables::rule_of(first, second)
+}
+
 // Zeroes the totals of the rules whose level the reset of an order for a root concerns.
 fn wipe(m: &mut [u64], root: u64, reset: u64)
     requires { ⌜ Laid (now m) ⌝ }
@@ -108,7 +120,7 @@ fn wipe(m: &mut [u64], root: u64, reset: u64)
     let rules = m[4] as usize;
     let mut i: usize = 0;
     while i < rules {
-        let rule = tables::rule_at(&m[74..586], i);
+        let rule = rule_at(&m[74..586], i);
         let at = 586 + i;
         m[at] = kept(level_of(rule), m[at], root, reset);
         i += 1;
@@ -135,7 +147,7 @@ pub fn left(m: &[u64], time: u64, rule: usize) -> u64
     requires { ⌜ Laid (now m) × (rule < length (decode (now m) .accounts)) ⌝ }
     ensures { λ r. ⌜ r ≡ leftOf (decode (now (m .entry))) time (getD (decode (now (m .entry)) .accounts) rule noAccount) ⌝ }
 {
-    let asked = tables::rule_at(&m[74..586], rule);
+    let asked = rule_at(&m[74..586], rule);
     let at = 586 + rule;
     let total = m[at];
     let entries = m[5] as usize;

@@ -1,11 +1,12 @@
 -- A log entry in two numbers: an entry in range fits them, and they stand for that entry again. Assumes nothing.
-use Prim.Native.Nat.{ℕ, zero, suc, _/_, _%_, _^_, _≤_, _<_, zero-le}
-use mathlib.Core.Path.{_≡_, refl, ap, ap₂, _∙_}
+use Prim.Native.Nat.{ℕ, zero, suc, _/_, _%_, _^_, _+_, _≤_, _<_, zero-le}
+use mathlib.Core.Path.{_≡_, refl, sym, ap, ap₂, _∙_}
 use mathlib.Core.Bool.{Bool, true, false, _&&_}
 use mathlib.Core.List.{List, [], _∷_}
 use native.Mathlib.Nat.{mod-lt, zero-lt-suc}
 use native.Mathlib.Omega.{arith}
-use lib.Dec.{eqb, leb, ltb}
+use lib.ListN.{length, getD, drop}
+use lib.Dec.{eqb, ltb}
 use borrow.Author.Tests.{eqb-true, eq-eqb, le-leb, lt-ltb}
 use Rattle.laws.specs.Tests.{and-l, and-r, tests}
 use Rattle.laws.specs.Lists.{same}
@@ -14,10 +15,11 @@ use Rattle.measures.proofs.Determined.{in-test}
 use Rattle.bits.specs.Fields.{total, packed, Fit}
 use Rattle.bits.proofs.Packing.{unpacked-packed, done, most, fits}
 use Rattle.tables.specs.declared.Entry.{Entry}
+use Rattle.tables.specs.declared.Place.{Place}
 use Rattle.tables.specs.Tables.{isPlace}
-use Rattle.tables.specs.EntryPlace.{flagNumber, fillWidths, amountWidths, fillValues, amountValues, entryNumbers, entryOf, entryAt, isEntry, isEntryPlace}
-use Rattle.tables.proofs.Tables.{Codec}
-use Rattle.tables.proofs.Parts.{shifted, by-shift, same-test, spare-test}
+use Rattle.tables.specs.EntryPlace.{flagNumber, fillWidths, amountWidths, fillValues, amountValues, entryNumbers, entryOf, entryAt, isEntry, isEntryPlace, entryPlace}
+use Rattle.tables.proofs.Tables.{Codec, placed}
+use Rattle.tables.proofs.Parts.{told, shifted, by-shift, same-test, spare-test, and-i}
 
 -- every number of an entry in its range
 pub record Ranged (roots : ℕ) (e : Entry) : Type 0 where
@@ -146,7 +148,7 @@ entry-parts roots f s rest =
 -- the test that code runs: a time or a premium in range, with what stands above it, has nothing above it
 abbrev pub entryTest : ℕ → ℕ → ℕ → Bool
 entryTest roots fill amount =
-    leb (fill / 1024) 86_399_999 && ltb (fill / 16 % 64) roots && isIn premiums (amount / 1_048_576) && isIn offers (amount % 1_048_576)
+    isIn times (fill / 1024) && ltb (fill / 16 % 64) roots && isIn premiums (amount / 1_048_576) && isIn offers (amount % 1_048_576)
 
 whole-test : (roots f s : ℕ) → (eqb (f / 2 ^ 37) 0 && (eqb (s / 2 ^ 47) 0 && true) && isEntry roots (entryIn f s)) ≡ entryTest roots f s
 whole-test roots f s = same-test (spare && isEntry roots (entryIn f s)) (entryTest roots f s) there back
@@ -167,7 +169,7 @@ whole-test roots f s = same-test (spare && isEntry roots (entryIn f s)) (entryTe
         let above-premium = eqb-true (s / 2 ^ 47) 0 (and-l b true (and-r a (b && true) z)) in
         let r = entry-ranged roots (entryIn f s) (and-r spare (isEntry roots (entryIn f s)) h) in
         rw (
-          le-leb (f / 1024) 86_399_999 (omega arith),
+          in-test times (f / 1024) (zero-le, omega arith),
           lt-ltb (f / 16 % 64) roots (r .root),
           le-leb 1 (s / 1_048_576) (omega arith),
           le-leb (s / 1_048_576) 100_000_000 (omega arith),
@@ -192,3 +194,24 @@ whole-test roots f s = same-test (spare && isEntry roots (entryIn f s)) (entryTe
 -- a place is an entry's exactly if its parts pass that test
 pub entry-place : (roots f s : ℕ) (rest : List ℕ) → isEntryPlace roots (f ∷ s ∷ rest) ≡ entryTest roots f s
 entry-place roots f s rest = entry-parts roots f s rest ∙ whole-test roots f s
+
+-- an entry is in range exactly if its unit and its other numbers are
+pub entry-tested : (roots : ℕ) (e : Entry)
+    → (isIn times (e .time) && ltb (e .root) roots && isIn premiums (e .premium .0) && isIn offers (e .contracts .0) && isIn units (e .unit)) ≡ isEntry roots e
+unfolding isEntry
+entry-tested roots e =
+    same-test _ (isIn times (e .time) && ltb (e .root) roots && isIn units (e .unit) && isIn premiums (e .premium .0) && isIn offers (e .contracts .0))
+    (λ h. search (and-l, and-r, and-i) depth 20) (λ h. search (and-l, and-r, and-i) depth 20)
+
+-- the entry at a place, and whether it is one, by the place's two numbers as code reads them
+module _ (xs : List ℕ) (at : ℕ) (h : at + 1 < length xs) where
+  pub entry-here : entryAt (getD xs at 0 ∷ getD xs (at + 1) 0 ∷ []) ≡ entryAt (drop at xs)
+  entry-here = told entryAt (λ a b rest. entry-in a b rest ∙ sym (entry-in a b [])) xs at h
+
+  pub is-entry-here : (roots : ℕ) → isEntryPlace roots (getD xs at 0 ∷ getD xs (at + 1) 0 ∷ []) ≡ isEntryPlace roots (drop at xs)
+  is-entry-here roots = told (isEntryPlace roots) (λ a b rest. entry-place roots a b rest ∙ sym (entry-place roots a b [])) xs at h
+
+-- the numbers of an entry in range are those of its place
+pub entry-placed : (e : Entry) (p : Place) → isEntry 64 e ≡ true → p ≡ entryPlace e → entryNumbers e ≡ p .first ∷ p .second ∷ []
+unfolding entryNumbers
+entry-placed e p h q = placed (isEntry 64) entryNumbers e _ _ p refl h q

@@ -12,7 +12,8 @@ use lib.Seq.{sets, take-at, drop-at, drop-drop, take-add, drop-append-add}
 use borrow.Author.Tests.{eqb-true, eq-eqb}
 use Rattle.laws.specs.Tests.{and-l, and-r}
 use Rattle.laws.specs.Lists.{from, ended, same, same-eq, same-refl}
-use Rattle.tables.specs.Tables.{zeros, allZero, flat, table, places, isPlace, every, placesPass}
+use Rattle.tables.specs.declared.Place.{Place}
+use Rattle.tables.specs.Tables.{zeros, allZero, flat, table, places, isPlace, placeOf, every, placesPass}
 use Rattle.tables.proofs.Parts.{same-test, and-i}
 
 -- a list of zeros
@@ -274,6 +275,12 @@ module _ (w k i : ℕ) (xs : List ℕ) (more : i < k) where
   places-on dec = rw (left, step)
 
 -- zeros hold 0 at each place, and past their end
+-- a valid record of two numbers has them for its place
+pub placed : {A : Type 0} (ok : A → Bool) (enc : A → List ℕ) (r : A) (f s : ℕ) (p : Place)
+    → enc r ≡ f ∷ s ∷ [] → ok r ≡ true → p ≡ placeOf ok enc r → enc r ≡ p .first ∷ p .second ∷ []
+unfolding placeOf
+placed ok enc r f s p e h q = rw (q, h, e)
+
 pub zeros-at : (n i : ℕ) → getD (zeros n) i 0 ≡ 0
 unfolding zeros
 zeros-at zero i = refl

@@ -7,7 +7,8 @@ use lib.Dec.{ltb, eqb}
 use Rattle.measures.specs.Ranges.{isIn, times, units, premiums, offers}
 use Rattle.bits.specs.Fields.{packed, unpacked}
 use Rattle.tables.specs.declared.Entry.{Entry}
-use Rattle.tables.specs.Tables.{table, isPlace}
+use Rattle.tables.specs.declared.Place.{Place}
+use Rattle.tables.specs.Tables.{table, isPlace, placeOf}
 
 -- a flag as a bit
 abbrev pub flagNumber : Bool → ℕ
@@ -55,6 +56,10 @@ isEntry roots e = isIn times (e .time) && ltb (e .root) roots && isIn units (e .
 -- the first two numbers are just those of such an entry
 abbrev pub isEntryPlace : ℕ → List ℕ → Bool
 isEntryPlace roots xs = isPlace 2 (isEntry roots) entryAt entryNumbers xs
+
+-- the two numbers of an entry, 0 and 0 for one with a number out of its range
+abbrev pub entryPlace : Entry → Place
+entryPlace e = placeOf (isEntry 64) entryNumbers e
 
 -- the entries in the log's 512 places
 abbrev pub logTable : List Entry → List ℕ

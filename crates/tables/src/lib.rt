@@ -1,14 +1,13 @@
 // Tables of places in lent numbers: how a rule and a log entry stand in two numbers each.
 ghost use mathlib.Core.Path.{_≡_};
-ghost use mathlib.Core.Bool.{true, cond};
+ghost use mathlib.Core.Bool.{true, cond, _&&_};
 ghost use mathlib.Core.List.{[], _∷_};
-ghost use Prim.Native.Nat.{_+_, _*_, _<_};
-ghost use lib.ListN.{length, drop};
-ghost use lib.Seq.{sets};
+ghost use lib.Dec.{ltb};
+ghost use Rattle.measures.specs.Ranges.{isIn, times, premiums, offers};
 ghost use Rattle.bits.specs.Fields.{packed};
 ghost use Rattle.tables.specs.Tables.{allZero};
-ghost use Rattle.tables.specs.RulePlace.{limitNumber, measureNumber, windowNumber, kindNumber, scopeNumber, rootNumber, unitNumber, limitWidths, scopeWidths, limitValues, scopeValues, ruleNumbers, limitOf, kindOf, scopeOf, ruleAt, isLimitPlace, isKindPlace, isScopePlace, isRule, isRulePlace};
-ghost use Rattle.tables.specs.EntryPlace.{fillWidths, amountWidths, fillValues, amountValues, entryNumbers, entryAt, isEntry, isEntryPlace};
+ghost use Rattle.tables.specs.RulePlace.{limitNumber, measureNumber, windowNumber, kindNumber, scopeNumber, rootNumber, unitNumber, limitWidths, scopeWidths, limitValues, scopeValues, limitOf, kindOf, scopeOf, ruleAt, isLimitPlace, isKindPlace, isScopePlace, isRule, isRulePlace, rulePlace};
+ghost use Rattle.tables.specs.EntryPlace.{fillWidths, amountWidths, fillValues, amountValues, entryAt, isEntry, isEntryPlace, entryPlace};
 use measures::Contracts;
 use measures::Dollars;
 use measures::Executions;
@@ -35,30 +34,9 @@ pub struct Entry {
 }
 
 // The two numbers of a place.
-struct Place {
-    first: u64,
-    second: u64,
-}
-
-// The numbers at place i: what stands from there on begins with them.
-fn place_at(table: &[u64], i: usize) -> Place
-    requires { ⌜ i * 2 + 1 < length (now table) ⌝ }
-    ensures { λ p. ⌜ drop (i * 2) (now (table .entry)) ≡ p .first ∷ p .second ∷ drop (i * 2 + 2) (now (table .entry)) ⌝ }
-{
-    let at = i * 2;
-    let first = table[at];
-    let second = table[at + 1];
-    Place { first, second }
-}
-
-// Puts two numbers at place i.
-fn put_place(table: &mut [u64], i: usize, p: Place)
-    requires { ⌜ i * 2 + 1 < length (now table) ⌝ }
-    ensures { λ _. ⌜ now (table .exit) ≡ sets (now (table .entry)) (i * 2) (p .first ∷ p .second ∷ []) ⌝ }
-{
-    let at = i * 2;
-    table[at] = p.first;
-    table[at + 1] = p.second;
+pub struct Place {
+    pub first: u64,
+    pub second: u64,
 }
 
 // One of two numbers, by a test.
@@ -168,16 +146,6 @@ fn scope_word(rule: Rule) -> u64
         + unit_number(scope)
 }
 
-// Puts a rule at place i of the rules.
-pub fn put_rule(table: &mut [u64], i: usize, rule: Rule)
-    requires { ⌜ (length (now table) ≡ 512) × (i < 256) × (isRule 64 rule ≡ true) ⌝ }
-    ensures { λ _. ⌜ now (table .exit) ≡ sets (now (table .entry)) (i * 2) (ruleNumbers rule) ⌝ }
-{
-    let first = limit_word(rule);
-    let second = scope_word(rule);
-    put_place(table, i, Place { first, second });
-}
-
 // The limit of a measure, by the measure's number.
 fn limit_of(measure: u64, n: u64) -> Limit
     ensures { λ r. ⌜ r ≡ limitOf measure n ⌝ }
@@ -214,14 +182,10 @@ fn scope_of(n: u64, root: u64, unit: u64) -> Scope
     Scope::OneUnit(root, unit)
 }
 
-// The rule at place i of the rules.
-pub fn rule_at(table: &[u64], i: usize) -> Rule
-    requires { ⌜ (length (now table) ≡ 512) × (i < 256) ⌝ }
-    ensures { λ r. ⌜ r ≡ ruleAt (drop (i * 2) (now (table .entry))) ⌝ }
+// The rule that two numbers stand for.
+pub fn rule_of(first: u64, second: u64) -> Rule
+    ensures { λ r. ⌜ r ≡ ruleAt (first ∷ second ∷ []) ⌝ }
 {
-    let p = place_at(table, i);
-    let first = p.first;
-    let second = p.second;
     let scope = scope_of(second / 256 % 4, second / 4 % 64, second % 4);
     let kind = kind_of(second / 1024 % 2, first % TWO_27);
     let limit = limit_of(second / 2048 % 4, first / TWO_27);
@@ -249,18 +213,46 @@ fn is_scope(roots: u64, n: u64, root: u64, unit: u64) -> bool
     (n <= 2) & (root < pick(n == 0, 1, roots)) & (unit <= pick(n == 2, 3, 0))
 }
 
-// Whether place i holds a rule that a profile with so many roots may hold, and nothing else.
-pub fn is_rule(table: &[u64], i: usize, roots: u64) -> bool
-    requires { ⌜ (length (now table) ≡ 512) × (i < 256) ⌝ }
-    ensures { λ r. ⌜ r ≡ isRulePlace roots (drop (i * 2) (now (table .entry))) ⌝ }
+// Whether two numbers are those of a rule that a profile with so many roots may hold, and nothing else.
+pub fn is_rule(first: u64, second: u64, roots: u64) -> bool
+    ensures { λ r. ⌜ r ≡ isRulePlace roots (first ∷ second ∷ []) ⌝ }
 {
-    let p = place_at(table, i);
-    let first = p.first;
-    let second = p.second;
     // A measure that is known has nothing above it.
     is_limit(second / 2048, first / TWO_27)
         & is_kind(second / 1024 % 2, first % TWO_27)
         & is_scope(roots, second / 256 % 4, second / 4 % 64, second % 4)
+}
+
+// Whether a profile with 64 roots may hold a rule.
+fn may_hold(rule: Rule) -> bool
+    ensures { λ r. ⌜ r ≡ isRule 64 rule ⌝ }
+{
+    let limit = rule.limit;
+    let kind = rule.kind;
+    let scope = rule.scope;
+    is_limit(measure_number(limit), limit_number(limit))
+        & is_kind(kind_number(kind), window_number(kind))
+        & is_scope(
+            64,
+            scope_number(scope),
+            root_number(scope),
+            unit_number(scope),
+        )
+}
+
+// The two numbers of a rule, 0 and 0 for one that no profile may hold.
+pub fn rule_place(rule: Rule) -> Place
+    ensures { λ r. ⌜ r ≡ rulePlace rule ⌝ }
+{
+    if may_hold(rule) {
+        let first = limit_word(rule);
+        let second = scope_word(rule);
+        return Place { first, second };
+    }
+    Place {
+        first: 0,
+        second: 0,
+    }
 }
 
 // The first number of an entry: time, root, unit and the two flags.
@@ -279,48 +271,58 @@ fn amount_word(e: Entry) -> u64
     e.premium.0 * TWO_20 + e.contracts.0
 }
 
-// Puts an entry at place i of the log.
-pub fn put_entry(table: &mut [u64], i: usize, e: Entry)
-    requires { ⌜ (length (now table) ≡ 1024) × (i < 512) × (isEntry 64 e ≡ true) ⌝ }
-    ensures { λ _. ⌜ now (table .exit) ≡ sets (now (table .entry)) (i * 2) (entryNumbers e) ⌝ }
+// The entry that two numbers stand for.
+pub fn entry_of(first: u64, second: u64) -> Entry
+    ensures { λ r. ⌜ r ≡ entryAt (first ∷ second ∷ []) ⌝ }
 {
-    let first = fill_word(e);
-    let second = amount_word(e);
-    put_place(table, i, Place { first, second });
-}
-
-// The entry at place i of the log.
-pub fn entry_at(table: &[u64], i: usize) -> Entry
-    requires { ⌜ (length (now table) ≡ 1024) × (i < 512) ⌝ }
-    ensures { λ r. ⌜ r ≡ entryAt (drop (i * 2) (now (table .entry))) ⌝ }
-{
-    let p = place_at(table, i);
-    let fill = p.first;
-    let amount = p.second;
     Entry {
-        time: fill / 1024 % TWO_27,
-        root: fill / 16 % 64,
-        unit: fill / 4 % 4,
-        premium: TenThousandths(amount / TWO_20 % TWO_27),
-        contracts: Contracts(amount % TWO_20),
-        forroot: fill / 2 % 2 == 1,
-        forfirm: fill % 2 == 1,
+        time: first / 1024 % TWO_27,
+        root: first / 16 % 64,
+        unit: first / 4 % 4,
+        premium: TenThousandths(second / TWO_20 % TWO_27),
+        contracts: Contracts(second % TWO_20),
+        forroot: first / 2 % 2 == 1,
+        forfirm: first % 2 == 1,
     }
 }
 
-// Whether place i holds an entry with every number in its range, and nothing else.
-pub fn is_entry(table: &[u64], i: usize, roots: u64) -> bool
-    requires { ⌜ (length (now table) ≡ 1024) × (i < 512) ⌝ }
-    ensures { λ r. ⌜ r ≡ isEntryPlace roots (drop (i * 2) (now (table .entry))) ⌝ }
+// Whether the numbers of an entry other than its unit are in their ranges, with so many roots.
+fn are_ranged(roots: u64, time: u64, root: u64, premium: u64, contracts: u64) -> bool
+    ensures { λ r. ⌜ r ≡ (isIn times time && ltb root roots && isIn premiums premium && isIn offers contracts) ⌝ }
 {
-    let p = place_at(table, i);
-    let fill = p.first;
-    let amount = p.second;
+    measures::is_in(time, 0, 86_399_999)
+        & (root < roots)
+        & measures::is_in(premium, 1, 100_000_000)
+        & measures::is_in(contracts, 1, 1_000_000)
+}
+
+// Whether two numbers are those of an entry with every number in its range, and nothing else.
+pub fn is_entry(first: u64, second: u64, roots: u64) -> bool
+    ensures { λ r. ⌜ r ≡ isEntryPlace roots (first ∷ second ∷ []) ⌝ }
+{
     // A time or a premium in range has nothing above it.
-    (fill / 1024 <= 86_399_999)
-        & (fill / 16 % 64 < roots)
-        & measures::is_in(amount / TWO_20, 1, 100_000_000)
-        & measures::is_in(amount % TWO_20, 1, 1_000_000)
+    are_ranged(
+        roots,
+        first / 1024,
+        first / 16 % 64,
+        second / TWO_20,
+        second % TWO_20,
+    )
+}
+
+// The two numbers of an entry, 0 and 0 for one with a number out of its range, with 64 roots.
+pub fn entry_place(e: Entry) -> Place
+    ensures { λ r. ⌜ r ≡ entryPlace e ⌝ }
+{
+    if are_ranged(64, e.time, e.root, e.premium.0, e.contracts.0) & measures::is_in(e.unit, 0, 3) {
+        let first = fill_word(e);
+        let second = amount_word(e);
+        return Place { first, second };
+    }
+    Place {
+        first: 0,
+        second: 0,
+    }
 }
 
 // Whether every number is 0.

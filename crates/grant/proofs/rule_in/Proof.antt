@@ -1,27 +1,60 @@
 -- `grant::rule_in` meets its contract: the rules of the state stand in their places. Assumes nothing.
+use Prim.Native.Nat.{_*_}
 use mathlib.Core.Path.{_∙_}
+use Rattle.tables.proofs.RulePlace.{rule-here}
+use Rattle.state.specs.State.{rulesPart}
 use Rattle.grant.proofs.Memory.{laid-rule}
 use borrow.Author.Needs.{needs}
 use Rattle.grant.proofs.rule_in.Statement.{statement}
 use Rattle.grant.proofs.rule_in.Tie as tie
 
-sub-rule-at : tie.Need-sub-rule-at
-sub-rule-at c = search needs
+sub-rules : tie.Need-sub-rules
+sub-rules c = search needs
 
-part-rule-at-start : tie.Need-part-rule-at-start
-part-rule-at-start c = search needs
+part-rules-start : tie.Need-part-rules-start
+part-rules-start c = search needs
 
-part-rule-at-end : tie.Need-part-rule-at-end
-part-rule-at-end c = search needs
+part-rules-end : tie.Need-part-rules-end
+part-rules-end c = search needs
 
-rule-at-requires : tie.Need-rule-at-requires
-rule-at-requires c κs = search needs
+mul-at : tie.Need-mul-at
+mul-at c = search needs
+
+mul-first : tie.Need-mul-first
+mul-first c = search needs
+
+shared-slice-read-first : tie.Need-shared-slice-read-first
+shared-slice-read-first c = search needs
+
+add-second : tie.Need-add-second
+add-second c = search needs
+
+mul-second : tie.Need-mul-second
+mul-second c = search needs
+
+shared-slice-read-second : tie.Need-shared-slice-read-second
+shared-slice-read-second c = search needs
+
+rule-of-requires : tie.Need-rule-of-requires
+rule-of-requires c κs = search needs
 
 returns : tie.Need-returns
 returns c =
-    let p = c .before .before .before .pre in
-    c .rule-at .ensures ∙ laid-rule (p .0) (p .1)
+    let start = c .before .before .before .before .before in
+    c .rule-of .ensures ∙ rule-here (rulesPart (start .args .m .now)) (start .args .i * 2) (shared-slice-read-second (c .before)) ∙ laid-rule (start .pre .0) (start .pre .1)
 
 pub rule-in-spec : {M : Type 1} → statement M
 rule-in-spec =
-    tie.close (tie.spec sub-rule-at part-rule-at-start part-rule-at-end rule-at-requires returns)
+    tie.close
+    (tie.spec
+    sub-rules
+    part-rules-start
+    part-rules-end
+    mul-at
+    mul-first
+    shared-slice-read-first
+    add-second
+    mul-second
+    shared-slice-read-second
+    rule-of-requires
+    returns)

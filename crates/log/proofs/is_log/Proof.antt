@@ -1,13 +1,16 @@
 -- `log::is_log` meets its contract: what is left from place i on decides as the whole does. Assumes nothing.
-use Prim.Native.Nat.{_-_, _*_, _≤_}
+use Prim.Native.Nat.{ℕ, _+_, _-_, _*_, _≤_, _<_}
 use mathlib.Core.Path.{_≡_, refl, sym, ap, _∙_}
 use mathlib.Core.Bool.{Bool, _&&_}
+use mathlib.Core.List.{List}
 use lib.ListN.{length, take, drop, length-drop}
 use lib.Seq.{take-all}
 use borrow.Author.Needs.{needs}
 use borrow.Author.Tests.{not-true, not-false}
 use native.Mathlib.Omega.{arith}
 use Rattle.tables.specs.Tables.{allZero}
+use Rattle.tables.specs.EntryPlace.{entryAt, isEntryPlace}
+use Rattle.tables.proofs.EntryPlace.{entry-here, is-entry-here}
 use Rattle.log.proofs.Order.{leftHolds, left-on, left-off, left-end, holds-is}
 use Rattle.log.proofs.is_log.Statement.{statement}
 use Rattle.log.proofs.is_log.Tie as tie
@@ -21,22 +24,58 @@ abbrev μ-loop : tie.MeasureT-loop
 loop-holds : tie.Need-loop-holds Inv-loop μ-loop
 loop-holds c = (omega arith, refl)
 
-entry-at-requires : tie.Need-entry-at-requires Inv-loop μ-loop
-entry-at-requires c κs = search needs
+mul-at : tie.Need-mul-at Inv-loop μ-loop
+mul-at c = search needs
+
+mul-first : tie.Need-mul-first Inv-loop μ-loop
+mul-first c = search needs
+
+shared-slice-read-first : tie.Need-shared-slice-read-first Inv-loop μ-loop
+shared-slice-read-first c = search needs
+
+add-second : tie.Need-add-second Inv-loop μ-loop
+add-second c = search needs
+
+mul-second : tie.Need-mul-second Inv-loop μ-loop
+mul-second c = search needs
+
+shared-slice-read-second : tie.Need-shared-slice-read-second Inv-loop μ-loop
+shared-slice-read-second c = search needs
+
+entry-of-requires : tie.Need-entry-of-requires Inv-loop μ-loop
+entry-of-requires c κs = search needs
 
 is-entry-requires : tie.Need-is-entry-requires Inv-loop μ-loop
 is-entry-requires c κs = search needs
 
+-- the entry at place i, and whether it is one, by the numbers read there
+module _ (c : tie.After-is-entry Inv-loop μ-loop) where
+  abbrev at-test : tie.In-loop Inv-loop μ-loop
+  at-test = c .before .before .before .before
+
+  abbrev numbers : List ℕ
+  numbers = at-test .before .before .before .args .log .now
+
+  abbrev at : ℕ
+  at = at-test .before .loop .i * 2
+
+  there : at + 1 < length numbers
+  there = omega (arith, at-test .before .before .before .pre, at-test .loop-test .taken)
+
+  read : c .before .entry-of .result ≡ entryAt (drop at numbers)
+  read = c .before .entry-of .ensures ∙ entry-here numbers at there
+
+  tested : c .is-entry .result ≡ isEntryPlace (at-test .before .before .before .args .roots) (drop at numbers)
+  tested = c .is-entry .ensures ∙ is-entry-here numbers at there _
+
 returns : tie.Need-returns Inv-loop μ-loop
 returns c =
-    let at-read = c .before .before in
-    let at-loop = at-read .before .before in
-    let a = at-loop .before .before .args in
-    let test = c .before .is-entry .ensures in
+    let t = at-test (c .before) in
+    let a = t .before .before .before .args in
     sym (holds-is (a .roots) (a .clock) (a .k) (a .log .now)
     ∙ ap (λ (b : Bool). b && allZero (drop (a .k * 2) (a .log .now)))
-    (at-loop .loop .inv .1
-    ∙ left-off _ _ _ _ _ _ _ (at-read .entry-at .ensures) _ test (at-read .before .loop-test .taken) (not-true _ (c .if1 .taken))))
+    (t .before .loop .inv .1
+    ∙ left-off _ _ _ _ _ _ _ (read (c .before)) _ (tested (c .before)) (t .loop-test .taken) (not-true _ (c .if1 .taken))))
 
 add-i : tie.Need-add-i Inv-loop μ-loop
 add-i c = search needs
@@ -46,12 +85,10 @@ loop-less c = search needs
 
 loop-again : tie.Need-loop-again Inv-loop μ-loop
 loop-again c =
-    let at-read = c .before .before in
-    let at-test = at-read .before in
-    let test = c .before .is-entry .ensures in (
+    let t = at-test (c .before) in (
       omega arith,
-      at-test .before .loop .inv .1
-          ∙ left-on _ _ _ _ _ _ _ (at-read .entry-at .ensures) _ test (at-test .loop-test .taken) (not-false _ (c .if1 .left)),
+      t .before .loop .inv .1
+          ∙ left-on _ _ _ _ _ _ _ (read (c .before)) _ (tested (c .before)) (t .loop-test .taken) (not-false _ (c .if1 .left)),
     )
 
 mul-is-zero : tie.Need-mul-is-zero Inv-loop μ-loop
@@ -89,7 +126,13 @@ is-log-spec =
     Inv-loop
     μ-loop
     loop-holds
-    entry-at-requires
+    mul-at
+    mul-first
+    shared-slice-read-first
+    add-second
+    mul-second
+    shared-slice-read-second
+    entry-of-requires
     is-entry-requires
     returns
     add-i

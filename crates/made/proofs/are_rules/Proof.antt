@@ -1,10 +1,14 @@
 -- `made::are_rules` meets its contract: the rules before place i are counted, and those from it on decide as all of them do. Assumes nothing.
-use Prim.Native.Nat.{_-_}
-use mathlib.Core.Path.{sym, ap, _∙_}
+use Prim.Native.Nat.{ℕ, _+_, _-_, _*_, _<_}
+use mathlib.Core.Path.{_≡_, sym, ap, _∙_}
+use mathlib.Core.List.{List}
 use borrow.Author.Needs.{needs}
 use borrow.Author.Tests.{not-true, not-false}
 use native.Mathlib.Omega.{arith}
+use lib.ListN.{length, drop}
 use Rattle.tables.specs.Tables.{allZero}
+use Rattle.tables.specs.RulePlace.{ruleAt, isRulePlace}
+use Rattle.tables.proofs.RulePlace.{rule-here, is-rule-here}
 use Rattle.made.proofs.Places.{to-end}
 use Rattle.made.proofs.Order.{Gone, gone-start, gone-bad, gone-stop, gone-next, gone-end, place-rule}
 use Rattle.made.proofs.are_rules.Statement.{statement}
@@ -19,16 +23,56 @@ abbrev μ-loop : tie.MeasureT-loop
 loop-holds : tie.Need-loop-holds Inv-loop μ-loop
 loop-holds c = gone-start _ _ _
 
+mul-at : tie.Need-mul-at Inv-loop μ-loop
+mul-at c = search needs
+
+mul-first : tie.Need-mul-first Inv-loop μ-loop
+mul-first c = search needs
+
+shared-slice-read-first : tie.Need-shared-slice-read-first Inv-loop μ-loop
+shared-slice-read-first c = search needs
+
+add-second : tie.Need-add-second Inv-loop μ-loop
+add-second c = search needs
+
+mul-second : tie.Need-mul-second Inv-loop μ-loop
+mul-second c = search needs
+
+shared-slice-read-second : tie.Need-shared-slice-read-second Inv-loop μ-loop
+shared-slice-read-second c = search needs
+
 is-rule-requires : tie.Need-is-rule-requires Inv-loop μ-loop
-is-rule-requires c κs = omega (arith, c .before .before .before .pre, c .loop-test .taken)
+is-rule-requires c κs = search needs
+
+-- whether a rule stands at place i, and which, by the numbers read there
+module _ (c : tie.After-is-rule Inv-loop μ-loop) where
+  abbrev at-test : tie.In-loop Inv-loop μ-loop
+  at-test = c .before .before .before
+
+  abbrev numbers : List ℕ
+  numbers = at-test .before .before .before .args .rules .now
+
+  abbrev at : ℕ
+  at = at-test .before .loop .i * 2
+
+  there : at + 1 < length numbers
+  there = omega (arith, at-test .before .before .before .pre, at-test .loop-test .taken)
+
+  tested : isRulePlace (at-test .before .before .before .args .n) (drop at numbers) ≡ c .is-rule .result
+  tested = sym (c .is-rule .ensures ∙ is-rule-here numbers at there _)
+
+read : (c : tie.After-rule-of Inv-loop μ-loop) → let e = c .before .before in c .rule-of .result ≡ ruleAt (drop (at e) (numbers e))
+read c =
+    let e = c .before .before in
+    c .rule-of .ensures ∙ rule-here (numbers e) (at e) (there e)
 
 returns : tie.Need-returns Inv-loop μ-loop
 returns c =
-    let t = c .before .before in
-    gone-bad (t .before .loop .inv) (t .loop-test .taken) (sym (c .before .is-rule .ensures) ∙ not-true _ (c .if1 .taken))
+    let t = at-test (c .before) in
+    gone-bad (t .before .loop .inv) (t .loop-test .taken) (tested (c .before) ∙ not-true _ (c .if1 .taken))
 
-rule-at-requires : tie.Need-rule-at-requires Inv-loop μ-loop
-rule-at-requires c κs = search needs
+rule-of-requires : tie.Need-rule-of-requires Inv-loop μ-loop
+rule-of-requires c κs = search needs
 
 slice-aggregate-with-rule : tie.Need-slice-aggregate-with-rule Inv-loop μ-loop
 slice-aggregate-with-rule c = search needs
@@ -36,9 +80,9 @@ slice-aggregate-with-rule c = search needs
 with-rule-requires : tie.Need-with-rule-requires Inv-loop μ-loop
 with-rule-requires c κs =
     let e = c .before .before in
-    let t = e .before .before in
-    let accepted = sym (e .before .is-rule .ensures) ∙ not-false _ (e .if1 .left) in
-    ((_, t .before .loop .inv .held), rw (c .before .rule-at .ensures) (place-rule _ _ (t .before .before .before .pre .2) accepted))
+    let t = at-test (e .before) in
+    let accepted = tested (e .before) ∙ not-false _ (e .if1 .left) in
+    ((_, t .before .loop .inv .held), rw (read (c .before)) (place-rule _ _ (t .before .before .before .pre .2) accepted))
 
 enum-told : tie.Need-enum-told Inv-loop μ-loop
 enum-told c = search needs
@@ -47,9 +91,9 @@ returns-2 : tie.Need-returns-2 Inv-loop μ-loop
 returns-2 c =
     let w = c .before .before .before in
     let r = w .before .before in
-    let t = r .before .before .before in
+    let t = at-test (r .before .before) in
     let gone = t .before .loop .inv in
-    gone-stop gone (t .loop-test .taken) (r .rule-at .ensures) _ (rw (c .enum-told .given .1) at (w .with-rule .ensures _ (gone .held)))
+    gone-stop gone (t .loop-test .taken) (read r) _ (rw (c .enum-told .given .1) at (w .with-rule .ensures _ (gone .held)))
 
 enum-known-next : tie.Need-enum-known-next Inv-loop μ-loop
 enum-known-next c = search needs
@@ -65,9 +109,9 @@ loop-again c =
     let w = c .before .before .before .before in
     let r = w .before .before in
     let e = r .before in
-    let t = e .before .before in
+    let t = at-test (e .before) in
     let gone = t .before .loop .inv in
-    gone-next gone (t .loop-test .taken) (r .rule-at .ensures) _ (sym (e .before .is-rule .ensures) ∙ not-false _ (e .if1 .left))
+    gone-next gone (t .loop-test .taken) (read r) _ (tested (e .before) ∙ not-false _ (e .if1 .left))
     (rw (c .before .next .given .1) at (w .with-rule .ensures _ (gone .held)))
 
 mul-is-zero : tie.Need-mul-is-zero Inv-loop μ-loop
@@ -101,9 +145,15 @@ are-rules-spec =
     Inv-loop
     μ-loop
     loop-holds
+    mul-at
+    mul-first
+    shared-slice-read-first
+    add-second
+    mul-second
+    shared-slice-read-second
     is-rule-requires
     returns
-    rule-at-requires
+    rule-of-requires
     slice-aggregate-with-rule
     with-rule-requires
     enum-told
