@@ -142,7 +142,7 @@ impl Desk {
     fn report(&mut self, file: &str) -> Result<String, String> {
         let session = self.session()?;
         let page = report::page(&session.profile, &session.events)?;
-        files::write_text(file, &page)?;
+        files::write_page(file, &page)?;
         Ok(format!("wrote a page on {} to {file}", counted(session.events.len(), "event")))
     }
 

@@ -1,6 +1,6 @@
 //! Files that the desk reads and writes, none of them longer than the desk can hold.
 
-use mbrumzheg::{Event, RecordWriter, RECORD_SIZE};
+use mbrumzheg::{Event, RecordWriter, Records, RECORD_SIZE};
 use std::fs::File;
 use std::io::{self, BufWriter, Read, Write};
 
@@ -32,8 +32,9 @@ fn at_most(name: &str, limit: u64) -> Result<Vec<u8>, String> {
     }
 }
 
-/// Writes events as records.
+/// Writes events as records; a file that is there already is written over only if it holds records.
 pub fn write_records(name: &str, events: &[Event]) -> Result<(), String> {
+    replaceable(name, "records", |bytes| Records::new(bytes).all(|record| record.is_ok()))?;
     let written = File::create(name).and_then(|file| {
         let mut writer = RecordWriter::new(BufWriter::new(file));
         for event in events {
@@ -44,9 +45,18 @@ pub fn write_records(name: &str, events: &[Event]) -> Result<(), String> {
     written.map_err(|error| cannot_write(name, &error))
 }
 
-/// Writes a text.
-pub fn write_text(name: &str, text: &str) -> Result<(), String> {
+/// Writes a page; a file that is there already is written over only if it holds a page.
+pub fn write_page(name: &str, text: &str) -> Result<(), String> {
+    replaceable(name, "a page", |bytes| bytes.is_empty() || bytes.starts_with(b"<!DOCTYPE html>"))?;
     File::create(name).and_then(|mut file| file.write_all(text.as_bytes())).map_err(|error| cannot_write(name, &error))
+}
+
+/// Keeps a profile, or any other file of the person's, from being written over by a slip.
+fn replaceable(name: &str, wanted: &str, holds: impl Fn(&[u8]) -> bool) -> Result<(), String> {
+    match at_most(name, DAY_BYTES) {
+        Ok(bytes) if !holds(&bytes) => Err(format!("'{name}' is there and does not hold {wanted}, so it is left alone; type another name")),
+        _ => Ok(()),
+    }
 }
 
 fn cannot_write(name: &str, error: &io::Error) -> String {

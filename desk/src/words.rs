@@ -113,7 +113,7 @@ pub fn read_time(word: &str, clock: Time) -> Result<Time, String> {
 
 /// Whether a word is meant as a time: no name of a root has a small letter, a colon or a plus.
 pub fn looks_like_time(word: &str) -> bool {
-    word.eq_ignore_ascii_case("now")
+    word == "now"
         || word.starts_with('+')
         || word.contains(':')
         || (word.starts_with(|c: char| c.is_ascii_digit()) && word.ends_with(|c: char| c.is_ascii_lowercase()))
