@@ -83,6 +83,16 @@ impl Names<'_> {
         }
     }
 
+    /// The first and last time of a stretch, in milliseconds.
+    pub fn stretch(&self, from: &str, to: &str) -> Result<(u64, u64), String> {
+        let (from, to) = (self.time(from)?.ms(), self.time(to)?.ms());
+        if from < to {
+            Ok((from, to))
+        } else {
+            Err("the stretch ends before it begins; type report FILE from an earlier TIME to a later TIME".to_string())
+        }
+    }
+
     fn shown(&self, word: &str) -> Result<Shown, String> {
         if word == "firm" {
             return Ok(Shown::Firm);

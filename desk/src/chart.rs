@@ -99,7 +99,7 @@ pub fn marks(axis: &Axis, all: &[Mark], kind: Kind, y: impl Fn(&Mark) -> f64) ->
     while let Some(first) = rest.next() {
         let x = axis.x(first.ms);
         let mut more = 0;
-        while rest.next_if(|next| axis.x(next.ms) - x < 3.0).is_some() {
+        while rest.next_if(|next| axis.x(next.ms) - x < 6.0).is_some() {
             more += 1;
         }
         let title = if more > 0 { format!("{} (and {more} more here)", first.words) } else { first.words.clone() };

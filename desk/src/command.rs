@@ -28,8 +28,13 @@ pub enum Command {
         /// Whether plain passes are left out.
         quiet: bool,
     },
-    /// Write a page on the day to a file.
-    Report(String),
+    /// Write a page on the day, or on a stretch of it, to a file.
+    Report {
+        /// The file to write.
+        file: String,
+        /// The first and last time of a stretch, as words.
+        stretch: Option<(String, String)>,
+    },
     /// Show the commands.
     Help,
     /// End.
@@ -58,7 +63,8 @@ remaining [TIME] [ROOT|firm]
 status                    the clock, and what is locked and why
 save FILE                 write the day's events as 12-byte records
 replay FILE [quiet]       pass the records of FILE; quiet shows cuts, trips, rejections and refusals alone
-report FILE               write a page (HTML) on the day so far
+report FILE [from TIME to TIME]
+                          write a page (HTML) on the day so far, or on a stretch of it
 clear                     set the unit to zeros; arm again after it
 help, quit                this list; the end
 TIME is 10ms, 2.5s, 09:30, 09:30:00.250, now, or +10ms for 10 ms after the clock. # starts a comment.
@@ -84,7 +90,7 @@ pub fn read(line: &str) -> Result<Command, String> {
         "clear" => alone(rest, "clear", Command::Clear),
         "save" => file(rest, "save FILE").map(Command::Save),
         "replay" => replay(rest),
-        "report" => file(rest, "report FILE").map(Command::Report),
+        "report" => report(rest),
         "help" | "?" => Ok(Command::Help),
         "quit" | "exit" => alone(rest, "quit", Command::Quit),
         _ => Err(format!("'{}' is no command; type help for the list{}", shortened(name), meant(name))),
@@ -110,6 +116,18 @@ fn replay(rest: &str) -> Result<Command, String> {
     let name = if quiet { rest.trim_end_matches("quiet") } else { rest };
     let file = file(name.trim(), "replay FILE, or replay FILE quiet")?;
     Ok(Command::Replay { file, quiet })
+}
+
+fn report(rest: &str) -> Result<Command, String> {
+    let form = "report FILE, or report FILE from TIME to TIME";
+    let words: Vec<&str> = rest.split_whitespace().collect();
+    let (name, stretch) = match words.as_slice() {
+        [_, .., "from", from, "to", to] => (rest.rsplit_once(" from ").map_or(rest, |(name, _)| name), Some((*from, *to))),
+        ["from", _, "to", _] => ("", None),
+        _ => (rest, None),
+    };
+    let stretch = stretch.map(|(from, to)| (from.to_string(), to.to_string()));
+    Ok(Command::Report { file: file(name.trim(), form)?, stretch })
 }
 
 /// A word cut to a length that a line can hold.

@@ -57,6 +57,8 @@ pub struct Lane {
 pub struct Entry {
     /// The event's place, from 1.
     pub place: usize,
+    /// When, in milliseconds.
+    pub ms: u64,
     /// The event and its answer in words.
     pub words: String,
 }
@@ -149,7 +151,7 @@ impl Day {
     fn take(&mut self, session: &Session, event: &Event, passed: &Passed) {
         let words = answer::replayed(session, passed);
         if passed.is_notable() {
-            self.entries.push(Entry { place: passed.place, words: words.clone() });
+            self.entries.push(Entry { place: passed.place, ms: event.time().ms(), words: words.clone() });
         }
         self.sums.take(event, passed);
         let Ok(answer) = &passed.answer else { return };

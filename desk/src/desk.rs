@@ -66,7 +66,7 @@ impl Desk {
             Command::Status => table::status(self.session()?).map_err(|refusal| refusal.to_string()),
             Command::Clear => Ok(self.clear()),
             Command::Save(file) => self.save(&file),
-            Command::Report(file) => self.report(&file),
+            Command::Report { file, stretch } => self.report(&file, stretch),
             Command::Help => Ok(command::HELP.to_string()),
             Command::Nothing | Command::Quit | Command::Replay { .. } => Ok(String::new()),
         }
@@ -139,9 +139,11 @@ impl Desk {
         Ok(format!("saved {} to {file}", counted(session.events.len(), "record")))
     }
 
-    fn report(&mut self, file: &str) -> Result<String, String> {
+    fn report(&mut self, file: &str, stretch: Option<(String, String)>) -> Result<String, String> {
         let session = self.session()?;
-        let page = report::page(&session.profile, &session.events)?;
+        let names = Names { profile: &session.profile, clock: session.unit.clock() };
+        let stretch = stretch.map(|(from, to)| names.stretch(&from, &to)).transpose()?;
+        let page = report::page(&session.profile, &session.events, stretch)?;
         files::write_page(file, &page)?;
         Ok(format!("wrote a page on {} to {file}", counted(session.events.len(), "event")))
     }

@@ -12,5 +12,6 @@ pub mod panel;
 pub mod profile;
 pub mod report;
 pub mod session;
+pub mod stretch;
 pub mod table;
 pub mod words;

@@ -8,7 +8,8 @@ use std::process::ExitCode;
 const USAGE: &str = "\
 usage: desk                                lines from the terminal or a pipe
        desk SCRIPT                         lines from a file
-       desk report PROFILE RECORDS PAGE    a page (HTML) on the day that the file RECORDS holds
+       desk report PROFILE RECORDS PAGE [from TIME to TIME]
+                                           a page (HTML) on the day, or a stretch of it, that the file RECORDS holds
 ";
 
 fn main() -> ExitCode {
@@ -19,6 +20,7 @@ fn main() -> ExitCode {
         ["-h" | "--help" | "help"] => write!(io::stdout(), "{USAGE}\n{HELP}\n").map(|()| 0),
         [script] => from_file(script),
         ["report", profile, records, page] => report(profile, records, page),
+        ["report", profile, records, page, "from", from, "to", to] => report(profile, records, &format!("{page} from {from} to {to}")),
         _ => write!(io::stderr(), "{USAGE}").map(|()| 1),
     };
     match done {

@@ -114,7 +114,8 @@ fn curve(axis: &Axis, steps: &[(u64, u64)], height: impl Fn(u64) -> f64) -> Stri
     }
     line.push_str(&format!("H{:.1}", axis.right()));
     let area = format!("{line}V{BOTTOM}H{:.1}Z", axis.x(*first));
-    format!("<path class=\"area\" d=\"{area}\"/><path class=\"use\" d=\"{line}\"/>")
+    let class = if steps.len() > 400 { "use fine" } else { "use" };
+    format!("<path class=\"area\" d=\"{area}\"/><path class=\"{class}\" d=\"{line}\"/>")
 }
 
 /// The rule's day in a sentence.

@@ -4,8 +4,8 @@ use crate::chart::{escaped, meaning, shape};
 use crate::day::{Day, Entry, Kind};
 use crate::panel;
 use crate::profile::Profile;
-use crate::words::grouped;
-use mbrumzheg::Event;
+use crate::words::{self, grouped};
+use mbrumzheg::{Event, Time};
 
 /// More events than this are not drawn.
 const MOST_EVENTS: usize = 200_000;
@@ -14,18 +14,22 @@ const MOST_LINES: usize = 500;
 
 const STYLE: &str = include_str!("page.css");
 
-/// The page on the events of a day, replayed from the start.
-pub fn page(profile: &Profile, events: &[Event]) -> Result<String, String> {
+/// The page on the events of a day, replayed from the start; its pictures may be of a stretch, in milliseconds.
+pub fn page(profile: &Profile, events: &[Event], stretch: Option<(u64, u64)>) -> Result<String, String> {
     if events.is_empty() {
         return Err("there is nothing to report yet; type offer, order, lock or replay first".to_string());
     }
     if events.len() > MOST_EVENTS {
         return Err(format!("a page takes at most {} events; split the day", grouped(MOST_EVENTS as u64)));
     }
-    let day = Day::replayed(profile, events)?;
+    let whole = Day::replayed(profile, events)?;
+    let day = match stretch {
+        Some((from, to)) => whole.within(from, to),
+        None => whole,
+    };
     let title = format!("Risk day of firm {}", escaped(&profile.firm));
     let body = [
-        format!("<header><h1>{title}</h1>{}</header>", figures(profile, &day)),
+        format!("<header><h1>{title}</h1><p>{}</p>{}</header>", about(&day, stretch.is_some()), figures(profile, &day)),
         format!("<section><h2>Legend</h2>{}</section>", legend()),
         format!("<section><h2>Locks</h2>{}</section>", panel::lanes(profile, &day)),
         format!("<h2>Use of each rule against its limit</h2>{}", rules(profile, &day)),
@@ -44,6 +48,13 @@ const HATCH: &str = "<svg width=\"0\" height=\"0\" aria-hidden=\"true\" class=\"
     <pattern id=\"hatch\" width=\"7\" height=\"7\" patternUnits=\"userSpaceOnUse\" patternTransform=\"rotate(45)\">\
     <rect width=\"7\" height=\"7\" fill=\"#f1ecf4\"/><line x1=\"0\" y1=\"0\" x2=\"0\" y2=\"7\" stroke=\"#9a86a4\" stroke-width=\"2\"/>\
     </pattern></defs></svg>";
+
+/// Which times the page shows.
+fn about(day: &Day, is_stretch: bool) -> String {
+    let face = |ms| Time::from_ms(ms).map(words::time).unwrap_or_default();
+    let whole = if is_stretch { " The figures below are of the whole day, the pictures and the table of this stretch." } else { "" };
+    format!("From {} to {}.{whole}", face(day.span.0), face(day.span.1))
+}
 
 fn figures(profile: &Profile, day: &Day) -> String {
     let [orders, offers, lockouts] = day.sums.events;
@@ -103,7 +114,7 @@ fn rules(profile: &Profile, day: &Day) -> String {
 
 fn table(entries: &[Entry]) -> String {
     if entries.is_empty() {
-        return "<p>Everything passed.</p>".to_string();
+        return "<p>Nothing: everything passed.</p>".to_string();
     }
     let mut text = "<table><thead><tr><th scope=\"col\">Event</th><th scope=\"col\">What was asked</th><th scope=\"col\">Answer</th>\
                     <th scope=\"col\">Numbers</th></tr></thead><tbody>"

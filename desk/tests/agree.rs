@@ -165,7 +165,13 @@ fn the_page_draws_the_use_that_the_grants_make() {
             let drawn: Vec<u64> = day.uses.iter().map(|of_rule| drawn(&of_rule.steps, *ms)).collect();
             assert_eq!(&drawn, wanted, "seed {seed} at {ms} ms\n{text}");
         }
-        assert!(day.uses.iter().all(|of_rule| of_rule.steps.windows(2).all(|pair| pair[0].0 <= pair[1].0)), "steps in order of time");
+        let (from, to) = (day.span.0 + dice.below(2_000), day.span.0 + 2_000 + dice.below(2_000));
+        let steps: Vec<Vec<(u64, u64)>> = day.uses.iter().map(|of_rule| of_rule.steps.clone()).collect();
+        let part = day.within(from, to);
+        for (whole, of_rule) in steps.iter().zip(&part.uses) {
+            assert!((from..=to).step_by(97).all(|ms| drawn(whole, ms) == drawn(&of_rule.steps, ms)), "a stretch draws what the day does");
+        }
+        assert!(part.uses.iter().all(|of_rule| of_rule.steps.windows(2).all(|pair| pair[0].0 <= pair[1].0)), "steps in order of time");
     }
 }
 

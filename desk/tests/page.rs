@@ -6,8 +6,8 @@ use desk::report;
 use desk::session::Session;
 use mbrumzheg::{Event, Unit};
 
-/// A page on a random day, and how many rules its profile has.
-fn page(seed: u64) -> (String, usize) {
+/// A page on a random day or a stretch of it, and how many rules its profile has.
+fn page(seed: u64, stretch: Option<(u64, u64)>) -> (String, usize) {
     let mut dice = Dice::new(seed);
     let text = profile(&mut dice);
     let mut session = Session::new(Unit::new().arm(&text).expect("accepted"), text.as_bytes());
@@ -15,7 +15,7 @@ fn page(seed: u64) -> (String, usize) {
         let next = event(&mut dice, session.unit.clock().ms(), session.unit.root_count() as u64);
         session.pass(next);
     }
-    let page = report::page(&session.profile, &session.events).expect("a page");
+    let page = report::page(&session.profile, &session.events, stretch).expect("a page");
     (page, session.profile.rules.len())
 }
 
@@ -43,7 +43,8 @@ fn tags(page: &str) -> Vec<String> {
 #[test]
 fn pages_are_well_formed_and_fetch_nothing() {
     for seed in 0..60 {
-        let (page, rules) = page(seed);
+        let stretch = [None, Some((300, 1_500)), Some((0, 86_399_999)), Some((50_000_000, 50_000_001))][seed as usize % 4];
+        let (page, rules) = page(seed, stretch);
         let all = tags(&page);
         let count = |name: &str| all.iter().filter(|tag| *tag == name).count();
         let pictures = page.matches("role=\"img\"").count();
@@ -63,9 +64,9 @@ fn pages_are_well_formed_and_fetch_nothing() {
 #[test]
 fn a_day_without_events_or_with_too_many_has_no_page() {
     let profile = Profile::of_accepted(b"ABCD,abs_vol,XYZ,1000");
-    assert!(report::page(&profile, &[]).is_err());
+    assert!(report::page(&profile, &[], None).is_err());
     let lock = Event::Lockout { time: mbrumzheg::Time::START, level: mbrumzheg::Level::Firm };
-    assert!(report::page(&profile, &vec![lock; 200_001]).is_err());
-    let page = report::page(&profile, &[lock]).expect("one event is enough");
+    assert!(report::page(&profile, &vec![lock; 200_001], None).is_err());
+    let page = report::page(&profile, &[lock], None).expect("one event is enough");
     assert!(page.contains("lockouts by hand</dt><dd>1</dd>"));
 }
