@@ -1,103 +1,99 @@
-//! The proved library and the independent second program, call by call, on profiles and calls from seeds.
-use native::{arm, clear, lockout, offer, order, remaining, status, text, SIZE};
-use second::gen::{self, Call};
-use second::unit::Unit;
+//! The proved library against the second program: days of calls from seeds, every single damaged bit, profiles, lengths.
 
-/// Runs a call on lent memory and gives its row, as long as the second program's.
-fn run(call: &Call, m: &mut [u64]) -> Vec<u64> {
-    let row = match *call {
-        Call::Arm { seed } => arm(m, &gen::profile(seed)),
-        Call::ArmValid { seed } => arm(m, &gen::valid_profile(seed)),
-        Call::Clear => return clear(m)[..1].to_vec(),
-        Call::Order { time, root, reset } => order(m, time, root, reset),
-        Call::Lockout { time, level, root } => lockout(m, time, level, root),
-        Call::Offer { time, root, unit, premium, contracts } => offer(m, time, root, unit, premium, contracts),
-        Call::Remaining { time, rule } => return remaining(m, time, rule)[..2].to_vec(),
-        Call::Status => status(m),
-        Call::Text { verdict, room } => return text(verdict, &mut vec![0; room as usize])[..2].to_vec(),
-    };
-    row.to_vec()
+use std::time::Duration;
+
+use native::pair::{as_it_is, Pair};
+use native::profiles::clashing;
+use native::run::{rate, report, run};
+use native::scripts::{Kind, Step};
+use native::SIZE;
+use second::gen;
+
+/// How long the gate compares, and how many calls it has to reach in that time.
+const SECONDS: u64 = 60;
+const CALLS: u64 = 500_000;
+
+#[test]
+fn days_of_calls_show_no_difference() {
+    let outcome = run(Duration::from_secs(SECONDS), 20_120_514, as_it_is);
+    println!("{}\n{}", rate(&outcome.tally, outcome.spent), outcome.tally);
+    if let Some(script) = outcome.script {
+        panic!("a difference, to be run again by native/run replay:\n{}", report(&script, as_it_is));
+    }
+    assert!(outcome.tally.calls >= CALLS, "only {}", rate(&outcome.tally, outcome.spent));
+    assert!(outcome.tally.missing().is_empty(), "never came up: {:?}", outcome.tally.missing());
+}
+
+/// Runs a step on both, which must agree.
+fn agree(pair: &mut Pair, step: Step) -> [u64; 5] {
+    pair.step(&step).unwrap_or_else(|difference| panic!("after {step}: {difference}"))
+}
+
+/// Both armed, with five fills in the log.
+fn armed() -> Pair {
+    let mut pair = Pair::new(as_it_is);
+    let profile = b"ABCD,abs_vol,XYZ,1000\nABCD,rate_vol,QR,500,1000,,C,F\nABCD,rate_ntnl,,100000,60000,T\n";
+    assert_eq!(agree(&mut pair, Step::arm(profile.to_vec())), [0, 0, 0x4142_4344, 3, 2]);
+    for n in 0..5 {
+        assert_eq!(agree(&mut pair, Step::new(Kind::Offer, &[10 * n, n % 2, 0, 70_000, 20]))[0], 0);
+    }
+    pair
+}
+
+#[test]
+fn each_single_bit_of_a_state_is_judged_alike() {
+    let mut pair = armed();
+    let state = pair.second().numbers().to_vec();
+    let mut refused = 0;
+    for place in 0..SIZE as u64 {
+        for bit in 0..64 {
+            let number = state[place as usize];
+            agree(&mut pair, Step::new(Kind::Damage, &[place, number ^ 1 << bit]));
+            refused += u64::from(agree(&mut pair, Step::new(Kind::Status, &[]))[0] == 2);
+            agree(&mut pair, Step::new(Kind::Order, &[u64::MAX, 0, 0]));
+            agree(&mut pair, Step::new(Kind::Damage, &[place, number]));
+        }
+    }
+    assert_eq!(agree(&mut pair, Step::new(Kind::Status, &[])), [0, 0, 0, 0, 64]);
+    assert!((110_000..119_424).contains(&refused), "{refused} of the single damaged bits are refused");
 }
 
 #[test]
 fn profiles_are_read_alike() {
-    for seed in 0..20_000 {
-        let profile = gen::profile(seed);
-        let mut m = vec![0; SIZE];
-        let mut unit = Unit::default();
-        assert_eq!(arm(&mut m, &profile).to_vec(), unit.arm(&profile).numbers().to_vec(), "profile of seed {seed}");
+    let mut pair = Pair::new(as_it_is);
+    let mut random = gen::Random::new(1);
+    let mut seen = [0; 12];
+    for seed in 0..80_000 {
+        let profile = match seed % 8 {
+            0 => gen::profile(seed),
+            1 => gen::damaged_profile(seed),
+            _ => clashing(&mut random),
+        };
+        seen[agree(&mut pair, Step::arm(profile))[0] as usize] += 1;
+        agree(&mut pair, Step::new(Kind::Clear, &[]));
     }
-}
-
-#[test]
-fn calls_are_answered_alike() {
-    let mut seen = std::collections::BTreeMap::new();
-    for seed in 0..2_000 {
-        let profile = gen::valid_profile(seed);
-        let mut m = vec![7; SIZE + 3];
-        m[..SIZE].fill(0);
-        let mut unit = Unit::default();
-        assert_eq!(arm(&mut m, &profile).to_vec(), unit.arm(&profile).numbers().to_vec(), "profile of seed {seed}");
-        // a log fills up in a long day alone
-        let day = if seed % 25 == 0 { 4_000 } else { 400 };
-        for (n, call) in gen::events_near(seed, day, &profile).iter().enumerate() {
-            let row = run(call, &mut m);
-            *seen.entry(row[0]).or_insert(0) += 1;
-            assert_eq!(row, call.run(&mut unit), "seed {seed}, call {n}: {call:?}");
-        }
-        assert_eq!(m[SIZE..], [7, 7, 7], "what is past the state is not touched");
-    }
-    for refusal in 3..=15 {
-        assert!(seen.contains_key(&refusal), "refusal {refusal} came up: {seen:?}");
-    }
-}
-
-#[test]
-fn damaged_memory_is_refused_and_not_changed() {
-    let mut sound = vec![0; SIZE];
-    arm(&mut sound, b"ABCD,abs_vol,XYZ,1000\nABCD,rate_vol,QR,500,1000,,C,F\nABCD,rate_ntnl,,100000,60000,T\n");
-    for n in 0..5 {
-        assert_eq!(offer(&mut sound, 10 * n, n % 2, 0, 70_000, 20)[0], 0);
-    }
-    assert_eq!(status(&sound)[0], 0);
-    let mut refused = 0;
-    for place in 0..SIZE {
-        for bit in 0..64 {
-            let mut m = sound.clone();
-            m[place] ^= 1 << bit;
-            let before = m.clone();
-            let row = status(&m);
-            // a clock, a total, a limit or a name may still be a sound one; a number in a place that is not used never is
-            let used = place < 10 || (10..12).contains(&place) || (74..80).contains(&place) || (586..589).contains(&place) || (842..852).contains(&place);
-            if !used {
-                assert_eq!(row, [2, 0, 0, 0, 0], "number {place}, bit {bit}");
-            }
-            if row[0] == 2 {
-                refused += 1;
-                assert_eq!(order(&mut m, 100, 0, 3), [2, 0, 0, 0, 0]);
-                assert_eq!(m, before, "a refusal changes nothing");
-            }
-        }
-    }
-    assert!(refused > 110_000, "{refused} of the single damaged bits are refused");
+    println!("{seen:?}");
+    assert!([0, 6, 7, 8, 9, 10, 11].iter().all(|refusal| seen[*refusal] > 1_000) && seen[5] > 50, "{seen:?}");
 }
 
 #[test]
 fn any_length_and_any_filling_is_answered() {
-    for len in [0, 1, 9, 10, 73, 585, 841, SIZE - 1] {
-        let mut m = vec![u64::MAX; len];
-        assert_eq!(status(&m), [1, 0, 0, 0, 0]);
-        assert_eq!(clear(&mut m)[0], 1);
-        assert_eq!(arm(&mut m, b"A,abs_vol,Q,5")[0], 1);
-    }
-    for len in [SIZE, SIZE + 1, 70_000] {
-        let mut m = vec![0; len];
-        assert_eq!(status(&m), [4, 0, 0, 0, 0]);
-        m.fill(u64::MAX);
-        assert_eq!(status(&m), [2, 0, 0, 0, 0]);
-        assert_eq!(arm(&mut m, b"A,abs_vol,Q,5")[0], 3);
-        m[0] = 0;
-        assert_eq!(arm(&mut m, b"A,abs_vol,Q,5"), [0, 0, 65, 1, 1]);
-        assert!(m[SIZE..].iter().all(|x| *x == u64::MAX), "the rest is not touched");
+    let profile = || Step::arm(b"A,abs_vol,Q,5".to_vec());
+    for length in [0, 1, 9, 10, 73, 585, 841, 1_865, 1_866, 1_867, 70_000] {
+        let mut pair = armed();
+        agree(&mut pair, Step::new(Kind::Length, &[length]));
+        let refusal = u64::from(length < SIZE as u64);
+        let arming = if refusal == 1 { 1 } else { 3 };
+        assert_eq!(agree(&mut pair, Step::new(Kind::Status, &[]))[0], refusal);
+        assert_eq!(agree(&mut pair, profile())[0], arming);
+        for place in 0..length {
+            agree(&mut pair, Step::new(Kind::Damage, &[place, u64::MAX]));
+        }
+        if length > 0 {
+            assert_eq!(agree(&mut pair, Step::new(Kind::Status, &[]))[0], if refusal == 1 { 1 } else { 2 });
+            agree(&mut pair, Step::new(Kind::Damage, &[0, 0]));
+        }
+        assert_eq!(agree(&mut pair, profile())[0], refusal);
+        assert_eq!(agree(&mut pair, Step::new(Kind::Clear, &[]))[0], refusal);
     }
 }

@@ -3,6 +3,8 @@
 //! It keeps its state in ordinary Rust values and favours plain steps over speed.
 
 pub mod gen;
+pub mod lent;
+pub mod memory;
 pub mod profile;
 pub mod records;
 pub mod unit;

@@ -11,12 +11,13 @@ use Rattle.tables.specs.Tables.{every}
 use Rattle.profile.specs.Profile.{Profile, outcomeOf}
 use Rattle.state.specs.State.{State, profileIn, decode, armedState}
 use Rattle.machine.specs.Machine.{Call, numbers}
+use Rattle.promises.proofs.Fresh.{fresh-profile}
 use Rattle.bench.specs.Lent.{Memory, Text, numbersIn, Sent}
 use Rattle.bench.specs.Library.{Library, Meets, Unarmed, refusalIn}
 use Rattle.bench.specs.Rows.{Row, Seen, callsOf, windowsOf, answersOf, seen, seenBy, wanted, Done}
 use Rattle.bench.specs.Table.{table, examples}
 use Rattle.bench.proofs.Words.{tested-below}
-use Rattle.bench.proofs.Runs.{same-profile, arm-accepted, arm-decoded, armed-answers}
+use Rattle.bench.proofs.Runs.{arm-accepted, arm-leaves, armed-answers}
 use Rattle.bench.proofs.Computed.{isText, isDay, fits, rows-fit, rows-right}
 
 -- calls that pass the test can be sent
@@ -34,14 +35,13 @@ module _ (l : Library) (meets : Meets l) (m : Memory) (u : Unarmed m) where
   module _ (t : Text) (ok : outcomeOf (t .now) .refusal ≡ 0) where
     -- the text is accepted
     accepted : refusalIn (l .arm m t .answer) ≡ outcomeOf (t .now) .refusal
-    accepted = ap refusalIn (meets .armAnswers m t) ∙ arm-accepted (m .now) (t .now) (u .long) (u .mark) ok ∙ sym ok
+    accepted = arm-accepted l meets m t u ok ∙ sym ok
 
     -- its rules are in the memory
     windows : windowsOf (profileIn (decode (l .arm m t .memory .now)) .rules) ≡ windowsOf (outcomeOf (t .now) .profile .rules)
     windows =
-        ap (λ (ys : List ℕ). windowsOf (profileIn (decode ys) .rules)) (meets .armLeaves m t)
-        ∙ ap (λ (s : State). windowsOf (profileIn s .rules)) (arm-decoded (m .now) (t .now) (u .long) (u .mark) ok)
-        ∙ ap (λ (p : Profile). windowsOf (p .rules)) (same-profile (outcomeOf (t .now) .profile))
+        ap (λ (s : State). windowsOf (profileIn s .rules)) (arm-leaves l meets m t u ok .state)
+        ∙ ap (λ (p : Profile). windowsOf (p .rules)) (fresh-profile (outcomeOf (t .now) .profile))
 
   -- a row whose text is accepted is seen as on the machine
   as-machine : (row : Row) (t : Text) (day : List Sent) → t .now ≡ bytes (row .text) → map (λ c. c .call) day ≡ callsOf row

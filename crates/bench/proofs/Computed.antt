@@ -20,8 +20,9 @@ use Rattle.state.specs.State.{profileIn, armedState}
 use Rattle.machine.specs.Machine.{Call, offer, isTripped, isLockedOut, isLocked, verdictOf, wiped, resetState, ticked, counted, coversOffer, grantOf, anyOf, sameLevel, levelTrips, credited, windowOf, longest, entryOf, joinedLog, filled, logFull, firstOf, badTime, isRoot, refusalOf, leftOf, noAccount, judged, acted, unless, step, numbers}
 use Rattle.machine.specs.declared.Offer.{Offer}
 use Rattle.machine.specs.declared.Answer.the-variants.{Judged}
+use Rattle.promises.specs.Run.{afterCall, runFrom}
 use Rattle.bench.specs.Lent.{numbersIn}
-use Rattle.bench.specs.Rows.{Row, callsOf, answersOf, seen, wanted}
+use Rattle.bench.specs.Rows.{Row, callsOf, answersThen, answersOf, seen, wanted}
 use Rattle.bench.specs.Table.{table, examples}
 
 -- a row's text is of bytes, and its calls' numbers have 64 bits
@@ -47,7 +48,7 @@ computed : (every fits (table ++ examples) ≡ true)
     × (outcomeOf hundred .refusal ≡ 0)
     × (answersOf (armedState (outcomeOf hundred .profile)) (offer forty ∷ offer forty ∷ offer forty ∷ [])
     ≡ Judged 0 40 false false ∷ Judged 0 40 false false ∷ Judged 0 20 true false ∷ [])
-unfolding every table examples seen wanted answersOf same bit withBit withoutBit all onto pieces indexOf made numeral numberOf nameOf typeOf isAbsolute limitsOf limitOf kindOf timeOf letterOf malformed otherFirm outOfRange levelClash unitClash faultOf scopeOf ruleOf lineOf withRoot rootsWith numbered joined howMany isFirmRule onUnit crowded tooMany afterLine readOn outcomeOf levelOf covers isRate counts countedOf executions added ceiling share zeroing lifting largest allowance trips unflagged flagOf entryShare sumOf keep recent hasRate profileIn armedState isTripped isLockedOut isLocked verdictOf wiped resetState ticked counted coversOffer grantOf anyOf sameLevel levelTrips credited windowOf longest entryOf joinedLog filled logFull firstOf badTime isRoot refusalOf leftOf noAccount judged acted unless step numbers
+unfolding every table examples seen wanted afterCall runFrom answersThen answersOf same bit withBit withoutBit all onto pieces indexOf made numeral numberOf nameOf typeOf isAbsolute limitsOf limitOf kindOf timeOf letterOf malformed otherFirm outOfRange levelClash unitClash faultOf scopeOf ruleOf lineOf withRoot rootsWith numbered joined howMany isFirmRule onUnit crowded tooMany afterLine readOn outcomeOf levelOf covers isRate counts countedOf executions added ceiling share zeroing lifting largest allowance trips unflagged flagOf entryShare sumOf keep recent hasRate profileIn armedState isTripped isLockedOut isLocked verdictOf wiped resetState ticked counted coversOffer grantOf anyOf sameLevel levelTrips credited windowOf longest entryOf joinedLog filled logFull firstOf badTime isRoot refusalOf leftOf noAccount judged acted unless step numbers
 computed = (refl, refl, refl, refl)
 
 pub rows-fit : every fits (table ++ examples) ≡ true

@@ -3,6 +3,7 @@ pub mod Measures
 pub mod Bits
 pub mod Rules
 pub mod Text
+pub mod Reader
 pub mod Tables
 pub mod Line
 pub mod Profile
@@ -14,3 +15,5 @@ pub mod Reset
 pub mod Calls
 pub mod Capi
 pub mod Records
+pub mod Rows
+pub mod Lines

@@ -22,68 +22,53 @@ use Rattle.machine.specs.declared.Answer.the-variants.{Refused, Judged, Left, S
 use Rattle.machine.proofs.Grants.{covering, grant-largest}
 use Rattle.calls.specs.Calls.{memoryRefusal, callAnswer, isRefusal}
 use Rattle.calls.proofs.Armed.{refusal-unarmed}
+use Rattle.promises.proofs.Holds.{ready-holds, holds-ready, acts-unrefused}
 use Rattle.bench.specs.Lent.{Memory, Text, numbersIn, Sent, Offered, sent}
-use Rattle.bench.specs.Library.{Library, Meets, Unarmed, answersBy, refusalIn, refusalBy, RefusesTexts, RefusesCalls, GrantsAlways, ArmStoresNothing, StoresNoFill, CountsFirstOnly}
+use Rattle.bench.specs.Library.{Library, Meets, Unarmed, answersBy, refusalBy, RefusesTexts, RefusesCalls, GrantsAlways, ArmStoresNothing, StoresNoFill, CountsFirstOnly}
 use Rattle.bench.proofs.One.{one}
 use Rattle.bench.proofs.Words.{below-zeros, tested-below}
 use Rattle.bench.proofs.Computed.{hundred, forty, hundred-read, forties}
-use Rattle.bench.proofs.Runs.{not-refused, arm-accepted, arm-ready, arm-decoded, call-ready, call-decoded, armed-answers}
+use Rattle.bench.proofs.Runs.{arm-accepted, arm-leaves, call-leaves, armed-answers}
 
 -- ---- each refusal has its exact condition
 
--- an answer that the machine gives where it does not refuse is no refusal
-acted-not : (s : State) (call : Call) (n : ℕ) → acted s call .answer ≡ Refused n → ⊥
-unfolding isRefusal
-acted-not s call n e = false≢true (sym (not-refused s call) ∙ ap isRefusal e)
-
-same-number : {a n : ℕ} → Refused a ≡ Refused n → a ≡ n
-same-number e = cc
-
-not-zero : (a : ℕ) → eqb (suc a) 0 ≡ false
-not-zero a = ne-eqb (suc a) 0 (λ e. omega arith)
-
 module _ (xs : List ℕ) (call : Call) where
-  -- a call that nothing refuses is answered by the machine
-  acted-answer : refusalBy xs call ≡ 0 → callAnswer xs call ≡ acted (decode xs) call .answer
+  -- a call is answered by its refusal, or by the machine where there is none
+  abbrev answerAt : ℕ → Answer
+  answerAt n = unless n (decode xs) (acted (decode xs) call) .answer
+
+  answer-by : callAnswer xs call ≡ answerAt (refusalBy xs call)
   unfolding refusalBy callAnswer step unless
-  acted-answer e = go (memoryRefusal xs) (refusalOf (decode xs) call) e
+  answer-by = go (memoryRefusal xs) (refusalOf (decode xs) call)
     where
-      go : (a b : ℕ) → cond (eqb a 0) b a ≡ 0 → cond (eqb a 0) (unless b (decode xs) (acted (decode xs) call) .answer) (Refused a) ≡ acted (decode xs) call .answer
-      go zero zero e = refl
-      go zero (suc b) e = absurd (omega arith)
-      go (suc a) b e = let k = rw (not-zero a) at e in absurd (omega (arith, k))
+      go : (a b : ℕ) → cond (eqb a 0) (answerAt b) (Refused a) ≡ answerAt (cond (eqb a 0) b a)
+      go zero b = refl
+      go (suc a) b = rw (ne-eqb (suc a) 0 (λ e. omega arith))
 
-  -- and one that is not answered by a refusal is not refused
-  taken : (a : Answer) → callAnswer xs call ≡ a → isRefusal a ≡ false → acted (decode xs) call .answer ≡ a
-  unfolding callAnswer step unless isRefusal
-  taken a e f = go (memoryRefusal xs) (refusalOf (decode xs) call) e
-    where
-      clash : (n : ℕ) → Refused n ≡ a → ⊥
-      clash n e = false≢true (sym f ∙ sym (ap isRefusal e))
-
-      go : (n k : ℕ) → cond (eqb n 0) (unless k (decode xs) (acted (decode xs) call) .answer) (Refused n) ≡ a → acted (decode xs) call .answer ≡ a
-      go zero zero e = e
-      go zero (suc k) e = absurd (clash (suc k) e)
-      go (suc n) k e = absurd (clash (suc n) (rw (not-zero n) at e))
+  acted-answer : refusalBy xs call ≡ 0 → callAnswer xs call ≡ acted (decode xs) call .answer
+  unfolding unless
+  acted-answer e = answer-by ∙ ap answerAt e
 
   refused-by : (n : ℕ) → refusalBy xs call ≡ suc n → callAnswer xs call ≡ Refused (suc n)
-  unfolding refusalBy callAnswer step unless
-  refused-by n e = go (memoryRefusal xs) (refusalOf (decode xs) call) e
-    where
-      go : (a b : ℕ) → cond (eqb a 0) b a ≡ suc n → cond (eqb a 0) (unless b (decode xs) (acted (decode xs) call) .answer) (Refused a) ≡ Refused (suc n)
-      go zero zero e = absurd (omega arith)
-      go zero (suc b) e = ap Refused e
-      go (suc a) b e = rw (not-zero a) (ap Refused (rw (not-zero a) at e))
+  unfolding unless
+  refused-by n e = answer-by ∙ ap answerAt e
 
-  by-refused : (n : ℕ) → callAnswer xs call ≡ Refused n → (refusalBy xs call ≡ n) × (n ≡ 0 → ⊥)
-  unfolding refusalBy callAnswer step unless
-  by-refused n e = go (memoryRefusal xs) (refusalOf (decode xs) call) e
+  by-refused : (n : ℕ) → callAnswer xs call ≡ Refused n → refusalBy xs call ≡ n
+  unfolding unless
+  by-refused n e = go (refusalBy xs call) (sym answer-by ∙ e)
     where
-      go : (a b : ℕ) → cond (eqb a 0) (unless b (decode xs) (acted (decode xs) call) .answer) (Refused a) ≡ Refused n
-          → (cond (eqb a 0) b a ≡ n) × (n ≡ 0 → ⊥)
-      go zero zero e = absurd (acted-not (decode xs) call n e)
-      go zero (suc b) e = let k = same-number e in (k, λ z. omega arith)
-      go (suc a) b e = let k = same-number (rw (not-zero a) at e) in (rw (not-zero a) k, λ z. omega arith)
+      go : (a : ℕ) → answerAt a ≡ Refused n → a ≡ n
+      go zero e = absurd (acts-unrefused (decode xs) call n e)
+      go (suc a) e = cc
+
+  -- one that is not answered by a refusal is answered by the machine
+  taken : (a : Answer) → callAnswer xs call ≡ a → isRefusal a ≡ false → acted (decode xs) call .answer ≡ a
+  unfolding unless isRefusal
+  taken a e f = go (refusalBy xs call) (sym answer-by ∙ e)
+    where
+      go : (n : ℕ) → answerAt n ≡ a → acted (decode xs) call .answer ≡ a
+      go zero e = e
+      go (suc n) e = absurd (false≢true (sym f ∙ sym (ap isRefusal e)))
 
 -- a grant at verdict 0 is the machine's
 granted : (s : State) (o : Offer) (verdict grant : ℕ) (root firm : Bool) → judged s o verdict .answer ≡ Judged 0 grant root firm → grantOf (s .log) o (s .accounts) ≡ grant
@@ -118,7 +103,7 @@ module _ (l : Library) (meets : Meets l) where
   -- a call is refused with a number exactly if that number's condition is the first that holds
   pub refused-exactly : (m : Memory) (c : Sent) (n : ℕ) → (l .call m c .answer ≡ Refused (suc n)) ↔ (refusalBy (m .now) (c .call) ≡ suc n)
   refused-exactly m c n = (
-    λ e. by-refused (m .now) (c .call) (suc n) (sym (meets .callAnswers m c) ∙ e) .0,
+    λ e. by-refused (m .now) (c .call) (suc n) (sym (meets .callAnswers m c) ∙ e),
     λ e. meets .callAnswers m c ∙ refused-by (m .now) (c .call) n e,
   )
 
@@ -136,13 +121,12 @@ module _ (l : Library) (meets : Meets l) where
   -- the memory after a call is sound, and stands for the state that the machine leaves
   pub stores : (m : Memory) (c : Sent) → memoryRefusal (m .now) ≡ 0
       → (memoryRefusal (l .call m c .memory .now) ≡ 0) × (decode (l .call m c .memory .now) ≡ step (decode (m .now)) (c .call) .after)
-  stores m c ready = rw (meets .callLeaves m c) (call-ready (m .now) ready (c .call), call-decoded (m .now) ready (c .call))
+  stores m c ready = let h = call-leaves l meets m (ready-holds (m .now) ready) c in (holds-ready h, h .state)
 
   -- arming with an accepted text leaves a sound memory, which stands for the freshly armed state
   pub arm-stores : (m : Memory) (t : Text) → Unarmed m → outcomeOf (t .now) .refusal ≡ 0
       → (memoryRefusal (l .arm m t .memory .now) ≡ 0) × (decode (l .arm m t .memory .now) ≡ armedState (outcomeOf (t .now) .profile))
-  arm-stores m t u ok =
-      rw (meets .armLeaves m t) (arm-ready (m .now) (t .now) (u .long) (u .mark) ok, arm-decoded (m .now) (t .now) (u .long) (u .mark) ok)
+  arm-stores m t u ok = let h = arm-leaves l meets m t u ok in (holds-ready h, h .state)
 
   -- Remaining is the limit less the counted amount, or 0 if that is below 0
   pub remaining-is : (m : Memory) (c : Sent) (time rule : ℕ) → c .call ≡ remaining time rule → refusalBy (m .now) (remaining time rule) ≡ 0
@@ -191,10 +175,7 @@ module _ (l : Library) (meets : Meets l) where
   pub not-refusing-all : (RefusesTexts l → ⊥) × (RefusesCalls l → ⊥)
   unfolding isRefusal limit
   not-refusing-all = (
-    λ all.
-        all blank limit
-        (ap refusalIn (meets .armAnswers blank limit)
-        ∙ arm-accepted (blank .now) hundred (blank-unarmed .long) (blank-unarmed .mark) hundred-read),
+    λ all. all blank limit (arm-accepted l meets blank limit blank-unarmed hundred-read),
     λ all. false≢true (sym (ap isRefusal (first blank blank-unarmed)) ∙ all (armed blank blank-unarmed) (sent offered)),
   )
 

@@ -14,10 +14,11 @@ use Rattle.machine.specs.Machine.{Call, refusalOf, acted}
 use Rattle.calls.specs.Calls.{armRefusal, armAnswer, armMemory, memoryRefusal, callAnswer, callMemory}
 use Rattle.calls.proofs.Armed.{call-refused}
 use Rattle.calls.proofs.Steps.{refused, acts, after-sound}
+use Rattle.promises.proofs.Fresh.{fresh-sound, accepted-made}
+use Rattle.promises.proofs.Holds.{acts-answered}
 use Rattle.bench.specs.Lent.{Below}
 use Rattle.bench.specs.Library.{Library, Meets}
 use Rattle.bench.proofs.Words.{stored-words}
-use Rattle.bench.proofs.Runs.{accepted-made, armed-sound, not-refused}
 
 sound-words : (s : State) → SoundState s → (xs : List ℕ) → Below (2 ^ 64) xs → Below (2 ^ 64) (stored s xs)
 sound-words s k xs p = stored-words s k (made-parts (profileIn s) (given-is-made (profileIn s) (k .given))) xs p
@@ -29,7 +30,7 @@ arm-words xs text p = go (eqb (armRefusal xs) 0) (eqb (outcomeOf text .refusal) 
     go : (a b : Bool) → eqb (outcomeOf text .refusal) 0 ≡ b
         → Below (2 ^ 64) (cond a (cond b (stored (armedState (outcomeOf text .profile)) xs) xs) xs)
     go true true e =
-        sound-words (armedState (outcomeOf text .profile)) (armed-sound (outcomeOf text .profile) (accepted-made text (eqb-true _ 0 e))) xs p
+        sound-words (armedState (outcomeOf text .profile)) (fresh-sound (outcomeOf text .profile) (accepted-made text (eqb-true _ 0 e))) xs p
     go true false e = p
     go false b e = p
 
@@ -42,7 +43,7 @@ call-words xs call p = go (memoryRefusal xs) refl
 
     ready : memoryRefusal xs ≡ 0 → (n : ℕ) → refusalOf (decode xs) call ≡ n → Below (2 ^ 64) (callMemory xs call)
     ready r zero e =
-        subst (Below (2 ^ 64)) (acts xs r call e (not-refused (decode xs) call) .1)
+        subst (Below (2 ^ 64)) (acts xs r call e (acts-answered (decode xs) call) .1)
         (sound-words (acted (decode xs) call .after) (after-sound xs r call e) xs p)
     ready r (suc n) e = kept (refused xs r call n e .1)
 

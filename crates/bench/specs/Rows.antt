@@ -7,8 +7,9 @@ use Rattle.text.specs.Text.{bytes}
 use Rattle.rules.specs.declared.Rule.{Rule}
 use Rattle.profile.specs.Profile.{outcomeOf}
 use Rattle.state.specs.State.{State, profileIn, decode, armedState}
-use Rattle.machine.specs.Machine.{Call, step, numbers, windowOf}
+use Rattle.machine.specs.Machine.{Call, numbers, windowOf}
 use Rattle.machine.specs.declared.Answer.{Answer}
+use Rattle.promises.specs.Run.{Event, runFrom}
 use Rattle.bench.specs.Lent.{Memory, Text, Sent}
 use Rattle.bench.specs.Library.{Library, answersBy, refusalIn}
 
@@ -21,10 +22,14 @@ pub record Row : Type 0 where
 abbrev pub callsOf : Row → List Call
 callsOf row = map (λ c. c .0) (row .day)
 
+-- the answers of a history, the oldest first, and these after them
+unfoldable pub answersThen : List Event → List Answer → List Answer
+answersThen [] later = later
+answersThen (event ∷ earlier) later = answersThen earlier (event .answer ∷ later)
+
 -- what the machine answers to calls, one after the other
 unfoldable pub answersOf : State → List Call → List Answer
-answersOf s [] = []
-answersOf s (call ∷ calls) = step s call .answer ∷ answersOf (step s call .after) calls
+answersOf s calls = answersThen (runFrom (record { now = s; history = [] }) calls .history) []
 
 -- what is seen of a row on the machine: the refusal of its text, the windows of the rules that are read, and the numbers of the answers on a unit so armed
 pub record Seen : Type 0 where

@@ -1,24 +1,27 @@
 -- An offer on sound memory: refused, locked out, or granted. Assumes nothing.
-use Prim.Native.Nat.{ℕ, zero, suc, _≤_, min}
+use Prim.Native.Nat.{ℕ, zero, suc, _≤_, _<_, min}
 use native.Mathlib.Omega.{arith}
 use mathlib.Core.Path.{_≡_, refl, sym, ap, _∙_}
-use mathlib.Core.Bool.{Bool, true, false, not, cond, _&&_, and-assoc}
+use mathlib.Core.Bool.{Bool, true, false, not, cond, _&&_, and-assoc, and-false}
 use mathlib.Core.List.{List}
 use lib.ListN.{length, getD, set}
 use lib.Dec.{eqb, leb, ltb}
-use borrow.Author.Tests.{ne-eqb, lt-ltb, leb-false, ltb-true, not-false}
+use borrow.Author.Tests.{ne-eqb, lt-leb, lt-ltb, leb-false, ltb-true, not-false}
 use Rattle.laws.specs.Tests.{and-l, and-r}
 use Rattle.measures.specs.Ranges.{isIn, times, units, premiums, offers}
 use Rattle.measures.proofs.Determined.{test-in}
 use Rattle.rules.specs.declared.Level.the-variants.{Firm, Root}
-use Rattle.log.specs.Log.{entriesOf}
+use Rattle.tables.proofs.Tables.{length-places}
+use Rattle.log.specs.Log.{entriesOf, isRecent}
+use Rattle.log.proofs.Logs.{codec}
+use Rattle.log.proofs.Turns.{keep-most}
 use Rattle.state.specs.State.{profileIn, decode, encode, stored, logPart}
 use Rattle.state.specs.Sound.{hasRate}
 use Rattle.state.specs.Laid.{Laid}
 use Rattle.state.proofs.Exactly.{sound-decode}
 use Rattle.machine.specs.declared.Offer.{Offer}
 use Rattle.machine.specs.declared.Answer.the-variants.{Judged}
-use Rattle.machine.specs.Machine.{offer, firstOf, badTime, isRoot, verdictOf, grantOf, levelTrips, longest, recent, logPlaces, logFull, filled, ticked, refusalOf, judged, acted}
+use Rattle.machine.specs.Machine.{offer, firstOf, badTime, isRoot, verdictOf, grantOf, levelTrips, longest, keep, recent, logPlaces, logFull, filled, ticked, refusalOf, judged, acted}
 use Rattle.grant.specs.Grant.{Asked, AreCuts, Ready, HasRoom}
 use Rattle.grant.specs.declared.Cuts.{Cuts}
 use Rattle.grant.proofs.Trip.{grant-cuts}
@@ -35,6 +38,15 @@ module _ (xs : List ℕ) (h : Laid xs) (o : Offer) (n : ℕ) (e : n ≡ longest 
 
   pub window-most : n ≤ 86_400_000
   window-most = rw e (rates .1)
+
+  pub full-few : getD xs 5 0 < 512 → false ≡ isFull (decode xs) o
+  unfolding isFull decode recent
+  full-few h =
+      let es = entriesOf (getD xs 5 0) (logPart xs) in
+      let inside = keep (isRecent (longest (profileIn (decode xs) .rules)) (o .time)) es in
+      let few : length inside < 512 =
+      omega (arith, keep-most (isRecent (longest (profileIn (decode xs) .rules)) (o .time)) es, length-places codec (getD xs 5 0) (logPart xs)) in
+      rw (lt-leb 512 (length inside) few, and-false)
 
   pub full-none : n ≡ 0 → false ≡ isFull (decode xs) o
   unfolding isFull

@@ -157,11 +157,14 @@ fn is_full(m: &[u64], o: Offer) -> bool
     requires { ⌜ Laid (now m) ⌝ }
     ensures { λ r. ⌜ r ≡ isFull (decode (now (m .entry))) o ⌝ }
 {
+    let entries = m[5] as usize;
+    if entries < 512 {
+        return false;
+    }
     let longest = grant::longest_window(m);
     if longest == 0 {
         return false;
     }
-    let entries = m[5] as usize;
     512 <= log::recent_entries(&m[842..1866], entries, longest, o.time)
 }
 

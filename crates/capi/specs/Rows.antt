@@ -7,6 +7,13 @@ use Rattle.calls.specs.declared.Clearing.{Clearing}
 use Rattle.calls.specs.declared.Clearing.the-variants.{Done, Refused as NotCleared}
 use Rattle.calls.specs.declared.Wording.{Wording}
 use Rattle.calls.specs.declared.Wording.the-variants.{Written, Refused as NotSaid}
+use lib.ListN.{take}
+use Rattle.records.specs.Form.{written}
+use Rattle.records.specs.Event.{valuesOf, form, wroteOf, readRefusal, writeRefusal}
+use Rattle.records.specs.declared.Reading.{Reading as Event}
+use Rattle.records.specs.declared.Reading.the-variants.{Is, Faulty}
+use Rattle.records.specs.declared.Writing.{Writing}
+use Rattle.records.specs.declared.Writing.the-variants.{Faulty as Invalid}
 
 -- Arm: refusal, line, firm, rules, roots
 unfoldable pub armRow : Reading → List ℕ
@@ -22,3 +29,26 @@ clearRow (NotCleared number) = number ∷ 0 ∷ 0 ∷ 0 ∷ 0 ∷ []
 unfoldable pub textRow : Wording → List ℕ
 textRow (Written length) = 0 ∷ length ∷ 0 ∷ 0 ∷ 0 ∷ []
 textRow (NotSaid number) = number ∷ 0 ∷ 0 ∷ 0 ∷ 0 ∷ []
+
+-- an event record read: refusal, kind, time, root, unit, premium, contracts, reset, level
+unfoldable pub eventRow : Event → List ℕ
+eventRow (Is e) = 0 ∷ take 8 (valuesOf e)
+eventRow Faulty = readRefusal Faulty ∷ 0 ∷ 0 ∷ 0 ∷ 0 ∷ 0 ∷ 0 ∷ 0 ∷ 0 ∷ []
+
+-- an event's numbers as the fields of a record, its spare bits 0
+abbrev pub fieldsOf : ℕ → ℕ → ℕ → ℕ → ℕ → ℕ → ℕ → ℕ → List ℕ
+fieldsOf kind time root unit premium contracts reset level =
+    kind ∷ time ∷ root ∷ unit ∷ premium ∷ contracts ∷ reset ∷ level ∷ 0 ∷ []
+
+-- writing what fields are read as: 16 if they are no valid event's, and the room is as it was
+unfoldable pub writingOf : Event → ℕ → Writing
+writingOf (Is e) room = wroteOf e room
+writingOf Faulty room = Invalid
+
+unfoldable pub roomOf : Event → List ℕ → List ℕ
+roomOf (Is e) room = written form e room
+roomOf Faulty room = room
+
+-- an event record written: refusal
+unfoldable pub writingRow : Writing → List ℕ
+writingRow writing = writeRefusal writing ∷ 0 ∷ 0 ∷ 0 ∷ 0 ∷ []

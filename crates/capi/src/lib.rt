@@ -1,21 +1,16 @@
-// The library for C and Rust: numbers and slices in, each answer as a row of five numbers, the refusal first.
+// The library for C and Rust: numbers and slices in, each answer as a row of numbers, the refusal first.
 ghost use mathlib.Core.Path.{_≡_};
-ghost use mathlib.Core.Bool.{cond};
-ghost use mathlib.Core.List.{[], _∷_};
 ghost use Rattle.machine.specs.Machine.{Call, numbers};
 ghost use Rattle.calls.specs.Calls.{armAnswer, armMemory, clearAnswer, clearMemory, callAnswer, callMemory, textAnswer, textMemory};
-ghost use Rattle.capi.specs.Rows.{armRow, clearRow, textRow};
+ghost use lib.ListN.{length};
+ghost use Rattle.records.specs.Event.{eventIn, readOf};
+ghost use Rattle.capi.specs.Rows.{armRow, clearRow, textRow, eventRow, fieldsOf, roomOf, writingOf, writingRow};
 use calls::Clearing;
 use calls::Wording;
-use machine::Answer;
 use machine::Offer;
 use profile::Reading;
-
-fn put_row(row: &mut [u64; 5], a: u64, b: u64, c: u64, d: u64, e: u64)
-    ensures { λ _. ⌜ now (row .exit) ≡ a ∷ b ∷ c ∷ d ∷ e ∷ [] ⌝ }
-{
-    *row = [a, b, c, d, e];
-}
+use records::Reading as Event;
+use records::Writing;
 
 // Arms memory from a profile: refusal, line, firm, rules, roots.
 #[no_mangle]
@@ -25,8 +20,8 @@ pub extern "C" fn mbrumzheg_arm(m: &mut [u64], text: &[u8], row: &mut [u64; 5])
 {
     let reading = calls::arm(m, text);
     match reading {
-        Reading::Accepted { firm, rules, roots } => put_row(row, 0, 0, firm, rules, roots),
-        Reading::Refused { number, line } => put_row(row, number, line, 0, 0, 0),
+        Reading::Accepted { firm, rules, roots } => rows::put_row(row, 0, 0, firm, rules, roots),
+        Reading::Refused { number, line } => rows::put_row(row, number, line, 0, 0, 0),
     }
 }
 
@@ -38,38 +33,8 @@ pub extern "C" fn mbrumzheg_clear(m: &mut [u64], row: &mut [u64; 5])
 {
     let clearing = calls::clear(m);
     match clearing {
-        Clearing::Done => put_row(row, 0, 0, 0, 0, 0),
-        Clearing::Refused(number) => put_row(row, number, 0, 0, 0, 0),
-    }
-}
-
-// A flag as a number.
-fn flag(b: bool) -> u64
-    ensures { λ r. ⌜ r ≡ cond b 1 0 ⌝ }
-{
-    if b { 1 } else { 0 }
-}
-
-// Writes the row of an answer.
-fn put_answer(answer: Answer, row: &mut [u64; 5])
-    ensures { λ _. ⌜ now (row .exit) ≡ numbers answer ⌝ }
-{
-    match answer {
-        Answer::Refused(number) => put_row(row, number, 0, 0, 0, 0),
-        Answer::Judged {
-            verdict,
-            grant,
-            roottrip,
-            firmtrip,
-        } => put_row(row, 0, verdict, grant, flag(roottrip), flag(firmtrip)),
-        Answer::Left(n) => put_row(row, 0, n, 0, 0, 0),
-        Answer::Standing(roots) => {
-            let tripped = roots.tripped as u64;
-            let user = roots.user as u64;
-            let locked = roots.locked as u64;
-            let lowest = roots.lowest as u64;
-            put_row(row, 0, tripped, user, locked, lowest)
-        }
+        Clearing::Done => rows::put_row(row, 0, 0, 0, 0, 0),
+        Clearing::Refused(number) => rows::put_row(row, number, 0, 0, 0, 0),
     }
 }
 
@@ -79,7 +44,7 @@ pub extern "C" fn mbrumzheg_status(m: &[u64], row: &mut [u64; 5])
     ensures { λ _. ⌜ now (row .exit) ≡ numbers (callAnswer (now (m .entry)) Call.status) ⌝ }
 {
     let answer = calls::status(m);
-    put_answer(answer, row)
+    rows::put_answer(answer, row)
 }
 
 // Writes the text for a verdict: refusal, how many bytes.
@@ -90,8 +55,8 @@ pub extern "C" fn mbrumzheg_text(verdict: u64, room: &mut [u8], row: &mut [u64; 
 {
     let wording = calls::text(verdict, room);
     match wording {
-        Wording::Written(n) => put_row(row, 0, n, 0, 0, 0),
-        Wording::Refused(number) => put_row(row, number, 0, 0, 0, 0),
+        Wording::Written(n) => rows::put_row(row, 0, n, 0, 0, 0),
+        Wording::Refused(number) => rows::put_row(row, number, 0, 0, 0, 0),
     }
 }
 
@@ -108,7 +73,7 @@ pub extern "C" fn mbrumzheg_order(
     ensures { λ _. ⌜ now (row .exit) ≡ numbers (callAnswer (now (m .entry)) (Call.order time root reset)) ⌝ }
 {
     let answer = calls::order(m, time, root, reset);
-    put_answer(answer, row)
+    rows::put_answer(answer, row)
 }
 
 // An offered fill: refusal, verdict, grant, root trip, firm trip.
@@ -133,7 +98,7 @@ pub extern "C" fn mbrumzheg_offer(
         contracts,
     };
     let answer = calls::offer(m, o);
-    put_answer(answer, row)
+    rows::put_answer(answer, row)
 }
 
 // A lockout: refusal, verdict.
@@ -149,7 +114,7 @@ pub extern "C" fn mbrumzheg_lockout(
     ensures { λ _. ⌜ now (row .exit) ≡ numbers (callAnswer (now (m .entry)) (Call.lockout time level root)) ⌝ }
 {
     let answer = calls::lockout(m, time, level, root);
-    put_answer(answer, row)
+    rows::put_answer(answer, row)
 }
 
 // What remains of a rule's limit: refusal, the number.
@@ -158,5 +123,68 @@ pub extern "C" fn mbrumzheg_remaining(m: &[u64], time: u64, rule: u64, row: &mut
     ensures { λ _. ⌜ now (row .exit) ≡ numbers (callAnswer (now (m .entry)) (Call.remaining time rule)) ⌝ }
 {
     let answer = calls::remaining(m, time, rule);
-    put_answer(answer, row)
+    rows::put_answer(answer, row)
+}
+
+// Writes the row of what a record was read as.
+fn put_event(reading: Event, row: &mut [u64; 9])
+    ensures { λ _. ⌜ now (row .exit) ≡ eventRow reading ⌝ }
+{
+    match reading {
+        Event::Is(e) => {
+            let v = records::values_of(e);
+            *row = [0, v[0], v[1], v[2], v[3], v[4], v[5], v[6], v[7]];
+        }
+        Event::Faulty => {
+            *row = [16, 0, 0, 0, 0, 0, 0, 0, 0];
+        }
+    }
+}
+
+// Reads an event record: refusal, kind, time, root, unit, premium, contracts, reset, level.
+#[no_mangle]
+pub extern "C" fn mbrumzheg_read_record(s: &[u8], row: &mut [u64; 9])
+    ensures { λ _. ⌜ now (row .exit) ≡ eventRow (readOf (now (s .entry))) ⌝ }
+{
+    let reading = records::read(s);
+    put_event(reading, row)
+}
+
+// Writes the row of what a writer answered.
+fn put_writing(writing: Writing, row: &mut [u64; 5])
+    ensures { λ _. ⌜ now (row .exit) ≡ writingRow writing ⌝ }
+{
+    match writing {
+        Writing::Done => rows::put_row(row, 0, 0, 0, 0, 0),
+        Writing::Faulty => rows::put_row(row, 16, 0, 0, 0, 0),
+        Writing::Short => rows::put_row(row, 1, 0, 0, 0, 0),
+    }
+}
+
+// Writes the record of an event, given by its numbers, to the front of a room: refusal.
+#[no_mangle]
+pub extern "C" fn mbrumzheg_write_record(
+    kind: u64,
+    time: u64,
+    root: u64,
+    unit: u64,
+    premium: u64,
+    contracts: u64,
+    reset: u64,
+    level: u64,
+    room: &mut [u8],
+    row: &mut [u64; 5],
+)
+    ensures { λ _. ⌜ now (room .exit) ≡ roomOf (eventIn (fieldsOf kind time root unit premium contracts reset level)) (now (room .entry)) ⌝ }
+    ensures { λ _. ⌜ now (row .exit) ≡ writingRow (writingOf (eventIn (fieldsOf kind time root unit premium contracts reset level)) (length (now (room .entry)))) ⌝ }
+{
+    let v = [kind, time, root, unit, premium, contracts, reset, level, 0];
+    let reading = records::event_in(&v);
+    match reading {
+        Event::Is(e) => {
+            let writing = records::write(e, room);
+            put_writing(writing, row)
+        }
+        Event::Faulty => put_writing(Writing::Faulty, row),
+    }
 }

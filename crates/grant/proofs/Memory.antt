@@ -1,6 +1,7 @@
 -- What stands in a memory in which a state is laid out: the state's rules, totals and log. Assumes nothing.
 use Prim.Native.Nat.{ℕ, _+_, _*_, _-_, _<_}
 use native.Mathlib.Omega.{arith}
+use mathlib.Core.Bool.{true}
 use mathlib.Core.Path.{_≡_, refl, sym, ap, _∙_, subst}
 use mathlib.Core.List.{List, map}
 use lib.ListN.{length, getD, drop, List·getD-append, List·getD-map}
@@ -11,7 +12,7 @@ use Rattle.tables.specs.Tables.{zeros}
 use Rattle.tables.specs.RulePlace.{ruleAt, isRule}
 use Rattle.tables.specs.EntryPlace.{isEntry}
 use Rattle.tables.proofs.Tables.{every-at, read-table}
-use Rattle.tables.proofs.RulePlace.{rule-codec, rule-in-range}
+use Rattle.tables.proofs.RulePlace.{rule-codec, rule-in-range, rule-wider}
 use Rattle.tables.proofs.EntryPlace.{entry-wider}
 use Rattle.log.specs.Log.{Held, entriesOf}
 use Rattle.log.proofs.Logs.{table-held}
@@ -74,13 +75,17 @@ module _ {xs : List ℕ} (h : Laid xs) where
   pub laid-total : {i : ℕ} → i < length (decode xs .accounts) → getD xs (586 + i) 0 ≡ accountAt xs i .total
   laid-total {i = i} l = ap (λ (l : List ℕ). getD l (586 + i) 0) (h .is) ∙ total-of (decode xs) (h .fits) xs i l
 
-  pub laid-in-range : {i : ℕ} → i < length (decode xs .accounts) → InRange (accountAt xs i .rule .limit) × InDay (accountAt xs i .rule .kind)
-  laid-in-range {i = i} l =
+  -- each rule is one that a profile may have
+  pub laid-valid : {i : ℕ} → i < length (decode xs .accounts) → isRule 64 (accountAt xs i .rule) ≡ true
+  laid-valid {i = i} l =
       let rules = map (λ (a : Account). a .rule) (decode xs .accounts) in
       let ok = isRule (length (decode xs .roots)) in
-      rule-in-range (length (decode xs .roots)) (accountAt xs i .rule)
+      rule-wider (length (decode xs .roots)) 64 (accountAt xs i .rule) (h .fits .roots)
       (ap ok (sym (List·getD-map (λ (a : Account). a .rule) (decode xs .accounts) i noAccount))
       ∙ every-at ok rules i (noAccount .rule) (h .fits .rules) (omega (arith, map-length (λ a. a .rule) (decode xs .accounts))))
+
+  pub laid-in-range : {i : ℕ} → i < length (decode xs .accounts) → InRange (accountAt xs i .rule .limit) × InDay (accountAt xs i .rule .kind)
+  laid-in-range {i = i} l = rule-in-range 64 (accountAt xs i .rule) (laid-valid l)
 
 -- the entries of the log's places are those of the state
 pub log-entries : (xs : List ℕ) → entriesOf (getD xs 5 0) (logPart xs) ≡ decode xs .log

@@ -5,7 +5,7 @@ use mathlib.Core.Bool.{Bool, true, false, cond, _||_, not, Bool·not-not, Bool·
 use mathlib.Core.List.{List}
 use lib.ListN.{length}
 use lib.Dec.{eqb, ltb}
-use borrow.Author.Tests.{ltb-true, ltb-false, eqb-true, not-false}
+use borrow.Author.Tests.{le-ltb, ltb-true, ltb-false, eqb-true, not-false}
 use native.Mathlib.Nat.{pow-le-pow-right}
 use native.Mathlib.Omega.{arith}
 use Rattle.laws.specs.Tests.{tests}
@@ -19,7 +19,7 @@ use Rattle.rules.specs.declared.Rule.{Rule}
 use Rattle.text.specs.Text.{field, made, isName, nameNumber, nameOf}
 use Rattle.text.specs.declared.Number.the-variants.{Is as Read, Bad}
 use Rattle.text.proofs.Numerals.{name-below, name-zero}
-use Rattle.line.specs.Line.{isAbsolute, limitsOf, limitOf, kindOf, isRead, theNumber, firmField, rootField, firmIn, typeIn, rootIn, limitIn, timeIn, isFirmLevel, callPut, month, malformed, otherFirm, outOfRange, levelClash, scopeOf, ruleOf, lineOf}
+use Rattle.line.specs.Line.{isAbsolute, limitsOf, limitOf, kindOf, isRead, theNumber, firmField, rootField, firmIn, typeIn, rootIn, limitIn, timeIn, isFirmLevel, callPut, month, malformed, otherFirm, outOfRange, levelClash, scopeOf, ruleOf, lineOf, anyLine}
 use Rattle.line.specs.declared.LimitType.{LimitType}
 use Rattle.line.specs.declared.LimitType.the-variants.{RateNtnl, RateVol, RateCount, AbsNtnl, AbsVol, AbsCount}
 use Rattle.line.specs.declared.Line.the-variants.{Is, Refused}
@@ -198,3 +198,8 @@ module _ (firm : ℕ) (line : List ℕ) {rule : Rule} (e : lineOf firm line ≡ 
   line-firm =
       let a = line-accepted firm line e in
       (eqb-true (firmIn line) firm (not-false _ (a .own)), name-some 1 4 (field line 0) (read-fields line (a .well) .0) (omega arith))
+
+-- a line that is no longer than a profile may be comes to what it says
+pub any-line : (firm : ℕ) (line : List ℕ) → length line ≤ 65_536 → anyLine firm line ≡ lineOf firm line
+unfolding anyLine
+any-line firm line short = rw (le-ltb 65_536 (length line) short)

@@ -175,3 +175,7 @@ ruleOf line = record {
 -- a line, where line 1 is the firm's
 unfoldable pub lineOf : ℕ → List ℕ → Line
 lineOf firm line = cond (eqb (faultOf firm line) 0) (Is (ruleOf line)) (Refused (faultOf firm line))
+
+-- a line of any length: one that is longer than a profile may be is refused with 5, as every profile that it stands in
+unfoldable pub anyLine : ℕ → List ℕ → Line
+anyLine firm line = cond (ltb 65_536 (length line)) (Refused 5) (lineOf firm line)

@@ -3,7 +3,7 @@ ghost use mathlib.Core.Path.{_≡_};
 ghost use Prim.Native.Nat.{_+_, _≤_, _<_, max};
 ghost use lib.ListN.{length};
 ghost use Rattle.text.proofs.Lists.{Cursor};
-ghost use Rattle.line.specs.Line.{typeOf, isAbsolute, kindOf, timeOf, letterOf, isKnown, theType, isRead, theNumber, firmIn, levelClash, unitClash, scopeOf, lineOf};
+ghost use Rattle.line.specs.Line.{typeOf, isAbsolute, kindOf, timeOf, letterOf, isKnown, theType, isRead, theNumber, firmIn, levelClash, unitClash, scopeOf, lineOf, anyLine};
 ghost use Rattle.line.specs.Parts.{limitRead, HeadSays, TailSays};
 use measures::Contracts;
 use measures::ContractsRead;
@@ -267,9 +267,9 @@ fn read_head(line: &[u8]) -> Head
     let limit_at = after(root_at, root_field);
     let limit_field = text::field_at(line, limit_at);
     let next = after(limit_at, limit_field);
-    let firm = text::name(firm_field, 1, 4);
+    let firm = text::firm_name(firm_field);
     let named = type_of(type_field);
-    let root = text::name(root_field, 0, 6);
+    let root = text::root_name(root_field);
     let limit = text::digits(limit_field);
     Head {
         well: (limit_at <= line.len())
@@ -343,11 +343,11 @@ fn scope_of(root: u64, firmwide: bool, call: u64, month: u64) -> Scope
 pub fn firm_of(line: &[u8]) -> u64
     ensures { λ r. ⌜ r ≡ firmIn (now (line .entry)) ⌝ }
 {
-    number_in(text::name(text::field_at(line, 0), 1, 4))
+    number_in(text::firm_name(text::field_at(line, 0)))
 }
 
-// What a line comes to where line 1 names that firm.
-pub fn read_line(firm: u64, line: &[u8]) -> Line
+// What a line of a profile comes to where line 1 names that firm.
+fn line_in(firm: u64, line: &[u8]) -> Line
     requires { ⌜ length (now line) ≤ 65_536 ⌝ }
     ensures { λ r. ⌜ r ≡ lineOf firm (now (line .entry)) ⌝ }
 {
@@ -377,4 +377,14 @@ pub fn read_line(firm: u64, line: &[u8]) -> Line
         kind: named.kind(tail.time),
         limit,
     })
+}
+
+// What a line comes to where line 1 names that firm: a line that is longer than a profile may be is refused as such a profile is.
+pub fn read_line(firm: u64, line: &[u8]) -> Line
+    ensures { λ r. ⌜ r ≡ anyLine firm (now (line .entry)) ⌝ }
+{
+    if 65_536 < line.len() {
+        return Line::Refused(5);
+    }
+    line_in(firm, line)
 }

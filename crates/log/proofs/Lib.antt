@@ -1,4 +1,5 @@
 pub mod Order
 pub mod Logs
 pub mod Sums
+pub mod Sifting
 pub mod Turns

@@ -1,21 +1,17 @@
 -- A number of each of the log's entries, summed from place to place. Assumes nothing.
 use Prim.Native.Nat.{ℕ, _+_, _*_, _-_, _≤_, _<_, zero-le}
 use mathlib.Core.Path.{_≡_, refl, ap, _∙_}
-use mathlib.Core.Bool.{Bool, true, false, cond, _&&_}
+use mathlib.Core.Bool.{Bool, true, false, cond}
 use mathlib.Core.List.{List, [], _∷_}
 use native.Mathlib.Nat.{sub-zero, zero-mul, zero-add, suc-mul, mul-le-mul-right}
 use native.Mathlib.Omega.{arith}
 use lib.ListN.{length, drop}
 use Rattle.laws.specs.Tests.{and-l, and-r}
-use Rattle.rules.specs.Rules.{levelOf, covers, counts, share}
-use Rattle.rules.specs.declared.Rule.{Rule}
-use Rattle.rules.proofs.Laws.{added-most}
 use Rattle.tables.specs.Tables.{places, every}
 use Rattle.tables.specs.EntryPlace.{entryAt, isEntry}
 use Rattle.tables.specs.declared.Entry.{Entry}
 use Rattle.tables.proofs.Tables.{places-on, length-places}
-use Rattle.tables.proofs.EntryPlace.{entry-ranged}
-use Rattle.log.specs.Log.{Held, entriesOf, flagOf, entryShare, sumOf, keep}
+use Rattle.log.specs.Log.{Held, entriesOf, sumOf, keep}
 use Rattle.log.proofs.Logs.{codec, held-valid}
 
 -- the sum over the places before i, with that over the places from i on, is the whole
@@ -59,18 +55,10 @@ summed-most {f = f} {k = k} {xs = xs} most small h s =
     let few : length (entriesOf k xs) ≤ 512 = omega (arith, length-places codec k xs, h .fits) in
     omega (arith, s .whole, all, mul-le-mul-right most few)
 
--- what an entry counts for a rule, at the most
-picked-most : (b : Bool) (n most : ℕ) → n ≤ most → cond b n 0 ≤ most
+-- a number that is counted or not is at most what it is
+pub picked-most : (b : Bool) (n most : ℕ) → n ≤ most → cond b n 0 ≤ most
 picked-most true n most h = h
 picked-most false n most h = zero-le
-
-pub share-most : (rule : Rule) (time : ℕ) (e : Entry) → isEntry 64 e ≡ true → entryShare rule time e ≤ 100_000_000_000_000
-unfolding entryShare share
-share-most rule time e h =
-    let r = entry-ranged 64 e h in
-    picked-most (flagOf (levelOf (rule .scope)) e) _ _
-    (picked-most (covers (rule .scope) (e .root) (e .unit) && counts (rule .kind) (e .time) time) _ _
-    (added-most (rule .limit) (e .premium .0) (e .contracts .0) (r .premium .1) (r .contracts .1)))
 
 -- how many pass a test is a sum too
 abbrev pub one : (Entry → Bool) → Entry → ℕ

@@ -1,7 +1,7 @@
 -- The log's entries rewritten in their places, one after the other, and the places after them set to 0. Assumes nothing.
 use Prim.Native.Nat.{ℕ, zero, suc, _+_, _*_, _-_, _≤_, _<_, zero-le}
 use mathlib.Core.Path.{_≡_, refl, sym, ap, _∙_}
-use mathlib.Core.Bool.{Bool, true, false}
+use mathlib.Core.Bool.{Bool, true, false, cond}
 use mathlib.Core.List.{List, [], _∷_, _++_, append-assoc, append-nil, map}
 use native.Mathlib.Numerals.{add-one}
 use native.Mathlib.Omega.{arith}
@@ -171,6 +171,40 @@ module _ {window time k : ℕ} {xs : List ℕ} {i j : ℕ} {ys : List ℕ} (h : 
         most = most;
         log = t .log ∙ ap (λ (es : List Entry). logTable (es ++ drop j (entriesOf k xs))) made;
       }
+
+-- what passes a test is no more than all, and it is all where it is as many
+module _ {A : Type 0} (test : A → Bool) where
+  pub keep-most : (xs : List A) → length (keep test xs) ≤ length xs
+  unfolding keep
+  keep-most [] = zero-le
+  keep-most (x ∷ xs) = go (test x) (keep-most xs)
+    where
+      go : (b : Bool) → length (keep test xs) ≤ length xs → length (cond b (x ∷ keep test xs) (keep test xs)) ≤ suc (length xs)
+      go true l = omega arith
+      go false l = omega arith
+
+  keep-all : (xs : List A) → length (keep test xs) ≡ length xs → keep test xs ≡ xs
+  unfolding keep
+  keep-all [] e = refl
+  keep-all (x ∷ xs) e = go (test x) (keep-all xs) e
+    where
+      go : (b : Bool) → (length (keep test xs) ≡ length xs → keep test xs ≡ xs) → length (cond b (x ∷ keep test xs) (keep test xs)) ≡ suc (length xs) → cond b (x ∷ keep test xs) (keep test xs) ≡ x ∷ xs
+      go true rest e = ap (λ (l : List A). x ∷ l) (rest (omega arith))
+      go false rest e = absurd (omega (arith, keep-most xs))
+
+-- where all entries are inside the window nothing moves
+pub all-kept : {window time k n : ℕ} {xs : List ℕ} → Held k xs → n ≡ length (recent window time (entriesOf k xs)) → n ≡ k → Kept window time k xs xs k
+unfolding recent
+all-kept {window = window} {time = time} {k = k} {xs = xs} h count all =
+    let es = entriesOf k xs in
+    let long = length-places codec k xs in
+    let same : recent window time es ≡ es = keep-all (isRecent window time) es (sym count ∙ (all ∙ sym long)) in
+    let end : length es ≤ k = omega arith in
+    record {
+      count = sym all ∙ count;
+      most = omega arith;
+      log = held-table h ∙ ap logTable (sym (rw (same, drop-of-length-le es end) (append-nil es)));
+    }
 
 flat-append : (p q : List Entry) → flat entryNumbers (p ++ q) ≡ flat entryNumbers p ++ flat entryNumbers q
 unfolding flat

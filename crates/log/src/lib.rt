@@ -1,14 +1,18 @@
 // The log: its entries in their places, in order of time.
 ghost use mathlib.Core.Path.{_≡_};
-ghost use mathlib.Core.Bool.{true};
+ghost use mathlib.Core.Bool.{true, cond};
 ghost use mathlib.Core.List.{map};
 ghost use Prim.Native.Nat.{_*_, _≤_, _<_};
 ghost use lib.ListN.{length, drop};
-ghost use Rattle.rules.specs.Rules.{levelOf, InDay};
+ghost use Rattle.rules.specs.Rules.{added};
 ghost use Rattle.rules.specs.Resets.{zeroing};
 ghost use Rattle.tables.specs.Tables.{zeros};
+ghost use Rattle.tables.specs.RulePlace.{isRule};
 ghost use Rattle.tables.specs.EntryPlace.{entryAt, isEntry, logTable};
-ghost use Rattle.log.specs.Log.{logHolds, Held, entriesOf, unflagged, flagOf, entryShare, sumOf, isRecent, recent, OneKept, Kept, Joined};
+ghost use Rattle.log.specs.Log.{logHolds, Held, entriesOf, unflagged, entryShare, sumOf, isRecent, recent, OneKept, Kept, Joined};
+ghost use Rattle.log.specs.Sieve.{firstTime, sieveOf, passes, sifted};
+use rules::Kind;
+use rules::Limit;
 use rules::Rule;
 use rules::Scope;
 use tables::Entry;
@@ -32,43 +36,108 @@ pub fn is_log(log: &[u64], k: usize, roots: u64, clock: u64) -> bool
     tables::is_zero(&log[k * 2..])
 }
 
-// Whether an entry's flag of the rule's level is set.
-fn is_flagged(rule: Rule, e: Entry) -> bool
-    ensures { λ r. ⌜ r ≡ flagOf (levelOf (rule .scope)) e ⌝ }
+// What counts for a rule at a time, by the first number of an entry: the digits under a mask, which hold its root, its unit and the flag of the rule's
+// level as far as the rule asks for them, are those that are wanted, and the number is not below that of a first time.
+struct Sieve {
+    mask: u64,
+    want: u64,
+    from: u64,
+}
+
+// The first time that still counts at this one, or a day's end if none does.
+fn first_time(kind: Kind, time: u64) -> u64
+    ensures { λ r. ⌜ r ≡ firstTime kind time ⌝ }
 {
-    let scope = rule.scope;
-    match scope {
-        Scope::EveryFill => e.forfirm,
-        Scope::WholeRoot(_) => e.forroot,
-        Scope::OneUnit(_, _) => e.forroot,
+    match kind {
+        Kind::Rate(window) => {
+            if time < window {
+                return 0;
+            }
+            let past = time - window;
+            if past < 86_400_000 {
+                past + 1
+            } else {
+                86_400_000
+            }
+        }
+        Kind::Absolute => 0,
     }
 }
 
-// What an entry counts for a rule at a time.
-fn entry_share(rule: Rule, time: u64, e: Entry) -> u64
-    requires { ⌜ InDay (rule .kind) × (isEntry 64 e ≡ true) ⌝ }
-    ensures { λ r. ⌜ r ≡ entryShare rule time e ⌝ }
+// The sieve of a rule at a time.
+fn sieve_of(rule: Rule, time: u64) -> Sieve
+    requires { ⌜ isRule 64 rule ≡ true ⌝ }
+    ensures { λ r. ⌜ r ≡ sieveOf rule time ⌝ }
 {
-    if is_flagged(rule, e) {
-        rule.share(e.time, e.root, e.unit, e.premium, e.contracts, time)
+    let scope = rule.scope;
+    let kind = rule.kind;
+    let from = first_time(kind, time) * 1024;
+    match scope {
+        Scope::EveryFill => Sieve {
+            mask: 1,
+            want: 1,
+            from,
+        },
+        Scope::WholeRoot(root) => Sieve {
+            mask: 1010,
+            want: root * 16 + 2,
+            from,
+        },
+        Scope::OneUnit(root, unit) => Sieve {
+            mask: 1022,
+            want: root * 16 + unit * 4 + 2,
+            from,
+        },
+    }
+}
+
+// What an entry counts in a limit's measure, if its first number passes a sieve.
+fn entry_share(limit: Limit, s: Sieve, fill: u64, e: Entry) -> u64
+    requires { ⌜ isEntry 64 e ≡ true ⌝ }
+    ensures { λ r. ⌜ r ≡ cond (passes s fill) (added limit (e .premium .0) (e .contracts .0)) 0 ⌝ }
+{
+    if (fill & s.mask == s.want) & (s.from <= fill) {
+        limit.added(e.premium, e.contracts)
     } else {
         0
     }
 }
 
-// What the k entries of the log count for a rule at a time.
-pub fn counted(log: &[u64], k: usize, rule: Rule, time: u64) -> u64
-    requires { ⌜ Held k (now log) × InDay (rule .kind) ⌝ }
-    ensures { λ r. ⌜ r ≡ sumOf (entryShare rule time) (entriesOf k (now (log .entry))) ⌝ }
+// What those of the k entries of the log that pass a sieve count in a limit's measure.
+fn summed(log: &[u64], k: usize, limit: Limit, s: Sieve) -> u64
+    requires { ⌜ Held k (now log) ⌝ }
+    ensures { λ r. ⌜ r ≡ sumOf (sifted limit s) (entriesOf k (now (log .entry))) ⌝ }
 {
     let mut sum: u64 = 0;
     let mut i: usize = 0;
     while i < k {
         let e = tables::entry_at(log, i);
-        sum += entry_share(rule, time, e);
+        let fill = log[i * 2];
+        sum += entry_share(limit, s, fill, e);
         i += 1;
     }
     sum
+}
+
+// The same, each measure by itself, so that the loop does not ask for it at every entry.
+fn summed_in(log: &[u64], k: usize, limit: Limit, s: Sieve) -> u64
+    requires { ⌜ Held k (now log) ⌝ }
+    ensures { λ r. ⌜ r ≡ sumOf (sifted limit s) (entriesOf k (now (log .entry))) ⌝ }
+{
+    match limit {
+        Limit::Notional(most) => summed(log, k, Limit::Notional(most), s),
+        Limit::Volume(most) => summed(log, k, Limit::Volume(most), s),
+        Limit::Count(most) => summed(log, k, Limit::Count(most), s),
+    }
+}
+
+// What the k entries of the log count for a rule at a time.
+pub fn counted(log: &[u64], k: usize, rule: Rule, time: u64) -> u64
+    requires { ⌜ Held k (now log) × (isRule 64 rule ≡ true) ⌝ }
+    ensures { λ r. ⌜ r ≡ sumOf (entryShare rule time) (entriesOf k (now (log .entry))) ⌝ }
+{
+    let limit = rule.limit;
+    summed_in(log, k, limit, sieve_of(rule, time))
 }
 
 // An entry without the flags that a reset of an order for a root clears.
@@ -145,6 +214,9 @@ fn keep(log: &mut [u64], k: usize, window: u64, time: u64) -> usize
     requires { ⌜ Held k (now log) × (window ≤ 86_400_000) ⌝ }
     ensures { λ r. ⌜ Kept window time k (now (log .entry)) (now (log .exit)) r ⌝ }
 {
+    if recent_entries(log, k, window, time) == k {
+        return k;
+    }
     let mut j: usize = 0;
     let mut i: usize = 0;
     while i < k {

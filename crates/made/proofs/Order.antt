@@ -21,8 +21,8 @@ use Rattle.tables.specs.RulePlace.{ruleAt, ruleNumbers, isLimit, isKind, isScop
 use Rattle.tables.proofs.Tables.{pass-on}
 use Rattle.tables.proofs.RulePlace.{rule-wider}
 use Rattle.profile.specs.Profile.{howMany, crowded}
-use Rattle.profile.specs.Held.{Counted, Names, unitsWith, isOver, unitNumbers}
-use Rattle.profile.specs.declared.Units.{Units}
+use Rattle.profile.specs.Held.{Counted, Names, unitsWith, isOver, mayCover, countsWith}
+use Rattle.profile.proofs.Covering.{then-over, then-free, then-counts}
 use Rattle.profile.proofs.Counts.{counted-none, firm-stays, unit-stays, over-is, root-counted, firm-over, firm-counted}
 use Rattle.made.specs.Made.{seenAfter, isNext, areInOrder}
 use Rattle.made.specs.Parts.{rulesHold}
@@ -80,25 +80,23 @@ module _ {before : List Rule} {firms : ℕ} {counts : List ℕ} (held : SoFar be
   unfolding Follows mayFollow
   root-late h = rw (next-is root seen (rule .scope) own, lt-leb root seen h)
 
-  module _ (h : root ≤ seen) {units : Units} (are : units ≡ unitsWith counts root rule) where
-    own-over : crowded (before ++ (rule ∷ [])) (rule .scope) ≡ isOver units
-    own-over =
-        over-is (held .counted) rule root own (rule-below root rule ok own) 64 (rule-scope 64 rule ok) (held .unit-most root)
-        ∙ rw are
+  module _ (h : root ≤ seen) {covered : Bool} (told : covered ≡ mayCover counts root rule) where
+    own-over : crowded (before ++ (rule ∷ [])) (rule .scope) ≡ isOver (unitsWith counts root rule)
+    own-over = over-is (held .counted) rule root own (rule-below root rule ok own) 64 (rule-scope 64 rule ok) (held .unit-most root)
 
-    pub root-over : isOver units ≡ true → Follows before seen rule Stop counts
+    pub root-over : covered ≡ false → (after : List ℕ) → Follows before seen rule Stop after
     unfolding Follows mayFollow
-    root-over e = rw (own-over, e, and-false)
+    root-over e after = rw (own-over, then-over counts root rule told (held .counted .long) (rule-below root rule ok own) e, and-false)
 
-    pub root-follows : isOver units ≡ false → {seen-after : ℕ} {counts-after : List ℕ} → seen-after ≡ max seen (root + 1)
-        → counts-after ≡ sets counts (root * 4) (unitNumbers units)
+    pub root-follows : covered ≡ true → {seen-after : ℕ} {counts-after : List ℕ} → seen-after ≡ max seen (root + 1)
+        → counts-after ≡ countsWith counts root rule
         → Follows before seen rule (With (record { seen = seen-after; firms = firms })) counts-after
     unfolding Follows mayFollow
     root-follows e s c =
-        let free = own-over ∙ e in (
+        let free = own-over ∙ then-free counts root rule told e in (
           rw (next-is root seen (rule .scope) own, le-leb root seen h, free),
           s ∙ sym (seen-is root seen (rule .scope) own),
-          one-more held rule free (rw (c, are) (root-counted (held .counted) rule root own (rule-below root rule ok own))),
+          one-more held rule free (rw (then-counts counts root rule told e c) (root-counted (held .counted) rule root own (rule-below root rule ok own))),
         )
 
 -- a firm rule

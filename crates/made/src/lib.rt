@@ -100,11 +100,9 @@ fn with_root(rule: Rule, root: u64, tally: Tally, counts: &mut [u64]) -> Step
     if seen < root {
         return Step::Stop;
     }
-    let units = profile::units_with(counts, root as usize, rule);
-    if profile::is_over(units) {
+    if !profile::cover(counts, root as usize, rule) {
         return Step::Stop;
     }
-    profile::put_units(counts, root as usize, units);
     Step::With(Tally {
         seen: seen_with(seen, root),
         firms: tally.firms,

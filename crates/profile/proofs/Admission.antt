@@ -155,25 +155,27 @@ module _ {p : Profile} {tally : Tally} {roots rules counts : List ℕ} (held : H
   unfolding Joins
   refuses-root h = (many-roots held rule said name names (rw (← number-is) h), held .stored)
 
-  module _ (known : found < 64) {scope : Scope} (scope-is : scope ≡ scopeAt found (rule .scope)) {units : Units}
-      (units-are : units ≡ unitsWith counts found (record { scope = scope; kind = rule .kind; limit = rule .limit })) where
-    over : isOver units ≡ isOver (unitsWith counts (indexOf name (p .roots)) (placed (indexOf name (p .roots)) rule))
-    over = rw (units-are, scope-is, number-is)
+  module _ (known : found < 64) {scope : Scope} (scope-is : scope ≡ scopeAt found (rule .scope)) where
+    abbrev own-units : Units
+    own-units = unitsWith counts found (record { scope = scope; kind = rule .kind; limit = rule .limit })
 
-    pub refuses-unit : isOver units ≡ true → Joins p rule TooMany roots rules counts
+    over : isOver own-units ≡ isOver (unitsWith counts (indexOf name (p .roots)) (placed (indexOf name (p .roots)) rule))
+    over = rw (scope-is, number-is)
+
+    pub refuses-unit : isOver own-units ≡ true → (after : List ℕ) → Joins p rule TooMany roots rules after
     unfolding Joins
-    refuses-unit e = (many-units held rule said name names (rw (← number-is) known) (sym over ∙ e), held .stored)
+    refuses-unit e after = (many-units held rule said name names (rw (← number-is) known) (sym over ∙ e), held .stored)
 
-    pub takes-root : tally .rules < 256 → isOver units ≡ false → {after : ℕ} {rules-after counts-after : List ℕ}
+    pub takes-root : tally .rules < 256 → isOver own-units ≡ false → {after : ℕ} {rules-after counts-after : List ℕ}
         → after ≡ max (tally .roots) (found + 1) → rules-after ≡ sets rules (tally .rules * 2) (ruleNumbers (record { scope = scope; kind = rule .kind; limit = rule .limit }))
-        → counts-after ≡ sets counts (found * 4) (unitNumbers units)
+        → counts-after ≡ sets counts (found * 4) (unitNumbers own-units)
         → Joins p rule (With (record { rules = tally .rules + 1; roots = after; firms = tally .firms })) (set roots found name) rules-after counts-after
     unfolding Joins
     takes-root few e a b d =
         let less : length (p .rules) < 256 = omega (arith, held .rules-are) in
         let low : indexOf name (p .roots) < 64 = rw (← number-is) known in
         let free = sym over ∙ e in
-        rw (a, b, d, units-are, scope-is, number-is) (not-many held rule said name names less low free, root-held held rule said name names less low free)
+        rw (a, b, d, scope-is, number-is) (not-many held rule said name names less low free, root-held held rule said name names less low free)
 
 -- a firm rule after a profile that is held
 module _ {p : Profile} {tally : Tally} {roots rules counts : List ℕ} (held : Held p tally roots rules counts) (rule : Rule) (said : Said rule)

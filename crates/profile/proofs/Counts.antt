@@ -31,7 +31,7 @@ or-r true b e = absurd (false≢true (sym e))
 or-r false b e = e
 
 -- what holds of the four units holds of each
-four : (P : ℕ → Type 0) → P 0 → P 1 → P 2 → P 3 → (unit : ℕ) → unit < 4 → P unit
+pub four : (P : ℕ → Type 0) → P 0 → P 1 → P 2 → P 3 → (unit : ℕ) → unit < 4 → P unit
 four P a b c d zero h = a
 four P a b c d (suc zero) h = b
 four P a b c d (suc (suc zero)) h = c

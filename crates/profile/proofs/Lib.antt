@@ -1,6 +1,7 @@
 mod Roots
 mod Memory
 pub mod Counts
+pub mod Covering
 mod Joined
 mod Said
 mod Admission

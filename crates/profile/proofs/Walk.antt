@@ -3,17 +3,18 @@ use Prim.Native.Nat.{ℕ, _+_, _-_, _≤_, _<_}
 use mathlib.Core.Path.{_≡_, refl, sym, ap, _∙_}
 use mathlib.Core.Bool.{true, false}
 use mathlib.Core.List.{List, []}
-use lib.ListN.{length, getD, take, drop, replicate}
+use lib.ListN.{length, getD, drop, replicate}
 use lib.Dec.{eqb}
 use borrow.Author.Tests.{ne-eqb}
-use native.Mathlib.Nat.{sub-zero}
 use native.Mathlib.Omega.{arith}
 use Rattle.measures.specs.Ranges.{_to_, isIn}
 use Rattle.laws.specs.Lists.{ended}
 use Rattle.rules.specs.declared.Rule.{Rule}
-use Rattle.text.specs.Text.{pieces, lines, indexOf}
-use Rattle.text.proofs.Lists.{line-here, first-line, within}
-use Rattle.line.specs.Line.{firmIn, lineOf}
+use Rattle.text.specs.Text.{pieces, lines}
+use Rattle.reader.specs.Lines.{lineFrom}
+use Rattle.reader.proofs.Lines.{line-on, line-inside}
+use Rattle.line.specs.Line.{firmIn, lineOf, anyLine}
+use Rattle.line.proofs.Laws.{any-line}
 use Rattle.tables.specs.Tables.{zeros, flat, table}
 use Rattle.line.specs.declared.Line.the-variants.{Is, Refused as Faulty}
 use Rattle.line.proofs.Laws.{line-refused}
@@ -55,8 +56,9 @@ module _ (text : List ℕ) where
   unfolding scanOf outcomeOf readingOf rootsTable table flat zeros
   scan-unsized e = rw e
 
-  pub first-firm : (end : ℕ) → end ≡ 0 + indexOf 10 (drop 0 text) → firmIn (take end text) ≡ firmIn (getD (lines text) 0 [])
-  first-firm end ends = ap firmIn (rw sub-zero at (first-line text end ends))
+  pub first-firm : {line : List ℕ} → line ≡ lineFrom text 0 → firmIn line ≡ firmIn (getD (lines text) 0 [])
+  unfolding lineFrom
+  first-firm is = ap firmIn is
 
   pub scan-told : {firm : ℕ} {reading : Reading} {roots rules : List ℕ} → isIn (1 to 65_536) (length text) ≡ true → firm ≡ firmIn (getD (lines text) 0 [])
       → Told (readOn (startOf firm) 0 (lines text)) reading roots rules → record { reading = reading; roots = roots; rules = rules } ≡ scanOf text
@@ -77,18 +79,19 @@ module _ {text : List ℕ} {firm : ℕ} {tally : Tally} {at : ℕ} {roots rules 
       rw (w .rest, ended text at h)
       (record { reading-is = λ i. Accepted (sym (w .own) i) (w .held .rules-are i) (w .held .roots-are i); stored = w .held .stored })
 
-  -- one line more, from its place to its end
-  module _ {end : ℕ} (h : at < length text) (ends : end ≡ at + indexOf 10 (drop at text)) where
-    abbrev line : List ℕ
-    line = take (end - at) (drop at text)
+  -- one line more, which begins at the place
+  module _ {line : List ℕ} (h : at < length text) (is : line ≡ lineFrom text at) where
+    pub end-within : at + length line ≤ length text
+    end-within = rw is (line-inside text at (omega arith))
 
-    pub end-within : end ≤ length text
-    end-within = rw ends (within 10 text at (omega arith))
+    -- a line of a text that is no longer than a profile may be is no longer either
+    pub line-any : length text ≤ 65_536 → lineOf firm line ≡ anyLine firm line
+    line-any short = sym (any-line firm line (omega (arith, end-within)))
 
     one-line : readOn (startOf firm) 0 (lines text)
-        ≡ afterLine (w .profile) (tally .rules) (lineOf firm line) (λ rule. readOn (joined (w .profile) rule) (tally .rules + 1) (lines (drop (end + 1) text)))
+        ≡ afterLine (w .profile) (tally .rules) (lineOf firm line) (λ rule. readOn (joined (w .profile) rule) (tally .rules + 1) (lines (drop (at + length line + 1) text)))
     unfolding readOn
-    one-line = w .rest ∙ rw (line-here text at end h ends, w .own)
+    one-line = w .rest ∙ rw (line-on text at h, w .own, is)
 
     pub walk-fault : {k : ℕ} → lineOf firm line ≡ Faulty k → Told (readOn (startOf firm) 0 (lines text)) (Refused k (tally .rules + 1)) roots rules
     unfolding afterLine
@@ -106,7 +109,7 @@ module _ {text : List ℕ} {firm : ℕ} {tally : Tally} {at : ℕ} {roots rules 
           refused-told (w .profile) 11 (tally .rules + 1) (omega arith) (one-line ∙ rw (e, j .0)) (j .1)
 
       pub walk-next : {next : Tally} → became ≡ With next → Joins (w .profile) rule became roots-after rules-after counts-after
-          → Walk text firm next (end + 1) roots-after rules-after counts-after
+          → Walk text firm next (at + length line + 1) roots-after rules-after counts-after
       unfolding afterLine Joins joined
       walk-next {next} b joins =
           let j = rw b at joins in

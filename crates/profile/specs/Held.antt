@@ -1,10 +1,11 @@
 -- What stands in the reader's tally and arrays while a text is read. Assumes nothing.
 use Prim.Native.Nat.{ℕ, _+_, _*_, _<_}
 use mathlib.Core.Path.{_≡_}
-use mathlib.Core.Bool.{Bool, true, false, cond, _||_}
+use mathlib.Core.Bool.{Bool, true, false, not, cond, _&&_, _||_}
 use mathlib.Core.List.{List, [], _∷_}
 use lib.ListN.{length, getD}
-use lib.Dec.{ltb}
+use lib.Dec.{leb, ltb, eqb}
+use lib.Seq.{sets}
 use Rattle.rules.specs.Rules.{covers}
 use Rattle.rules.specs.declared.Scope.{Scope}
 use Rattle.rules.specs.declared.Scope.the-variants.{EveryFill, WholeRoot, OneUnit}
@@ -86,3 +87,16 @@ isOver units = ltb 6 (units .0) || ltb 6 (units .1) || ltb 6 (units .2) || ltb 6
 
 abbrev pub unitNumbers : Units → List ℕ
 unitNumbers units = units .0 ∷ units .1 ∷ units .2 ∷ units .3 ∷ []
+
+-- no unit of a root has more than 6 rules
+abbrev pub hasRoom : List ℕ → ℕ → Bool
+hasRoom counts root =
+    leb (getD counts (root * 4) 0) 6 && leb (getD counts (root * 4 + 1) 0) 6 && leb (getD counts (root * 4 + 2) 0) 6 && leb (getD counts (root * 4 + 3) 0) 6
+
+-- a rule may be counted: the root is one of the 64 that are counted, and with the rule none of its units has more than 6
+unfoldable pub mayCover : List ℕ → ℕ → Rule → Bool
+mayCover counts root rule = (eqb (length counts) 256 && ltb root 64) && not (isOver (unitsWith counts root rule))
+
+-- the counts with a rule, if it may be counted
+unfoldable pub countsWith : List ℕ → ℕ → Rule → List ℕ
+countsWith counts root rule = cond (mayCover counts root rule) (sets counts (root * 4) (unitNumbers (unitsWith counts root rule))) counts

@@ -8,7 +8,7 @@ ghost use Rattle.rules.specs.declared.Scope.the-variants.{EveryFill};
 ghost use Rattle.text.specs.Text.{lines, indexOf};
 ghost use Rattle.profile.specs.Profile.{Profile, readOn, startOf, scanOf};
 ghost use Rattle.profile.specs.Lawful.{Said};
-ghost use Rattle.profile.specs.Held.{Held, Holds, Joins, Told, Names, noTally, scopeAt, unitWith, unitsWith, isOver, unitNumbers};
+ghost use Rattle.profile.specs.Held.{Held, Holds, Joins, Told, Names, noTally, scopeAt, unitWith, unitsWith, isOver, unitNumbers, hasRoom, mayCover, countsWith};
 use line::Line;
 use rules::Rule;
 use rules::Scope;
@@ -34,7 +34,7 @@ struct Tally {
 }
 
 // How many rules cover each of a root's four units.
-pub struct Units(pub u64, pub u64, pub u64, pub u64);
+struct Units(u64, u64, u64, u64);
 
 // A rule after those that were read: with it there are so many, or one too many.
 enum Admitted {
@@ -88,7 +88,7 @@ fn unit_with(counts: &[u64], root: usize, rule: Rule, unit: usize) -> u64
 }
 
 // How many rules cover each unit of a root with one rule more.
-pub fn units_with(counts: &[u64], root: usize, rule: Rule) -> Units
+fn units_with(counts: &[u64], root: usize, rule: Rule) -> Units
     requires { ⌜ (length (now counts) ≡ 256) × (root < 64) × ((unit : ℕ) → unit < 4 → getD (now counts) (root * 4 + unit) 0 ≤ 6) ⌝ }
     ensures { λ r. ⌜ r ≡ unitsWith (now (counts .entry)) root rule ⌝ }
 {
@@ -101,14 +101,14 @@ pub fn units_with(counts: &[u64], root: usize, rule: Rule) -> Units
 }
 
 // Whether more than 6 rules cover a unit.
-pub fn is_over(units: Units) -> bool
+fn is_over(units: Units) -> bool
     ensures { λ r. ⌜ r ≡ isOver units ⌝ }
 {
     (6 < units.0) | (6 < units.1) | (6 < units.2) | (6 < units.3)
 }
 
 // Puts the counts of a root's units in their places.
-pub fn put_units(counts: &mut [u64], root: usize, units: Units)
+fn put_units(counts: &mut [u64], root: usize, units: Units)
     requires { ⌜ (length (now counts) ≡ 256) × (root < 64) ⌝ }
     ensures { λ _. ⌜ now (counts .exit) ≡ sets (now (counts .entry)) (root * 4) (unitNumbers units) ⌝ }
 {
@@ -117,6 +117,34 @@ pub fn put_units(counts: &mut [u64], root: usize, units: Units)
     counts[at + 1] = units.1;
     counts[at + 2] = units.2;
     counts[at + 3] = units.3;
+}
+
+// Whether no unit of a root has more than 6 rules.
+fn has_room(counts: &[u64], root: usize) -> bool
+    requires { ⌜ (length (now counts) ≡ 256) × (root < 64) ⌝ }
+    ensures { λ r. ⌜ r ≡ hasRoom (now (counts .entry)) root ⌝ }
+{
+    let at = root * 4;
+    (counts[at] <= 6) & (counts[at + 1] <= 6) & (counts[at + 2] <= 6) & (counts[at + 3] <= 6)
+}
+
+// Counts a rule on the units of a root that it covers, and answers whether it did: not for a root past the 64th, nor if a unit then has more than 6.
+pub fn cover(counts: &mut [u64], root: usize, rule: Rule) -> bool
+    ensures { λ r. ⌜ r ≡ mayCover (now (counts .entry)) root rule ⌝ }
+    ensures { λ r. ⌜ now (counts .exit) ≡ countsWith (now (counts .entry)) root rule ⌝ }
+{
+    if !((counts.len() == 256) & (root < 64)) {
+        return false;
+    }
+    if !has_room(counts, root) {
+        return false;
+    }
+    let units = units_with(counts, root, rule);
+    if is_over(units) {
+        return false;
+    }
+    put_units(counts, root, units);
+    true
 }
 
 // Takes a firm rule in, unless there are 10.
@@ -164,11 +192,9 @@ fn admit_root(
         kind,
         limit,
     };
-    let units = units_with(counts, root, numbered);
-    if is_over(units) {
+    if !cover(counts, root, numbered) {
         return Admitted::TooMany;
     }
-    put_units(counts, root, units);
     // The name stands there already, unless the root is new.
     roots[root] = name;
     let at = tally.rules;
@@ -221,10 +247,11 @@ fn read_lines(
     };
     let mut at: usize = 0;
     while at < text.len() {
-        let end = text::find(text, at, b'\n');
+        let line = reader::line_from(text, at);
+        let end = at + line.len();
         // Every line before this one gave a rule.
         let number = tally.rules as u64 + 1;
-        match line::read_line(firm, &text[at..end]) {
+        match line::read_line(firm, line) {
             Line::Refused(fault) => return Reading::Refused {
                 number: fault,
                 line: number,
@@ -260,8 +287,7 @@ pub fn read(text: &[u8]) -> Scan
             rules,
         };
     }
-    let end = text::find(text, 0, b'\n');
-    let firm = line::firm_of(&text[..end]);
+    let firm = line::firm_of(reader::line_from(text, 0));
     let reading = read_lines(text, firm, &mut roots, &mut rules, &mut counts);
     Scan {
         reading,

@@ -123,6 +123,12 @@ gain o grant rule = cond (coversOffer o rule) (added (rule .limit) (o .premium) 
 abbrev pub liveGain : Offer → ℕ → Rule → ℕ → ℕ
 liveGain o grant rule t = cond (counts (rule .kind) (o .time) t) (gain o grant rule) 0
 
+if-both : (a b : Bool) (n : ℕ) → cond (a && b) n 0 ≡ cond b (cond a n 0) 0
+if-both true true n = refl
+if-both true false n = refl
+if-both false true n = refl
+if-both false false n = refl
+
 -- a new entry counts for its root and for the firm
 new-flag : (level : Level) (o : Offer) (grant : ℕ) → flagOf level (entryOf o grant) ≡ true
 unfolding flagOf entryOf
@@ -132,16 +138,7 @@ new-flag (Root r) o grant = refl
 share-new : (rule : Rule) (t : ℕ) (o : Offer) (grant : ℕ) → entryShare rule t (entryOf o grant) ≡ liveGain o grant rule t
 unfolding entryShare share coversOffer entryOf
 share-new rule t o grant =
-    rw (new-flag (levelOf (rule .scope)) o grant) (go (counts (rule .kind) (o .time) t) (covers (rule .scope) (o .root) (o .unit)))
-  where
-    n : ℕ
-    n = added (rule .limit) (o .premium) grant
-
-    go : (b c : Bool) → cond (c && b) n 0 ≡ cond b (cond c n 0) 0
-    go true true = refl
-    go true false = refl
-    go false true = refl
-    go false false = refl
+    rw (new-flag (levelOf (rule .scope)) o grant) (if-both (covers (rule .scope) (o .root) (o .unit)) (counts (rule .kind) (o .time) t) _)
 
 -- an entry that leaves counts no more, then and later
 share-old : (rule : Rule) (w top t t′ : ℕ) → rule .kind ≡ Rate w → w ≤ top → t ≤ t′ → (e : Entry) → ltb t (e .time + top) ≡ false
@@ -149,16 +146,9 @@ share-old : (rule : Rule) (w top t t′ : ℕ) → rule .kind ≡ Rate w → w �
 unfolding entryShare share counts
 share-old rule w top t t′ k le p e old =
     let out : ltb t′ (e .time + w) ≡ false = le-ltb t′ (e .time + w) (omega (arith, ltb-false t (e .time + top) old)) in
-    rw (k, counts, out) (go (covers (rule .scope) (e .root) (e .unit)) (flagOf (levelOf (rule .scope)) e))
-  where
-    n : ℕ
-    n = added (rule .limit) (e .premium .0) (e .contracts .0)
-
-    go : (c f : Bool) → cond f (cond (c && false) n 0) 0 ≡ 0
-    go true true = refl
-    go true false = refl
-    go false true = refl
-    go false false = refl
+    let covered = covers (rule .scope) (e .root) (e .unit) in
+    let n = added (rule .limit) (e .premium .0) (e .contracts .0) in
+    rw (k, counts, out, if-both covered false n) (none-either (flagOf (levelOf (rule .scope)) e))
 
 pub recent-sum : (rule : Rule) (w top t t′ : ℕ) (log : List Entry) → rule .kind ≡ Rate w → w ≤ top → t ≤ t′
     → sumOf (entryShare rule t′) (recent top t log) ≡ sumOf (entryShare rule t′) log

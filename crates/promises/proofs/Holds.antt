@@ -3,7 +3,7 @@
 use Prim.Native.Nat.{ℕ, zero, suc}
 use native.Mathlib.Omega.{arith}
 use mathlib.Core.Path.{_≡_, refl, sym, ap, _∙_, subst}
-use mathlib.Core.Bool.{Bool, true, false, cond}
+use mathlib.Core.Bool.{Bool, true, false, cond, false≢true}
 use mathlib.Core.List.{List}
 use lib.ListN.{drop}
 use lib.Dec.{eqb}
@@ -17,9 +17,10 @@ use Rattle.state.specs.Laid.{Fits}
 use Rattle.state.proofs.Restored.{taken-apart}
 use Rattle.state.proofs.Stored.{stored-rest, decode-stored}
 use Rattle.state.proofs.Exactly.{made-parts, sound-fits, given-is-made, sound-stored}
+use Rattle.machine.specs.declared.Answer.the-variants.{Refused}
 use Rattle.machine.specs.Machine.{Call, order, lockout, offer, remaining, status, verdictOf, refusalOf, judged, acted, unless, step}
 use Rattle.calls.specs.Calls.{memoryRefusal, armRefusal, armAnswer, armMemory, callAnswer, isRefusal, callMemory}
-use Rattle.calls.proofs.Armed.{refusal-none, call-taken}
+use Rattle.calls.proofs.Armed.{refusal-none, sound-memory, call-taken}
 use Rattle.calls.proofs.Steps.{refused, acts, after-sound}
 use Rattle.promises.proofs.Fresh.{fresh-sound, accepted-made}
 
@@ -39,6 +40,13 @@ sound-ready : (xs : List ℕ) → isSound xs ≡ true → memoryRefusal xs ≡ 0
 sound-ready xs h =
     let t = taken-apart xs h in
     sym (refusal-none xs (t .long) (λ z. omega (arith, t .mark)) true (sym h) refl)
+
+-- memory that meets no refusal holds the state that it stands for; memory that holds a state meets none
+pub ready-holds : (xs : List ℕ) → memoryRefusal xs ≡ 0 → Holds (decode xs) (drop size xs) xs
+ready-holds xs ready = record { sound = sound-memory xs ready; state = refl; rest = refl }
+
+pub holds-ready : {s : State} {past xs : List ℕ} → Holds s past xs → memoryRefusal xs ≡ 0
+holds-ready h = sound-ready _ (h .sound)
 
 -- ---- Arm
 
@@ -82,10 +90,11 @@ acts-answered s (offer o) = go (verdictOf s (o .root))
 acts-answered s (remaining time rule) = refl
 acts-answered s status = refl
 
-module _ (xs : List ℕ) (sound : isSound xs ≡ true) (call : Call) where
-  ready : memoryRefusal xs ≡ 0
-  ready = sound-ready xs sound
+pub acts-unrefused : (s : State) (call : Call) (n : ℕ) → acted s call .answer ≡ Refused n → ⊥
+unfolding isRefusal
+acts-unrefused s call n e = false≢true (sym (acts-answered s call) ∙ ap isRefusal e)
 
+module _ (xs : List ℕ) (ready : memoryRefusal xs ≡ 0) (call : Call) where
   -- a call on a sound memory leaves the machine's state
   call-stores : Holds (step (decode xs) call .after) (drop size xs) (callMemory xs call)
   unfolding step unless
@@ -97,15 +106,15 @@ module _ (xs : List ℕ) (sound : isSound xs ≡ true) (call : Call) where
           subst (Holds (acted (decode xs) call .after) (drop size xs)) (acts xs ready call e (acts-answered (decode xs) call) .1)
           (stored-holds (acted (decode xs) call .after) xs (after-sound xs ready call e))
       go (suc n) e =
-          subst (Holds (decode xs) (drop size xs)) (refused xs ready call n e .1) (record { sound = sound; state = refl; rest = refl })
+          subst (Holds (decode xs) (drop size xs)) (refused xs ready call n e .1) (ready-holds xs ready)
 
 -- so a memory that holds a state answers as the machine does, and holds the machine's state after
 module _ {s : State} {past xs : List ℕ} (h : Holds s past xs) (call : Call) where
   pub call-answers : callAnswer xs call ≡ step s call .answer
   call-answers =
-      sym (call-taken xs call 0 (sym (sound-ready xs (h .sound))) refl) ∙ ap (λ (now : State). step now call .answer) (h .state)
+      sym (call-taken xs call 0 (sym (holds-ready h)) refl) ∙ ap (λ (now : State). step now call .answer) (h .state)
 
   pub call-holds : Holds (step s call .after) past (callMemory xs call)
   call-holds =
       subst (λ (now : State). Holds (step now call .after) past (callMemory xs call)) (h .state)
-      (subst (λ (rest : List ℕ). Holds (step (decode xs) call .after) rest (callMemory xs call)) (h .rest) (call-stores xs (h .sound) call))
+      (subst (λ (rest : List ℕ). Holds (step (decode xs) call .after) rest (callMemory xs call)) (h .rest) (call-stores xs (holds-ready h) call))

@@ -1,17 +1,16 @@
 -- The machine refuses by no number below 12: 1, 2 and 4 speak of memory, 3 and 5 to 11 of arming. Assumes nothing.
 use Prim.Native.Nat.{ℕ, zero, suc, _≤_, _<_}
 use native.Mathlib.Omega.{arith}
-use mathlib.Core.Path.{_≡_, refl, sym, ap, _∙_}
-use mathlib.Core.Bool.{Bool, true, false, false≢true}
+use mathlib.Core.Path.{_≡_, refl}
+use mathlib.Core.Bool.{Bool, true, false}
 use mathlib.Core.List.{List, [], _∷_}
 use Rattle.rules.specs.Allowance.{All}
 use Rattle.state.specs.State.{State}
 use Rattle.machine.specs.declared.Answer.the-variants.{Refused}
 use Rattle.machine.specs.Machine.{Call, order, lockout, offer, remaining, status, firstOf, refusalOf, acted, unless, step}
-use Rattle.calls.specs.Calls.{isRefusal}
 use Rattle.promises.specs.Run.{Run, afterCall, runFrom}
 use Rattle.promises.specs.Day.{NeverRefused}
-use Rattle.promises.proofs.Holds.{acts-answered}
+use Rattle.promises.proofs.Holds.{acts-unrefused}
 
 -- the first test that holds has a number of at least 12, where all have
 first-least : (tests : List (Bool × ℕ)) → All (λ test. 12 ≤ test .1) tests → (n : ℕ) → firstOf tests ≡ suc n → 12 ≤ suc n
@@ -34,11 +33,11 @@ refusal-least s status n e = absurd (omega arith)
 -- a number below 12 is the answer to no call of the machine
 module _ (k : ℕ) (low : k < 12) where
   step-never : (s : State) (call : Call) → step s call .answer ≡ Refused k → ⊥
-  unfolding step unless isRefusal
+  unfolding step unless
   step-never s call = go (refusalOf s call) refl
     where
       go : (n : ℕ) → refusalOf s call ≡ n → unless n s (acted s call) .answer ≡ Refused k → ⊥
-      go zero e h = false≢true (sym (acts-answered s call) ∙ ap isRefusal h)
+      go zero e h = acts-unrefused s call k h
       go (suc n) e h = let same : suc n ≡ k = cc in omega (arith, refusal-least s call n e)
 
   -- so no call of a run is refused with one

@@ -20,7 +20,7 @@ use Rattle.calls.specs.Calls.{isShort, markOf, armRefusal, armAnswer, armMemory
 use Rattle.calls.proofs.Cases.{clear-done}
 use Rattle.calls.proofs.Armed.{refusal-short, refusal-unarmed, sound-memory, call-refused}
 use Rattle.promises.specs.Day.{Day, afterCallOn, dayFrom, callsOn, AlwaysRefused, Idle}
-use Rattle.promises.proofs.Holds.{arm-accepts}
+use Rattle.promises.proofs.Holds.{Holds, arm-accepts, arm-holds}
 
 -- a memory refusal is answered as it is, and changes nothing
 refusal-answered : (memory : List ℕ) (call : Call) (n : ℕ) → n ≡ memoryRefusal memory → (n ≡ 0 → ⊥)
@@ -84,6 +84,16 @@ module _ (memory : List ℕ) (long : size ≤ length memory) (mark : markOf memo
   idle-judged : (text : List ℕ) → armAnswer memory text ≡ readingOf (outcomeOf text)
   unfolding armAnswer
   idle-judged text = rw idle-arm
+
+  -- a text that is read without a fault is accepted, and its profile is armed
+  module _ (text : List ℕ) (ok : outcomeOf text .refusal ≡ 0) where
+    pub unarmed-accepts : armAnswer memory text
+        ≡ Accepted (outcomeOf text .profile .firm) (length (outcomeOf text .profile .rules)) (length (outcomeOf text .profile .roots))
+    unfolding readingOf
+    unarmed-accepts = idle-judged text ∙ rw ok
+
+    pub unarmed-armed : Holds (armedState (outcomeOf text .profile)) (drop size memory) (armMemory memory text)
+    unarmed-armed = arm-holds memory text _ _ _ unarmed-accepts
 
   -- memory of at least the state's size whose mark is 0 is idle
   pub unarmed-idle : Idle memory

@@ -15,7 +15,7 @@ use Rattle.records.specs.declared.Event.the-variants.{Order, Offer, Lock
 use Rattle.records.specs.declared.Reading.the-variants.{Is, Faulty}
 use Rattle.records.specs.declared.Writing.the-variants.{Done, Faulty as Invalid, Short}
 use Rattle.records.specs.Form.{accepts, eventAt}
-use Rattle.records.specs.Event.{widths, valuesOf, eventOf, isValid, form, readOf, wroteOf}
+use Rattle.records.specs.Event.{widths, valuesOf, eventOf, isValid, form, eventIn, readOf, wroteOf}
 use Rattle.records.proofs.Round.{Lawful}
 
 -- a valid event fits its fields: each range is one of the tests
@@ -47,16 +47,20 @@ pub lawful : Lawful form
 unfolding total
 lawful = record { full = refl; fit = fit; back = back }
 
--- reading 12 bytes, by their fields v, their event e and that event's values w
-module _ (s v w : List ℕ) (e : Event) (a b : Bool) (size : length s ≡ 12) (fields : v ≡ fieldsOf widths s) (event : e ≡ eventOf v) (values : w ≡ valuesOf e)
-    (just : a ≡ same v w) (valid : b ≡ isValid e) where
-  pub read-is : (a && b) ≡ true → Is e ≡ readOf s
-  unfolding readOf accepts eventAt
-  read-is t = rw (eq-eqb _ _ size, ← fields, ← event, ← values, ← just, ← valid, t)
+-- values v, by their event e and that event's values w
+module _ (v w : List ℕ) (e : Event) (a b : Bool) (event : e ≡ eventOf v) (values : w ≡ valuesOf e) (just : a ≡ same v w) (valid : b ≡ isValid e) where
+  pub event-is : (a && b) ≡ true → Is e ≡ eventIn v
+  unfolding eventIn
+  event-is t = rw (← event, ← values, ← just, ← valid, t)
 
-  pub read-not : (a && b) ≡ false → Faulty ≡ readOf s
-  unfolding readOf accepts eventAt
-  read-not t = rw (eq-eqb _ _ size, ← fields, ← event, ← values, ← just, ← valid, t)
+  pub event-not : (a && b) ≡ false → Faulty ≡ eventIn v
+  unfolding eventIn
+  event-not t = rw (← event, ← values, ← just, ← valid, t)
+
+-- reading 12 bytes is reading the values of their fields
+pub read-full : (s v : List ℕ) → length s ≡ 12 → v ≡ fieldsOf widths s → eventIn v ≡ readOf s
+unfolding readOf accepts eventAt eventIn
+read-full s v size fields = rw (eq-eqb _ _ size, ← fields)
 
 pub read-short : (s : List ℕ) → (length s ≡ 12 → ⊥) → Faulty ≡ readOf s
 unfolding readOf accepts

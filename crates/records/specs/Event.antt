@@ -5,6 +5,7 @@ use mathlib.Core.List.{List, [], _∷_}
 use lib.ListN.{getD}
 use lib.Dec.{leb, eqb}
 use Rattle.measures.specs.Ranges.{_to_, isIn, times, roots, units, premiums, offers}
+use Rattle.laws.specs.Lists.{same}
 use Rattle.records.specs.Form.{Form, accepts, eventAt}
 use Rattle.records.specs.declared.Event.{Event}
 use Rattle.records.specs.declared.Event.the-variants.{Order, Offer, Lockout}
@@ -39,6 +40,10 @@ isValid (Lockout time level root) = isIn times time && isIn roots root && isIn (
 
 abbrev pub form : Form Event
 form = record { size = 12; widths = widths; values = valuesOf; event = eventOf; valid = isValid }
+
+-- what the values of the fields are read as: they must be just those of a valid event
+unfoldable pub eventIn : List ℕ → Reading
+eventIn v = cond (same v (valuesOf (eventOf v)) && isValid (eventOf v)) (Is (eventOf v)) Faulty
 
 -- what reading bytes answers
 unfoldable pub readOf : List ℕ → Reading

@@ -3,7 +3,7 @@ ghost use mathlib.Core.Path.{_≡_};
 ghost use lib.ListN.{length};
 ghost use Rattle.laws.specs.Lists.{same as sameNumbers};
 ghost use Rattle.records.specs.Form.{written};
-ghost use Rattle.records.specs.Event.{valuesOf, eventOf, isValid, form, readOf, wroteOf};
+ghost use Rattle.records.specs.Event.{valuesOf, eventOf, isValid, form, eventIn, readOf, wroteOf};
 
 // An event: each kind holds what it uses, and nothing else.
 pub enum Event {
@@ -43,7 +43,7 @@ pub enum Writing {
 const WIDTHS: [u64; 9] = [2, 27, 6, 2, 27, 20, 2, 1, 9];
 
 // The values of an event's fields.
-fn values_of(e: Event) -> [u64; 9]
+pub fn values_of(e: Event) -> [u64; 9]
     ensures { λ r. ⌜ r ≡ valuesOf e ⌝ }
 {
     match e {
@@ -135,6 +135,19 @@ fn same(a: &[u64], b: &[u64]) -> bool
     true
 }
 
+// The event that the values of the fields stand for: they are just those of a valid event.
+pub fn event_in(v: &[u64; 9]) -> Reading
+    ensures { λ r. ⌜ r ≡ eventIn (now (v .entry)) ⌝ }
+{
+    let e = event_of(v);
+    let w = values_of(e);
+    if same(v, &w) & is_valid(e) {
+        Reading::Is(e)
+    } else {
+        Reading::Faulty
+    }
+}
+
 // The event of a record: 12 bytes whose fields are the values of a valid event.
 pub fn read(s: &[u8]) -> Reading
     ensures { λ r. ⌜ r ≡ readOf (now (s .entry)) ⌝ }
@@ -144,13 +157,7 @@ pub fn read(s: &[u8]) -> Reading
     }
     let mut v = [0u64; 9];
     bits::read_fields(s, &WIDTHS, &mut v);
-    let e = event_of(&v);
-    let w = values_of(e);
-    if same(&v, &w) & is_valid(e) {
-        Reading::Is(e)
-    } else {
-        Reading::Faulty
-    }
+    event_in(&v)
 }
 
 // Writes the record of a valid event to the first 12 bytes of the room. A refusal writes nothing.

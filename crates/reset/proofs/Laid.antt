@@ -1,18 +1,19 @@
 -- What is read of a memory in which a state is laid out: its numbers of rules and entries, a rule, a total, and the log. Assumes nothing.
 use Prim.Native.Nat.{ℕ, _+_, _*_, _-_, _<_}
 use native.Mathlib.Omega.{arith}
+use mathlib.Core.Bool.{true}
 use mathlib.Core.Path.{_≡_, sym, ap, ap₂, _∙_}
 use mathlib.Core.List.{List, map}
 use lib.ListN.{length, getD, drop, List·getD-map, List·getD-append}
 use lib.Seq.{getD-take, getD-drop}
-use Rattle.rules.specs.Rules.{InRange, InDay, countedOf, ceiling}
+use Rattle.rules.specs.Rules.{countedOf, ceiling}
 use Rattle.rules.specs.declared.Rule.{Rule}
 use Rattle.rules.specs.declared.Account.{Account}
 use Rattle.tables.specs.Tables.{zeros}
 use Rattle.tables.specs.RulePlace.{ruleAt, isRule}
 use Rattle.tables.specs.EntryPlace.{isEntry}
 use Rattle.tables.proofs.Tables.{every-at, read-table}
-use Rattle.tables.proofs.RulePlace.{rule-codec, rule-in-range}
+use Rattle.tables.proofs.RulePlace.{rule-codec, rule-wider}
 use Rattle.tables.proofs.EntryPlace.{entry-wider}
 use Rattle.log.specs.Log.{Held, entriesOf, entryShare, sumOf}
 use Rattle.log.proofs.Logs.{table-held}
@@ -61,12 +62,12 @@ module _ {xs : List ℕ} (l : Laid xs) where
     laid-rule : rule ≡ getD (decode xs .accounts) i noAccount .rule
     laid-rule = is ∙ ap (λ (q : List ℕ). ruleAt (drop (i * 2) (rulesPart q))) (l .is) ∙ stored-rule (decode xs) (l .fits) xs i h
 
-    -- a rule that is read is in its ranges
-    pub laid-range : InRange (rule .limit) × InDay (rule .kind)
-    laid-range =
+    -- a rule that is read is one that a profile may have
+    pub laid-valid : isRule 64 rule ≡ true
+    laid-valid =
         let s = decode xs in
         let rules = map (λ (a : Account). a .rule) (s .accounts) in
-        rule-in-range (length (s .roots)) rule
+        rule-wider (length (s .roots)) 64 rule (l .fits .roots)
         (ap (isRule (length (s .roots))) (laid-rule ∙ sym (List·getD-map (λ (a : Account). a .rule) (s .accounts) i noAccount))
         ∙ every-at (isRule (length (s .roots))) rules i (noAccount .rule) (l .fits .rules) (omega (arith, map-length (λ a. a .rule) (s .accounts))))
 

@@ -144,8 +144,8 @@ line-here s at e h ends =
     let next = piece-next [] 10 s at e ends refl (omega arith) ∙ onward-lines s (e + 1) in
     apart (lines (drop at s)) (some [] 10 (drop at s) (omega (arith, length-drop at s))) ∙ (λ i. here i ∷ next i)
 
-pub first-line : (s : List ℕ) (e : ℕ) → e ≡ 0 + indexOf 10 (drop 0 s) → take (e - 0) (drop 0 s) ≡ getD (lines s) 0 []
-first-line s e ends = sym (piece-here [] 10 s 0 e ends refl)
+pub first-line : (s : List ℕ) (at e : ℕ) → e ≡ at + indexOf 10 (drop at s) → getD (lines (drop at s)) 0 [] ≡ take (e - at) (drop at s)
+first-line s at e ends = piece-here [] 10 s at e ends refl
 
 -- there are fields from a place on exactly if the place is not past the end
 pub fields-within : (line : List ℕ) (at : ℕ) → at ≤ length line → fieldsFrom line at ≡ fields (drop at line)

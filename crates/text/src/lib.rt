@@ -70,7 +70,7 @@ fn name_byte(x: u8) -> bool
 }
 
 // The number of a name of least to most bytes.
-pub fn name(f: &[u8], least: usize, most: usize) -> Number
+fn name(f: &[u8], least: usize, most: usize) -> Number
     requires { ⌜ most ≤ 8 ⌝ }
     ensures { λ r. ⌜ r ≡ nameOf least most (now (f .entry)) ⌝ }
 {
@@ -91,6 +91,20 @@ pub fn name(f: &[u8], least: usize, most: usize) -> Number
         i += 1;
     }
     Number::Is(v)
+}
+
+// The number of a firm's name.
+pub fn firm_name(f: &[u8]) -> Number
+    ensures { λ r. ⌜ r ≡ nameOf 1 4 (now (f .entry)) ⌝ }
+{
+    name(f, 1, 4)
+}
+
+// The number of a root's name, 0 where the field is empty.
+pub fn root_name(f: &[u8]) -> Number
+    ensures { λ r. ⌜ r ≡ nameOf 0 6 (now (f .entry)) ⌝ }
+{
+    name(f, 0, 6)
 }
 
 // The number of a field of 1 to 12 digits.

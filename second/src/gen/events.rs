@@ -96,7 +96,7 @@ enum Pace {
 }
 
 /// Makes one call after another.
-struct Maker {
+pub struct Maker {
     random: Random,
     /// The latest time that a good call had.
     clock: u64,
@@ -123,23 +123,52 @@ impl Maker {
         Maker { follows: Some(unit), cleared: answer.refusal != 0, ..Maker::new(seed, n, answer.roots) }
     }
 
+    /// So many calls near a unit that someone else runs them on; `next_on` gives them.
+    pub fn beside(seed: u64, n: usize) -> Maker {
+        Maker { follows: Some(Unit::new()), ..Maker::new(seed, n, 0) }
+    }
+
+    /// The next call of any kind for the unit, which is left as it was.
+    pub fn next_on(&mut self, unit: &mut Unit) -> Call {
+        let own = self.follows.get_or_insert_default();
+        std::mem::swap(own, unit);
+        self.cleared = true;
+        self.look();
+        let call = self.choose();
+        self.left = self.left.saturating_sub(1);
+        std::mem::swap(self.follows.get_or_insert_default(), unit);
+        call
+    }
+
     /// The next call of any kind.
     fn call(&mut self) -> Call {
-        let call = match self.random.below(1_000) {
-            _ if self.cleared && self.random.once_in(8) => self.arm(),
-            0 => Call::Clear,
-            1..=3 if !self.cleared => Call::Arm { seed: self.random.number() },
-            4..=99 => self.remaining(),
-            100..=139 => Call::Status,
-            140..=159 => self.text(),
-            _ => return self.event(),
-        };
+        let call = self.choose();
         self.follow(call);
         call
     }
 
     /// The next order, offer or lockout.
     fn event(&mut self) -> Call {
+        let call = self.choose_event();
+        self.follow(call);
+        call
+    }
+
+    /// Chooses a call of any kind.
+    fn choose(&mut self) -> Call {
+        match self.random.below(1_000) {
+            _ if self.cleared && self.random.once_in(8) => self.arm(),
+            0 => Call::Clear,
+            1..=3 if !self.cleared => Call::Arm { seed: self.random.number() },
+            4..=99 => self.remaining(),
+            100..=139 => Call::Status,
+            140..=159 => self.text(),
+            _ => self.choose_event(),
+        }
+    }
+
+    /// Chooses an order, offer or lockout.
+    fn choose_event(&mut self) -> Call {
         if self.random.once_in(300) {
             self.pace = self.random.pick(&[Pace::Slow, Pace::Window, Pace::Even]);
         }
@@ -148,9 +177,11 @@ impl Maker {
             2..=14 => self.order(),
             _ => self.offer(),
         };
-        let call = if self.random.once_in(40) { self.odd(call) } else { call };
-        self.follow(call);
-        call
+        if self.random.once_in(40) {
+            self.odd(call)
+        } else {
+            call
+        }
     }
 
     /// Runs the call on the unit that the calls follow, and keeps the clock.
@@ -165,11 +196,16 @@ impl Maker {
         }
         if let Some(unit) = &mut self.follows {
             call.run(unit);
-            if let Some(armed) = &unit.armed {
-                self.clock = armed.clock;
-                self.roots = armed.roots.len() as u64;
-                self.cleared = false;
-            }
+        }
+        self.look();
+    }
+
+    /// Takes clock and roots from the unit that the calls follow, if it is armed.
+    fn look(&mut self) {
+        if let Some(armed) = self.follows.as_ref().and_then(|unit| unit.armed.as_ref()) {
+            self.clock = armed.clock;
+            self.roots = armed.roots.len() as u64;
+            self.cleared = false;
         }
     }
 

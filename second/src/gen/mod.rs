@@ -6,6 +6,6 @@ mod events;
 mod profiles;
 mod random;
 
-pub use events::{events, events_near, records, Call};
+pub use events::{events, events_near, records, Call, Maker};
 pub use profiles::{damaged_profile, profile, valid_profile};
 pub use random::Random;

@@ -18,6 +18,10 @@ use Rattle.capi.proofs.mbrumzheg_lockout.Kinds as mbrumzheg-lockout-kinds
 use Rattle.capi.proofs.mbrumzheg_lockout.Reads as mbrumzheg-lockout-reads
 use Rattle.capi.proofs.mbrumzheg_remaining.Kinds as mbrumzheg-remaining-kinds
 use Rattle.capi.proofs.mbrumzheg_remaining.Reads as mbrumzheg-remaining-reads
+use Rattle.capi.proofs.mbrumzheg_read_record.Kinds as mbrumzheg-read-record-kinds
+use Rattle.capi.proofs.mbrumzheg_read_record.Reads as mbrumzheg-read-record-reads
+use Rattle.capi.proofs.mbrumzheg_write_record.Kinds as mbrumzheg-write-record-kinds
+use Rattle.capi.proofs.mbrumzheg_write_record.Reads as mbrumzheg-write-record-reads
 
 pub mbrumzheg-arm : Determines 3 mbrumzheg-arm-kinds.ps mbrumzheg-arm-kinds.r mbrumzheg-arm-reads.Asked mbrumzheg-arm-reads.Learnt
 mbrumzheg-arm κs args asked x y u v p q = (refl, λ i. (one (p .0) (q .0) i, (v .1 .0, (one (p .1) (q .1) i, v .1 .1 .1))))
@@ -42,3 +46,9 @@ mbrumzheg-lockout κs args asked x y u v p q = (refl, λ i. (one (p .0) (q .0) i
 
 pub mbrumzheg-remaining : Determines 2 mbrumzheg-remaining-kinds.ps mbrumzheg-remaining-kinds.r mbrumzheg-remaining-reads.Asked mbrumzheg-remaining-reads.Learnt
 mbrumzheg-remaining κs args asked x y u v p q = (refl, λ i. (v .0, (v .1 .0, (v .1 .1 .0, (one p q i, v .1 .1 .1 .1)))))
+
+pub mbrumzheg-read-record : Determines 2 mbrumzheg-read-record-kinds.ps mbrumzheg-read-record-kinds.r mbrumzheg-read-record-reads.Asked mbrumzheg-read-record-reads.Learnt
+mbrumzheg-read-record κs args asked x y u v p q = (refl, λ i. (v .0, (one p q i, v .1 .1)))
+
+pub mbrumzheg-write-record : Determines 2 mbrumzheg-write-record-kinds.ps mbrumzheg-write-record-kinds.r mbrumzheg-write-record-reads.Asked mbrumzheg-write-record-reads.Learnt
+mbrumzheg-write-record κs args asked x y u v p q = (refl, λ i. (v .0, (v .1 .0, (v .1 .1 .0, (v .1 .1 .1 .0, (v .1 .1 .1 .1 .0, (v .1 .1 .1 .1 .1 .0, (v .1 .1 .1 .1 .1 .1 .0, (v .1 .1 .1 .1 .1 .1 .1 .0, (one (p .0) (q .0) i, (one (p .1) (q .1) i, v .1 .1 .1 .1 .1 .1 .1 .1 .1 .1)))))))))))

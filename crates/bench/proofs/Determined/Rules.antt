@@ -14,8 +14,8 @@ use Rattle.rules.proofs.Rule.filled.Kinds as rule-filled-kinds
 use Rattle.rules.proofs.Rule.filled.Reads as rule-filled-reads
 use Rattle.rules.proofs.Rule.reached.Kinds as rule-reached-kinds
 use Rattle.rules.proofs.Rule.reached.Reads as rule-reached-reads
-use Rattle.rules.proofs.Rule.share.Kinds as rule-share-kinds
-use Rattle.rules.proofs.Rule.share.Reads as rule-share-reads
+use Rattle.rules.proofs.Limit.added.Kinds as limit-added-kinds
+use Rattle.rules.proofs.Limit.added.Reads as limit-added-reads
 
 pub rule-covers : Determines 0 rule-covers-kinds.ps rule-covers-kinds.r rule-covers-reads.Asked rule-covers-reads.Learnt
 rule-covers κs args asked x y u v p q = (one p q, refl)
@@ -35,5 +35,5 @@ rule-filled κs args asked x y u v p q = (one p q, refl)
 pub rule-reached : Determines 0 rule-reached-kinds.ps rule-reached-kinds.r rule-reached-reads.Asked rule-reached-reads.Learnt
 rule-reached κs args asked x y u v p q = (one p q, refl)
 
-pub rule-share : Determines 0 rule-share-kinds.ps rule-share-kinds.r rule-share-reads.Asked rule-share-reads.Learnt
-rule-share κs args asked x y u v p q = (one p q, refl)
+pub limit-added : Determines 0 limit-added-kinds.ps limit-added-kinds.r limit-added-reads.Asked limit-added-reads.Learnt
+limit-added κs args asked x y u v p q = (one p q, refl)

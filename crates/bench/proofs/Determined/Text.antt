@@ -10,8 +10,10 @@ use Rattle.text.proofs.field_at.Kinds as field-at-kinds
 use Rattle.text.proofs.field_at.Reads as field-at-reads
 use Rattle.text.proofs.equal.Kinds as equal-kinds
 use Rattle.text.proofs.equal.Reads as equal-reads
-use Rattle.text.proofs.name.Kinds as name-kinds
-use Rattle.text.proofs.name.Reads as name-reads
+use Rattle.text.proofs.firm_name.Kinds as firm-name-kinds
+use Rattle.text.proofs.firm_name.Reads as firm-name-reads
+use Rattle.text.proofs.root_name.Kinds as root-name-kinds
+use Rattle.text.proofs.root_name.Reads as root-name-reads
 use Rattle.text.proofs.digits.Kinds as digits-kinds
 use Rattle.text.proofs.digits.Reads as digits-reads
 
@@ -25,8 +27,11 @@ field-at κs args asked x y u v p q = (one p q, refl)
 pub equal : Determines 2 equal-kinds.ps equal-kinds.r equal-reads.Asked equal-reads.Learnt
 equal κs args asked x y u v p q = (one p q, refl)
 
-pub name : Determines 1 name-kinds.ps name-kinds.r name-reads.Asked name-reads.Learnt
-name κs args asked x y u v p q = (one p q, refl)
+pub firm-name : Determines 1 firm-name-kinds.ps firm-name-kinds.r firm-name-reads.Asked firm-name-reads.Learnt
+firm-name κs args asked x y u v p q = (one p q, refl)
+
+pub root-name : Determines 1 root-name-kinds.ps root-name-kinds.r root-name-reads.Asked root-name-reads.Learnt
+root-name κs args asked x y u v p q = (one p q, refl)
 
 pub digits : Determines 1 digits-kinds.ps digits-kinds.r digits-reads.Asked digits-reads.Learnt
 digits κs args asked x y u v p q = (one p q, refl)

@@ -1,11 +1,11 @@
 -- `grant::counted_by` meets its contract: an absolute rule's total stands in its place, and the log of the state in its places. Assumes nothing.
 use mathlib.Core.Path.{sym, ap, _∙_, subst}
-use Rattle.rules.specs.Rules.{InDay}
 use Rattle.rules.specs.declared.Rule.{Rule}
+use Rattle.tables.specs.RulePlace.{isRule}
 use Rattle.log.specs.Log.{entryShare, sumOf}
 use Rattle.state.specs.State.{decode}
 use Rattle.grant.specs.Grant.{accountAt}
-use Rattle.grant.proofs.Memory.{laid-total, laid-held, laid-in-range, log-entries}
+use Rattle.grant.proofs.Memory.{laid-total, laid-held, laid-valid, log-entries}
 use Rattle.grant.proofs.Cut.{counted-total, counted-log}
 use borrow.Author.Needs.{needs}
 use Rattle.grant.proofs.counted_by.Statement.{statement}
@@ -46,7 +46,7 @@ part-counted-end c = search needs
 counted-requires : tie.Need-counted-requires
 counted-requires c κs =
     let p = c .before .before .before .before .before .pre in
-    (laid-held (p .0), subst (λ (r : Rule). InDay (r .kind)) (sym (p .2)) (laid-in-range (p .0) (p .1) .1))
+    (laid-held (p .0), ap (isRule 64) (p .2) ∙ laid-valid (p .0) (p .1))
 
 returns-2 : tie.Need-returns-2
 returns-2 c =

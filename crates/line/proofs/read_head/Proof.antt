@@ -40,14 +40,14 @@ field-at-requires-4 c κs = search needs
 after-requires-4 : tie.Need-after-requires-4
 after-requires-4 c κs = field-fits (limit-at (c .before)) (c .field-at4 .ensures) (c .before .before .before .before .before .before .before .before .pre) (omega arith)
 
-name-requires : tie.Need-name-requires
-name-requires c κs = search needs
+firm-name-requires : tie.Need-firm-name-requires
+firm-name-requires c κs = search needs
 
 type-of-requires : tie.Need-type-of-requires
 type-of-requires c κs = search needs
 
-name-requires-2 : tie.Need-name-requires-2
-name-requires-2 c κs = search needs
+root-name-requires : tie.Need-root-name-requires
+root-name-requires c κs = search needs
 
 digits-requires : tie.Need-digits-requires
 digits-requires c κs = search needs
@@ -87,9 +87,9 @@ returns c =
     let at-root = at-limit .before .before in
     let at-type = at-root .before .before in
     let at-firm = at-type .before .before in
-    let firm-is = rw (cursor-field (cursor-start _) (at-firm .field-at .ensures)) at (firm .name .ensures) in
+    let firm-is = rw (cursor-field (cursor-start _) (at-firm .field-at .ensures)) at (firm .firm-name .ensures) in
     let type-is = rw (cursor-field (type-at (at-type .before)) (at-type .field-at2 .ensures)) at (type .type-of .ensures) in
-    let root-is = rw (cursor-field (root-at (at-root .before)) (at-root .field-at3 .ensures)) at (root .name2 .ensures) in
+    let root-is = rw (cursor-field (root-at (at-root .before)) (at-root .field-at3 .ensures)) at (root .root-name .ensures) in
     let limit-is = rw (cursor-field (limit-at (at-limit .before)) (at-limit .field-at4 .ensures)) at (limit .digits .ensures) in
     record {
       well =
@@ -123,9 +123,9 @@ read-head-spec =
     after-requires-3
     field-at-requires-4
     after-requires-4
-    name-requires
+    firm-name-requires
     type-of-requires
-    name-requires-2
+    root-name-requires
     digits-requires
     is-read-requires
     is-known-requires

@@ -3,8 +3,8 @@ use Prim.Native.Nat.{_-_, _≤_}
 use mathlib.Core.Path.{_≡_, refl, _∙_}
 use native.Mathlib.Omega.{arith}
 use lib.ListN.{length}
-use Rattle.log.specs.Log.{recent}
-use Rattle.log.proofs.Turns.{Turned, turned-none, turned-entry, keep-turn, keep-done}
+use Rattle.log.specs.Log.{Held, recent}
+use Rattle.log.proofs.Turns.{Turned, turned-none, turned-entry, keep-turn, keep-done, all-kept}
 use borrow.Author.Needs.{needs}
 use Rattle.log.proofs.keep.Statement.{statement}
 use Rattle.log.proofs.keep.Tie as tie
@@ -15,13 +15,26 @@ Inv-loop log₀ k window time j₀ i₀ log j i = (i ≤ k) × (length log ≡ 1
 abbrev μ-loop : tie.MeasureT-loop
 μ-loop log₀ k window time j₀ i₀ log j i = k - i
 
+-- what is held, from where the loop begins
+begun : (c : tie.Else1 Inv-loop μ-loop) → let a = c .before .before .before .before .args in Held (a .k) (a .log .now)
+begun c = c .before .before .before .before .pre .0
+
+recent-entries-requires : tie.Need-recent-entries-requires Inv-loop μ-loop
+recent-entries-requires c κs = search needs
+
+same-length : tie.Need-same-length Inv-loop μ-loop
+same-length c = search needs
+
+returns : tie.Need-returns Inv-loop μ-loop
+returns c = all-kept (c .before .before .before .before .pre .0) (c .before .recent-entries .ensures) (c .if1 .taken)
+
 loop-holds : tie.Need-loop-holds Inv-loop μ-loop
-loop-holds c = (search needs, c .before .pre .0 .size, turned-none _ (c .before .pre .0))
+loop-holds c = (search needs, begun c .size, turned-none _ (begun c))
 
 keep-one-requires : tie.Need-keep-one-requires Inv-loop μ-loop
 keep-one-requires c κs =
     let t = c .before .before .loop .inv .2 in
-    let held = c .before .before .before .before .pre .0 in
+    let held = begun (c .before .before .before) in
     (search needs, search needs, t .within, search needs, turned-entry held t (c .before .loop-test .taken) refl)
 
 add-i : tie.Need-add-i Inv-loop μ-loop
@@ -35,19 +48,19 @@ loop-again c =
     let at-call = c .before .before in
     let at-test = at-call .before .before in
     let at-loop = at-test .before in
-    let held = at-loop .before .before .pre .0 in (
+    let held = begun (at-loop .before) in (
       omega arith,
       at-call .keep-one .kept .0 ∙ at-loop .loop .inv .1,
       keep-turn held (at-loop .loop .inv .2) (at-test .loop-test .taken) (at-call .keep-one .ensures),
     )
 
-same-length : tie.Need-same-length Inv-loop μ-loop
-same-length c = search needs
+same-length-2 : tie.Need-same-length-2 Inv-loop μ-loop
+same-length-2 c = search needs
 
-returns : tie.Need-returns Inv-loop μ-loop
-returns c =
+returns-2 : tie.Need-returns-2 Inv-loop μ-loop
+returns-2 c =
     let l = c .before .loop in
-    keep-done (c .before .before .before .pre .0) (l .inv .2) (c .loop-test .left) (omega (arith, l .inv .2 .within))
+    keep-done (begun (c .before .before)) (l .inv .2) (c .loop-test .left) (omega (arith, l .inv .2 .within))
 
 pub keep-spec : {M : Type 1} → statement M
 keep-spec =
@@ -55,10 +68,13 @@ keep-spec =
     (tie.spec
     Inv-loop
     μ-loop
+    recent-entries-requires
+    same-length
+    returns
     loop-holds
     keep-one-requires
     add-i
     loop-less
     loop-again
-    same-length
-    returns)
+    same-length-2
+    returns-2)

@@ -1,20 +1,22 @@
 -- `profile::admit_root` meets its contract: the tests come first, and then every store. Assumes nothing.
 use mathlib.Core.Path.{sym, ap, _∙_}
 use borrow.Author.Needs.{needs}
+use borrow.Author.Tests.{not-true, not-false}
 use native.Mathlib.Omega.{arith}
 use lib.Seq.{length-take-le}
 use Rattle.rules.specs.declared.Scope.{Scope}
 use Rattle.tables.specs.RulePlace.{isRule}
 use Rattle.profile.proofs.Admission.{roots-long, rules-long, roots-room, root-rule, refuses-root, refuses-unit, takes-root}
+use Rattle.profile.proofs.Covering.{then-over, then-free, then-counts}
 use Rattle.profile.proofs.admit_root.Statement.{statement}
 use Rattle.profile.proofs.admit_root.Tie as tie
 
 -- the way back from the stores to the test of the units, from there to the root's number, and to the start
-abbrev tested : tie.After-slice-known4 → tie.After-is-over
-tested c = c .before .before .before .before .before
+abbrev tested : tie.Else2 → tie.After-cover
+tested c = c .before .before .before
 
-abbrev looked : tie.After-is-over → tie.After-root-number
-looked c = c .before .before .before .before .before
+abbrev looked : tie.After-cover → tie.After-root-number
+looked c = c .before .before .before .before
 
 abbrev begun : tie.After-root-number → tie.Start
 begun c = c .before .before .before .before .before
@@ -40,14 +42,8 @@ returns c =
 scope-at-requires : tie.Need-scope-at-requires
 scope-at-requires c κs = search needs
 
-units-with-requires : tie.Need-units-with-requires
-units-with-requires c κs =
-    let held = begun (c .before .before .before) .pre .0 .1 in
-    let known = c .before .before .if1 .left in
-    (held .counted .long, known, λ unit h. rw (held .counted .counts-are _ unit known h) (held .lawful .unit-most _ unit h))
-
-is-over-requires : tie.Need-is-over-requires
-is-over-requires c κs = search needs
+cover-requires : tie.Need-cover-requires
+cover-requires c κs = search needs
 
 same-length-2 : tie.Need-same-length-2
 same-length-2 c = search needs
@@ -57,16 +53,13 @@ same-length-3 c = search needs
 
 returns-2 : tie.Need-returns-2
 returns-2 c =
-    let t = c .before in
+    let t = c .before .before .before in
     let l = looked t in
     let s = begun l in
+    let n = t .before .before .before in
     λ p held.
-    refuses-unit held (s .args .rule) (s .pre .2) (s .args .name) (s .pre .3) (l .root-number .result) (l .root-number .ensures)
-    (t .before .before .before .before .if1 .left) (t .before .before .before .scope-at .ensures) (t .before .units-with .ensures)
-    (sym (t .is-over .ensures) ∙ c .if2 .taken)
-
-put-units-requires : tie.Need-put-units-requires
-put-units-requires c κs = search needs
+    refuses-unit held (s .args .rule) (s .pre .2) (s .args .name) (s .pre .3) (l .root-number .result) (l .root-number .ensures) (n .if1 .left)
+    (t .before .before .scope-at .ensures) (then-over _ _ _ (t .cover .ensures .0) (held .counted .long) (n .if1 .left) (not-true _ (c .if2 .taken))) _
 
 mul-roots : tie.Need-mul-roots
 mul-roots c = search needs
@@ -74,7 +67,7 @@ mul-roots c = search needs
 slice-write-roots : tie.Need-slice-write-roots
 slice-write-roots c =
     let t = tested c in
-    omega (arith, t .before .before .before .before .if1 .left, roots-long (begun (looked t) .pre .0 .1))
+    omega (arith, t .before .before .before .if1 .left, roots-long (begun (looked t) .pre .0 .1))
 
 put-rule-requires : tie.Need-put-rule-requires
 put-rule-requires c κs =
@@ -82,8 +75,8 @@ put-rule-requires c κs =
     let l = looked t in
     let s = begun l in
     let rule = s .args .rule in
-    let fits = root-rule (s .args .name) (l .root-number .result) rule (s .pre .2) (s .pre .3) (t .before .before .before .before .if1 .left) in
-    let own = t .before .before .before .scope-at .ensures in
+    let fits = root-rule (s .args .name) (l .root-number .result) rule (s .pre .2) (s .pre .3) (t .before .before .before .if1 .left) in
+    let own = t .before .before .scope-at .ensures in
     (rules-long (s .pre .0 .1), s .pre .1, ap (λ (scope : Scope). isRule 64 (record { scope = scope; kind = rule .kind; limit = rule .limit })) own ∙ fits)
 
 add-after : tie.Need-add-after
@@ -110,11 +103,11 @@ returns-3 c =
     let t = tested stored in
     let l = looked t in
     let s = begun l in
+    let yes = not-false _ (stored .if2 .left) in
     λ p held.
     takes-root held (s .args .rule) (s .pre .2) (s .args .name) (s .pre .3) (l .root-number .result) (l .root-number .ensures)
-    (t .before .before .before .before .if1 .left) (t .before .before .before .scope-at .ensures) (t .before .units-with .ensures) (s .pre .1)
-    (sym (t .is-over .ensures) ∙ stored .before .before .before .before .if2 .left) (c .most .ensures) (c .before .before .before .put-rule .ensures)
-    (stored .before .before .put-units .ensures)
+    (t .before .before .before .if1 .left) (t .before .before .scope-at .ensures) (s .pre .1) (then-free _ _ _ (t .cover .ensures .0) yes) (c .most .ensures)
+    (c .before .before .before .put-rule .ensures) (then-counts _ _ _ (t .cover .ensures .0) yes (t .cover .ensures .1))
 
 pub admit-root-spec : {M : Type 1} → statement M
 admit-root-spec =
@@ -126,12 +119,10 @@ admit-root-spec =
     same-length
     returns
     scope-at-requires
-    units-with-requires
-    is-over-requires
+    cover-requires
     same-length-2
     same-length-3
     returns-2
-    put-units-requires
     mul-roots
     slice-write-roots
     put-rule-requires

@@ -2,32 +2,23 @@
 use mathlib.Core.Path.{sym, _∙_}
 use borrow.Author.Needs.{needs}
 use borrow.Author.Tests.{leb-true, not-true, not-false}
-use native.Mathlib.Omega.{arith}
 use lib.ListN.{length}
 use lib.Dec.{leb}
-use lib.Seq.{length-take-le}
 use Rattle.laws.specs.Tests.{and-r}
 use Rattle.measures.specs.Ranges.{_to_, isIn}
-use Rattle.text.proofs.Lists.{within}
 use Rattle.profile.proofs.Walk.{start-held, scan-unsized, first-firm, scan-told}
 use Rattle.profile.proofs.read.Statement.{statement}
 use Rattle.profile.proofs.read.Tie as tie
 
--- the way back from the firm to where its line's end was found
-abbrev found : tie.After-firm-of → tie.After-find
-found c = c .before .before
+-- the way back from the firm to where its line was read
+abbrev found : tie.After-firm-of → tie.After-line-from
+found c = c .before
 
 returns : tie.Need-returns
 returns c = scan-unsized _ (not-true (isIn (1 to 65_536) (length (c .before .before .args .text .now))) (c .if1 .taken))
 
-find-requires : tie.Need-find-requires
-find-requires c κs = search needs
-
-slice-aggregate-firm-of : tie.Need-slice-aggregate-firm-of
-slice-aggregate-firm-of c =
-    let f = c .before in
-    let text = f .before .before .before .args .text .now in
-    sym (length-take-le (f .find .result) text (omega (arith, f .find .ensures, within 10 text 0 (omega arith))))
+line-from-requires : tie.Need-line-from-requires
+line-from-requires c κs = search needs
 
 firm-of-requires : tie.Need-firm-of-requires
 firm-of-requires c κs = search needs
@@ -52,7 +43,7 @@ returns-2 c =
     let o = c .before .before .before .before .before .before .before in
     let f = found o in
     let text = f .before .before .before .args .text .now in
-    scan-told text (not-false (isIn (1 to 65_536) (length text)) (f .before .if1 .left)) (o .firm-of .ensures ∙ first-firm text (f .find .result) (f .find .ensures))
+    scan-told text (not-false (isIn (1 to 65_536) (length text)) (f .before .if1 .left)) (o .firm-of .ensures ∙ first-firm text (f .line-from .ensures))
     (c .before .before .before .read-lines .ensures)
 
 pub read-spec : {M : Type 1} → statement M
@@ -60,8 +51,7 @@ read-spec =
     tie.close
     (tie.spec
     returns
-    find-requires
-    slice-aggregate-firm-of
+    line-from-requires
     firm-of-requires
     slice-aggregate-read-lines
     slice-aggregate-read-lines-2

@@ -1,12 +1,13 @@
 -- `profile::read_lines` meets its contract: a profile is held after every line, and the lines that are left decide the outcome. Assumes nothing.
-use Prim.Native.Nat.{_+_, _-_}
-use mathlib.Core.Path.{sym, _∙_}
+use Prim.Native.Nat.{_+_, _-_, _≤_}
+use mathlib.Core.Path.{_≡_, sym, _∙_}
 use borrow.Author.Needs.{needs}
 use native.Mathlib.Omega.{arith}
-use lib.ListN.{length, take, drop, length-take, length-drop}
+use lib.ListN.{length}
+use Rattle.line.specs.Line.{lineOf, anyLine}
 use Rattle.profile.proofs.Said.{said}
 use Rattle.profile.proofs.Admission.{roots-long, rules-long}
-use Rattle.profile.proofs.Walk.{Walk, walk-start, walk-end, end-within, walk-fault, walk-many, walk-next}
+use Rattle.profile.proofs.Walk.{Walk, walk-start, walk-end, end-within, line-any, walk-fault, walk-many, walk-next}
 use Rattle.profile.proofs.read_lines.Statement.{statement}
 use Rattle.profile.proofs.read_lines.Tie as tie
 
@@ -16,48 +17,50 @@ Inv-loop text firm roots₀ rules₀ counts₀ tally₀ at₀ roots rules counts
 abbrev μ-loop : tie.MeasureT-loop
 μ-loop text firm roots₀ rules₀ counts₀ tally₀ at₀ roots rules counts tally at = length text + 1 - at
 
--- the way back to where a line's end was found, from its rule taken in and from its rule, and to the start
+-- the way back to where a line was read, from its rule taken in and from its rule, and to the start
 abbrev taken : tie.After-slice-known6 Inv-loop μ-loop → tie.After-rule Inv-loop μ-loop
 taken c = c .before .before .before .before .before .before .before .before .before .before .before
 
-abbrev found : tie.After-rule Inv-loop μ-loop → tie.After-find Inv-loop μ-loop
-found c = c .before .before .before .before
+abbrev found : tie.After-rule Inv-loop μ-loop → tie.After-line-from Inv-loop μ-loop
+found c = c .before .before .before
 
-abbrev begun : tie.After-find Inv-loop μ-loop → tie.Start Inv-loop μ-loop
+abbrev begun : tie.After-line-from Inv-loop μ-loop → tie.Start Inv-loop μ-loop
 begun c = c .before .before .before .before .before .before .before
+
+-- where the line ends, and that it is no longer than the text
+inside : (f : tie.After-line-from Inv-loop μ-loop) → f .before .before .loop .at + length (f .line-from .result .now) ≤ length (begun f .args .text .now)
+inside f = end-within (f .before .before .loop .inv) (f .before .loop-test .taken) (f .line-from .ensures)
+
+short : (f : tie.After-line-from Inv-loop μ-loop)
+    → lineOf (begun f .args .firm) (f .line-from .result .now) ≡ anyLine (begun f .args .firm) (f .line-from .result .now)
+short f = line-any (f .before .before .loop .inv) (f .before .loop-test .taken) (f .line-from .ensures) (begun f .pre .0)
 
 loop-holds : tie.Need-loop-holds Inv-loop μ-loop
 loop-holds c = walk-start _ _ (c .before .before .before .before .pre .1)
 
-find-requires : tie.Need-find-requires Inv-loop μ-loop
-find-requires c κs = search needs
+line-from-requires : tie.Need-line-from-requires Inv-loop μ-loop
+line-from-requires c κs = search needs
+
+add-end : tie.Need-add-end Inv-loop μ-loop
+add-end c = omega (arith, inside c)
 
 add-number : tie.Need-add-number Inv-loop μ-loop
 add-number c = let held = c .before .before .loop .inv .held in omega (arith, held .rules-are, held .lawful .rules-most)
 
-sub-read-line : tie.Need-sub-read-line Inv-loop μ-loop
-sub-read-line c = omega (arith, c .find .ensures)
-
-part-read-line-start : tie.Need-part-read-line-start Inv-loop μ-loop
-part-read-line-start c = omega (arith, c .find .ensures)
-
-part-read-line-end : tie.Need-part-read-line-end Inv-loop μ-loop
-part-read-line-end c = end-within (c .before .before .loop .inv) (c .before .loop-test .taken) (c .find .ensures)
-
 read-line-requires : tie.Need-read-line-requires Inv-loop μ-loop
-read-line-requires c κs = simp (length-take, length-drop) (omega (arith, begun (c .before) .pre .0))
+read-line-requires c κs = search needs
 
 enum-known-fault : tie.Need-enum-known-fault Inv-loop μ-loop
 enum-known-fault c = search needs
 
 same-length : tie.Need-same-length Inv-loop μ-loop
 same-length c =
-    let f = c .before .before .before .before .before in
+    let f = c .before .before .before .before in
     omega (arith, roots-long (f .before .before .loop .inv .held), roots-long (begun f .pre .1))
 
 same-length-2 : tie.Need-same-length-2 Inv-loop μ-loop
 same-length-2 c =
-    let f = c .before .before .before .before .before in
+    let f = c .before .before .before .before in
     omega (arith, rules-long (f .before .before .loop .inv .held), rules-long (begun f .pre .1))
 
 same-length-3 : tie.Need-same-length-3 Inv-loop μ-loop
@@ -65,8 +68,8 @@ same-length-3 c = search needs
 
 returns : tie.Need-returns Inv-loop μ-loop
 returns c =
-    let f = c .before .before .before .before .before in
-    walk-fault (f .before .before .loop .inv) (f .before .loop-test .taken) (f .find .ensures) (sym (c .before .before .before .read-line .ensures) ∙ c .before .fault .given .1)
+    let f = c .before .before .before .before in
+    walk-fault (f .before .before .loop .inv) (f .before .loop-test .taken) (f .line-from .ensures) (short f ∙ (sym (c .before .before .before .read-line .ensures) ∙ c .before .fault .given .1))
 
 enum-known-rule : tie.Need-enum-known-rule Inv-loop μ-loop
 enum-known-rule c = search needs
@@ -75,7 +78,7 @@ admit-requires : tie.Need-admit-requires Inv-loop μ-loop
 admit-requires c κs =
     let r = c .before .before .before .before in
     let w = found r .before .before .loop .inv in
-    ((w .profile, w .held), said _ _ (sym (r .before .before .read-line .ensures) ∙ r .rule .given .1))
+    ((w .profile, w .held), said _ _ (short (found r) ∙ (sym (r .before .before .read-line .ensures) ∙ r .rule .given .1)))
 
 enum-told : tie.Need-enum-told Inv-loop μ-loop
 enum-told c = search needs
@@ -91,7 +94,9 @@ same-length-5 c =
     omega (arith, rules-long (f .before .before .loop .inv .held), rules-long (begun f .pre .1))
 
 same-length-6 : tie.Need-same-length-6 Inv-loop μ-loop
-same-length-6 c = omega (arith, c .before .before .before .before .before .before .before .before .before .before .before .before .before .before .before .before .before .before .before .loop .inv .held .counted .long, c .before .before .before .before .before .before .before .before .before .before .before .before .before .before .before .before .before .before .before .before .before .before .before .before .pre .1 .counted .long)
+same-length-6 c =
+    let f = found (taken (c .before .before)) in
+    omega (arith, f .before .before .loop .inv .held .counted .long, begun f .pre .1 .counted .long)
 
 returns-2 : tie.Need-returns-2 Inv-loop μ-loop
 returns-2 c =
@@ -99,19 +104,17 @@ returns-2 c =
     let r = taken a in
     let f = found r in
     let w = f .before .before .loop .inv in
-    walk-many w (f .before .loop-test .taken) (f .find .ensures) (sym (r .before .before .read-line .ensures) ∙ r .rule .given .1) _
+    walk-many w (f .before .loop-test .taken) (f .line-from .ensures) (short (found r) ∙ (sym (r .before .before .read-line .ensures) ∙ r .rule .given .1)) _
     (c .enum-told .given .1) (a .before .before .before .before .before .before .admit .ensures (w .profile) (w .held))
 
 enum-known-next : tie.Need-enum-known-next Inv-loop μ-loop
 enum-known-next c = search needs
 
 add-at : tie.Need-add-at Inv-loop μ-loop
-add-at c =
-    let f = found (taken (c .before .before .before)) in
-    omega (arith, end-within (f .before .before .loop .inv) (f .before .loop-test .taken) (f .find .ensures))
+add-at c = omega (arith, inside (found (taken (c .before .before .before))))
 
 loop-less : tie.Need-loop-less Inv-loop μ-loop
-loop-less c = let f = found (taken (c .before .before .before)) in omega (arith, f .find .ensures, f .before .loop-test .taken)
+loop-less c = let f = found (taken (c .before .before .before)) in omega (arith, f .before .loop-test .taken)
 
 loop-again : tie.Need-loop-again Inv-loop μ-loop
 loop-again c =
@@ -119,7 +122,7 @@ loop-again c =
     let r = taken a in
     let f = found r in
     let w = f .before .before .loop .inv in
-    walk-next w (f .before .loop-test .taken) (f .find .ensures) (sym (r .before .before .read-line .ensures) ∙ r .rule .given .1) _
+    walk-next w (f .before .loop-test .taken) (f .line-from .ensures) (short (found r) ∙ (sym (r .before .before .read-line .ensures) ∙ r .rule .given .1)) _
     (c .before .next .given .1) (a .before .before .before .before .before .before .admit .ensures (w .profile) (w .held))
 
 same-length-7 : tie.Need-same-length-7 Inv-loop μ-loop
@@ -141,11 +144,9 @@ read-lines-spec =
     Inv-loop
     μ-loop
     loop-holds
-    find-requires
+    line-from-requires
+    add-end
     add-number
-    sub-read-line
-    part-read-line-start
-    part-read-line-end
     read-line-requires
     enum-known-fault
     same-length

@@ -1,6 +1,7 @@
 -- `reset::left` meets its contract: the rule, its total and the log are read as the state has them. Assumes nothing.
 use mathlib.Core.Path.{refl}
-use Rattle.reset.proofs.Laid.{laid-held, laid-range, laid-left}
+use Rattle.tables.proofs.RulePlace.{rule-in-range}
+use Rattle.reset.proofs.Laid.{laid-held, laid-valid, laid-left}
 use borrow.Author.Needs.{needs}
 use Rattle.reset.proofs.left.Statement.{statement}
 use Rattle.reset.proofs.left.Tie as tie
@@ -41,7 +42,7 @@ part-counted-end c = search needs
 counted-requires : tie.Need-counted-requires
 counted-requires c κs =
     let p = c .before .before .before .before .before .before .pre in
-    (laid-held (p .0), laid-range (p .0) (p .1) (c .before .before .before .rule-at .ensures) .1)
+    (laid-held (p .0), laid-valid (p .0) (p .1) (c .before .before .before .rule-at .ensures))
 
 counted-requires-2 : tie.Need-counted-requires-2
 counted-requires-2 c κs = search needs
@@ -49,7 +50,7 @@ counted-requires-2 c κs = search needs
 left-requires : tie.Need-left-requires
 left-requires c κs =
     let p = c .before .before .before .before .before .before .before .before .pre in
-    laid-range (p .0) (p .1) (c .before .before .before .before .before .rule-at .ensures) .0
+    rule-in-range 64 _ (laid-valid (p .0) (p .1) (c .before .before .before .before .before .rule-at .ensures)) .0
 
 returns : tie.Need-returns
 returns c =

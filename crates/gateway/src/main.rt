@@ -1,0 +1,69 @@
+// Arms a unit from the file `profile`, answers the event records of standard input, and prints a line for each.
+ghost use Rattle.io.specs.Counts.{Counts};
+use libc::STDIN_FILENO;
+use libc::STDOUT_FILENO;
+
+// Reads the file `profile`, up to one byte more than a profile may have, and answers how many bytes that are: none where it is missing or
+// cannot be read to its end.
+fn read_profile(text: &mut [u8]) -> usize
+    ensures { λ r. ⌜ Counts r (now (text .exit)) ⌝ }
+{
+    let fd = os::open_read(b"profile");
+    if fd < 0 {
+        return 0;
+    }
+    let n = io::read_full(fd, text);
+    let mut more = [0u8; 1];
+    let got = libc::read(fd, &mut more);
+    libc::close(fd);
+    if (n < text.len()) & (got != 0) {
+        return 0;
+    }
+    n
+}
+
+// Arms the memory from the file and prints the line about it. Answers whether to go on.
+fn arm(memory: &mut [u64]) -> bool {
+    let mut text = [0u8; 65537];
+    let n = read_profile(&mut text);
+    let mut line = [0u8; 126];
+    let opened = lines::arm(memory, &text[..n], &mut line);
+    let bytes = opened.bytes;
+    io::write_all(STDOUT_FILENO, &line[..bytes]) & opened.armed
+}
+
+// Answers a piece of the input, whose first record has a place, and prints its lines. Answers the place after it, or 0 where the input or the
+// output ends.
+fn answer_piece(memory: &mut [u64], place: u64, input: &mut [u8], output: &mut [u8]) -> u64 {
+    let n = io::read_full(STDIN_FILENO, input);
+    let ran = lines::run(memory, place, &input[..n], output);
+    let bytes = ran.bytes;
+    if !io::write_all(STDOUT_FILENO, &output[..bytes]) {
+        return 0;
+    }
+    if n < input.len() {
+        return 0;
+    }
+    place + ran.records
+}
+
+// Answers the whole input. A proved loop has to end, so it counts its turns down, from a number that no run uses up.
+fn answer_all(memory: &mut [u64], input: &mut [u8], output: &mut [u8]) {
+    let mut place: u64 = 1;
+    let mut turns = u64::MAX;
+    while 0 < turns && 0 < place {
+        place = answer_piece(memory, place, input, output);
+        turns -= 1;
+    }
+}
+
+// 4,096 records are read at a time, and their lines take at most 126 bytes each.
+fn main() {
+    let mut memory = [0u64; 1866];
+    if !arm(&mut memory) {
+        return;
+    }
+    let mut input = [0u8; 49152];
+    let mut output = [0u8; 516096];
+    answer_all(&mut memory, &mut input, &mut output);
+}

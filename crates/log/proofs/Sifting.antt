@@ -1,0 +1,213 @@
+-- What passes a rule's sieve is what counts for the rule. Assumes nothing.
+use Prim.Native.Nat.{ℕ, _+_, _*_, _-_, _%_, _^_, _≤_, _<_, min, zero-le}
+use mathlib.Core.Path.{_≡_, refl, sym, ap, _∙_}
+use mathlib.Core.Bool.{Bool, true, false, cond, _&&_, and-false}
+use mathlib.Core.List.{List, [], _∷_}
+use native.Mathlib.Omega.{arith}
+use lib.Bits.{bitAnd, and-mask, and-zero-r, and-block}
+use lib.Dec.{eqb, leb, ltb}
+use borrow.Author.Tests.{leb-true, le-leb, ltb-true, lt-ltb, eqb-true, eq-eqb, ne-eqb}
+use lib.ListN.{getD, take, drop}
+use Rattle.laws.specs.Lists.{same, same-eq}
+use Rattle.laws.specs.Tests.{and-l, and-r}
+use Rattle.measures.specs.Ranges.{isIn, units}
+use Rattle.rules.specs.Rules.{levelOf, covers, counts, added, share}
+use Rattle.rules.specs.declared.Scope.{Scope}
+use Rattle.rules.specs.declared.Scope.the-variants.{EveryFill, WholeRoot, OneUnit}
+use Rattle.rules.specs.declared.Kind.{Kind}
+use Rattle.rules.specs.declared.Kind.the-variants.{Rate, Absolute}
+use Rattle.rules.specs.declared.Limit.{Limit}
+use Rattle.rules.specs.declared.Rule.{Rule}
+use Rattle.rules.proofs.Laws.{added-most}
+use Rattle.tables.specs.Tables.{every, isPlace}
+use Rattle.tables.specs.RulePlace.{isLimit, isKind, isScope, isRule}
+use Rattle.bits.specs.Fields.{total, packed}
+use Rattle.tables.specs.EntryPlace.{flagNumber, fillValues, entryAt, entryNumbers, isEntry, isEntryPlace}
+use Rattle.tables.specs.declared.Entry.{Entry}
+use Rattle.tables.proofs.Parts.{two, same-test, and-i}
+use Rattle.tables.proofs.Tables.{pass-each}
+use Rattle.tables.proofs.EntryPlace.{Ranged, entry-ranged}
+use Rattle.log.specs.Log.{Held, entriesOf, flagOf, entryShare, sumOf}
+use Rattle.log.specs.Sieve.{firstTime, sieveIn, sieveOf, passes, fillNumber, sifted}
+use Rattle.log.specs.declared.Sieve.{Sieve}
+use Rattle.log.proofs.Logs.{held-valid}
+use Rattle.log.proofs.Sums.{picked-most}
+
+-- a time of the day counts exactly if it is not before the first that does
+still-counts : (kind : Kind) (u time : ℕ) → u ≤ 86_399_999 → leb (firstTime kind time) u ≡ counts kind u time
+unfolding firstTime counts
+still-counts (Rate w) u time h =
+    let from = min 86_400_000 (time + 1 - w) in
+    same-test (leb from u) (ltb time (u + w)) (λ e. lt-ltb time (u + w) (omega (arith, leb-true from u e))) (λ e. le-leb from u (omega (arith, ltb-true time (u + w) e)))
+still-counts Absolute u time h = le-leb 0 u zero-le
+
+shuffle : (c f t : Bool) → (c && f && t) ≡ (f && (c && t))
+shuffle true f t = refl
+shuffle false f t = sym (and-false f)
+
+-- the digits of the two flags under a mask
+root-flag : (a b : Bool) → bitAnd (flagNumber a * 2 + flagNumber b) 2 ≡ flagNumber a * 2
+root-flag true true = refl
+root-flag true false = refl
+root-flag false true = refl
+root-flag false false = refl
+
+flags-most : (a b : Bool) → flagNumber a * 2 + flagNumber b < 4
+flags-most true true = omega arith
+flags-most true false = omega arith
+flags-most false true = omega arith
+flags-most false false = omega arith
+
+-- a number with a flag below it is the one that is wanted, flag set
+wanted : (n w : ℕ) (flag : Bool) → eqb (n * 4 + flagNumber flag * 2) (w * 4 + 2) ≡ (eqb w n && flag)
+wanted n w true = same-test (eqb (n * 4 + 2) (w * 4 + 2)) (eqb w n && true) (λ e. rw (eq-eqb w n (omega (arith, eqb-true (n * 4 + 2) (w * 4 + 2) e))))
+    (λ e. eq-eqb (n * 4 + 2) (w * 4 + 2) (omega (arith, eqb-true w n (and-l (eqb w n) true e))))
+wanted n w false = ne-eqb (n * 4 + 0) (w * 4 + 2) (λ e. omega arith) ∙ sym (and-false (eqb w n))
+
+-- a root and a unit are those of one number
+of-unit : (root unit : ℕ) → unit ≤ 3 → (w u : ℕ) → u ≤ 3 → eqb (w * 4 + u) (root * 4 + unit) ≡ (eqb w root && eqb u unit)
+of-unit root unit h w u k =
+    let both : (eqb w root && eqb u unit) ≡ true → w * 4 + u ≡ root * 4 + unit =
+    λ e. omega (arith, eqb-true w root (and-l (eqb w root) (eqb u unit) e), eqb-true u unit (and-r (eqb w root) (eqb u unit) e)) in
+    same-test (eqb (w * 4 + u) (root * 4 + unit)) (eqb w root && eqb u unit)
+    (λ e. and-i (eqb w root) (eqb u unit) (eq-eqb w root (omega (arith, eqb-true (w * 4 + u) (root * 4 + unit) e))) (eq-eqb u unit (omega (arith, eqb-true (w * 4 + u) (root * 4 + unit) e))))
+    (λ e. eq-eqb (w * 4 + u) (root * 4 + unit) (both e))
+
+whole-wanted : (n w : ℕ) (flag : Bool) → eqb (n * 16 + flagNumber flag * 2) (w * 16 + 2) ≡ (eqb w n && flag)
+whole-wanted n w flag =
+    let one : n * 16 + flagNumber flag * 2 ≡ (n * 4) * 4 + flagNumber flag * 2 = omega arith in
+    let two : w * 16 + 2 ≡ (w * 4) * 4 + 2 = omega arith in
+    let same : eqb (w * 4) (n * 4) ≡ eqb w n = same-test (eqb (w * 4) (n * 4)) (eqb w n) (λ e. eq-eqb w n (omega (arith, eqb-true (w * 4) (n * 4) e)))
+    (λ e. eq-eqb (w * 4) (n * 4) (omega (arith, eqb-true w n e))) in
+    (λ i. eqb (one i) (two i)) ∙ (wanted (n * 4) (w * 4) flag ∙ ap (λ (b : Bool). b && flag) same)
+
+unit-wanted : (root unit w u : ℕ) (flag : Bool) → unit ≤ 3 → u ≤ 3
+    → eqb ((root * 4 + unit) * 4 + flagNumber flag * 2) (w * 16 + u * 4 + 2) ≡ (eqb w root && eqb u unit && flag)
+unit-wanted root unit w u flag h k =
+    let two : w * 16 + u * 4 + 2 ≡ (w * 4 + u) * 4 + 2 = omega arith in
+    let same : eqb (w * 4 + u) (root * 4 + unit) ≡ (eqb w root && eqb u unit) = of-unit root unit h w u k in
+    ap (eqb ((root * 4 + unit) * 4 + flagNumber flag * 2)) two ∙ (wanted (root * 4 + unit) (w * 4 + u) flag ∙ ap (λ (b : Bool). b && flag) same)
+
+module _ (e : Entry) (v : isEntry 64 e ≡ true) where
+  r : Ranged 64 e
+  r = entry-ranged 64 e v
+
+  abbrev p : ℕ
+  p = flagNumber (e .forroot) * 2 + flagNumber (e .forfirm)
+
+  few : p < 4
+  few = flags-most (e .forroot) (e .forfirm)
+
+  fill-is : fillNumber e ≡ e .time * 1024 + e .root * 16 + e .unit * 4 + p
+  unfolding fillNumber fillValues packed total
+  fill-is = omega arith
+
+  -- what stands under each mask
+  firm-digits : bitAnd (fillNumber e) 1 ≡ flagNumber (e .forfirm)
+  firm-digits = and-mask (fillNumber e) 1 ∙ go (e .forfirm) refl
+    where
+      go : (b : Bool) → e .forfirm ≡ b → fillNumber e % 2 ^ 1 ≡ flagNumber b
+      go true q = rw (fill-is, q) (omega arith)
+      go false q = rw (fill-is, q) (omega arith)
+
+  low-flag : (n : ℕ) → bitAnd (n * 4 + p) 2 ≡ flagNumber (e .forroot) * 2
+  low-flag n = and-block 2 n 0 p 2 few (omega arith) ∙ rw (and-zero-r n, root-flag (e .forroot) (e .forfirm)) (omega arith)
+
+  root-digits : bitAnd (fillNumber e) (63 * 16 + 2) ≡ e .root * 16 + flagNumber (e .forroot) * 2
+  root-digits =
+      let high = e .time * 64 + e .root in
+      let low = e .unit * 4 + p in
+      let split : fillNumber e ≡ high * 2 ^ 4 + low = fill-is ∙ omega arith in
+      let top : bitAnd high (2 ^ 6 - 1) ≡ e .root = and-mask high 6 ∙ omega (arith, r .root) in
+      ap (λ (n : ℕ). bitAnd n (63 * 16 + 2)) split
+      ∙ (and-block 4 high 63 low 2 (omega (arith, r .unit, few)) (omega arith) ∙ rw (top, low-flag (e .unit)))
+
+  unit-digits : bitAnd (fillNumber e) (63 * 16 + 3 * 4 + 2) ≡ (e .root * 4 + e .unit) * 4 + flagNumber (e .forroot) * 2
+  unit-digits =
+      let high = e .time * 256 + e .root * 4 + e .unit in
+      let split : fillNumber e ≡ high * 2 ^ 2 + p = fill-is ∙ omega arith in
+      let top : bitAnd high (2 ^ 8 - 1) ≡ e .root * 4 + e .unit = and-mask high 8 ∙ omega (arith, r .root, r .unit) in
+      ap (λ (n : ℕ). bitAnd n (63 * 16 + 3 * 4 + 2)) split
+      ∙ (and-block 2 high 255 p 2 few (omega arith) ∙ rw (top, root-flag (e .forroot) (e .forfirm)))
+
+  in-time : (from : ℕ) → leb (from * 1024) (fillNumber e) ≡ leb from (e .time)
+  in-time from =
+      same-test (leb (from * 1024) (fillNumber e)) (leb from (e .time))
+      (λ t. le-leb from (e .time) (omega (arith, leb-true (from * 1024) (fillNumber e) t, fill-is, few, r .root, r .unit)))
+      (λ t. le-leb (from * 1024) (fillNumber e) (omega (arith, leb-true from (e .time) t, fill-is)))
+
+  -- its first number passes if the flag is set, the rule covers it and it still counts
+  sifts : (n from : ℕ) (scope : Scope) → isScope n scope ≡ true
+      → passes (sieveIn scope (from * 1024)) (fillNumber e) ≡ (flagOf (levelOf scope) e && (covers scope (e .root) (e .unit) && leb from (e .time)))
+  unfolding passes sieveIn isScope flagOf levelOf covers
+  sifts n from EveryFill h = rw (firm-digits, in-time from) (go (e .forfirm))
+    where
+      go : (b : Bool) → (eqb (flagNumber b) 1 && leb from (e .time)) ≡ (b && leb from (e .time))
+      go true = refl
+      go false = refl
+  sifts n from (WholeRoot root) h =
+      let same : eqb (e .root * 16 + flagNumber (e .forroot) * 2) (root * 16 + 2) ≡ (eqb root (e .root) && e .forroot) = whole-wanted (e .root) root (e .forroot) in
+      rw (root-digits, in-time from, same) (shuffle (eqb root (e .root)) (e .forroot) (leb from (e .time)))
+  sifts n from (OneUnit root unit) h =
+      let least = leb-true unit 3 (and-r (leb 0 unit) (leb unit 3) (and-r (ltb root n) (isIn units unit) h)) in
+      let same : eqb ((e .root * 4 + e .unit) * 4 + flagNumber (e .forroot) * 2) (root * 16 + unit * 4 + 2) ≡ (eqb root (e .root) && eqb unit (e .unit) && e .forroot) =
+      unit-wanted (e .root) (e .unit) root unit (e .forroot) (r .unit) least in
+      rw (unit-digits, in-time from, same) (shuffle (eqb root (e .root) && eqb unit (e .unit)) (e .forroot) (leb from (e .time)))
+
+both-picked : (a b : Bool) (n : ℕ) → cond (a && b) n 0 ≡ cond a (cond b n 0) 0
+both-picked true b n = refl
+both-picked false b n = refl
+
+module _ (rule : Rule) (time : ℕ) (ok : isRule 64 rule ≡ true) where
+  pub scope-ok : isScope 64 (rule .scope) ≡ true
+  unfolding isRule
+  scope-ok = and-r (isLimit (rule .limit) && isKind (rule .kind)) (isScope 64 (rule .scope)) ok
+
+  sifted-share : (e : Entry) → isEntry 64 e ≡ true → sifted (rule .limit) (sieveOf rule time) e ≡ entryShare rule time e
+  unfolding sifted sieveOf entryShare share
+  sifted-share e v =
+      rw (sifts e v 64 (firstTime (rule .kind) time) (rule .scope) scope-ok, still-counts (rule .kind) (e .time) time (entry-ranged 64 e v .time))
+      (both-picked (flagOf (levelOf (rule .scope)) e) (covers (rule .scope) (e .root) (e .unit) && counts (rule .kind) (e .time) time) (added (rule .limit) (e .premium .0) (e .contracts .0)))
+
+  all-shares : (es : List Entry) → every (isEntry 64) es ≡ true → sumOf (sifted (rule .limit) (sieveOf rule time)) es ≡ sumOf (entryShare rule time) es
+  unfolding sumOf every
+  all-shares [] v = refl
+  all-shares (e ∷ es) v =
+      rw (sifted-share e (and-l (isEntry 64 e) (every (isEntry 64) es) v), all-shares es (and-r (isEntry 64 e) (every (isEntry 64) es) v))
+
+  -- the entries that pass the rule's sieve count what all count for the rule
+  pub sieve-counts : {k : ℕ} {xs : List ℕ} → Held k xs → sumOf (sifted (rule .limit) (sieveOf rule time)) (entriesOf k xs) ≡ sumOf (entryShare rule time) (entriesOf k xs)
+  sieve-counts {k = k} {xs = xs} h = all-shares (entriesOf k xs) (held-valid h)
+
+pub sifted-most : (limit : Limit) (s : Sieve) (e : Entry) → isEntry 64 e ≡ true → sifted limit s e ≤ 100_000_000_000_000
+unfolding sifted
+sifted-most limit s e h =
+    let r = entry-ranged 64 e h in
+    picked-most (passes s (fillNumber e)) _ _ (added-most limit (e .premium .0) (e .contracts .0) (r .premium .1) (r .contracts .1))
+
+-- the first time is at most a day's end
+pub first-most : (kind : Kind) (time : ℕ) → firstTime kind time ≤ 86_400_000
+unfolding firstTime
+first-most (Rate w) time = omega arith
+first-most Absolute time = zero-le
+
+-- the first number of a place that is used is its entry's
+pub held-fill : {k i : ℕ} {xs : List ℕ} → Held k xs → i < k → getD xs (i * 2) 0 ≡ fillNumber (entryAt (drop (i * 2) xs))
+unfolding isPlace fillNumber entryNumbers
+held-fill {k = k} {i = i} {xs = xs} h l =
+    let e = entryAt (drop (i * 2) xs) in
+    let at = pass-each 2 (isEntryPlace 64) k xs (h .entries) i l in
+    let numbers = same-eq (take 2 (drop (i * 2) xs)) (entryNumbers e) (and-l (same (take 2 (drop (i * 2) xs)) (entryNumbers e)) (isEntry 64 e) at) in
+    let first : getD (take 2 (drop (i * 2) xs)) 0 0 ≡ getD xs (i * 2) 0 = rw (two xs (i * 2) (omega (arith, h .size, h .fits))) in
+    sym first ∙ ap (λ (ns : List ℕ). getD ns 0 0) numbers
+
+-- what a rule in range says of its root and its unit
+pub whole-below : {scope : Scope} {r : ℕ} → isScope 64 scope ≡ true → scope ≡ WholeRoot r → r < 64
+unfolding isScope
+whole-below {r = r} h e = ltb-true r 64 (rw e at h)
+
+pub unit-below : {scope : Scope} {r u : ℕ} → isScope 64 scope ≡ true → scope ≡ OneUnit r u → (r < 64) × (u ≤ 3)
+unfolding isScope
+unit-below {r = r} {u = u} h e =
+    let inside : (ltb r 64 && isIn units u) ≡ true = rw e at h in
+    (ltb-true r 64 (and-l (ltb r 64) (isIn units u) inside), leb-true u 3 (and-r (leb 0 u) (leb u 3) (and-r (ltb r 64) (isIn units u) inside)))

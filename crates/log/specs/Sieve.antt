@@ -1,0 +1,42 @@
+-- What counts for a rule at a time, by the first number of an entry. Assumes nothing.
+use Prim.Native.Nat.{ℕ, _+_, _*_, _-_, min}
+use mathlib.Core.Bool.{Bool, cond, _&&_}
+use lib.Bits.{bitAnd}
+use lib.Dec.{eqb, leb}
+use Rattle.bits.specs.Fields.{packed}
+use Rattle.rules.specs.Rules.{added}
+use Rattle.rules.specs.declared.Scope.{Scope}
+use Rattle.rules.specs.declared.Scope.the-variants.{EveryFill, WholeRoot, OneUnit}
+use Rattle.rules.specs.declared.Kind.{Kind}
+use Rattle.rules.specs.declared.Kind.the-variants.{Rate, Absolute}
+use Rattle.rules.specs.declared.Limit.{Limit}
+use Rattle.rules.specs.declared.Rule.{Rule}
+use Rattle.tables.specs.EntryPlace.{fillWidths, fillValues}
+use Rattle.tables.specs.declared.Entry.{Entry}
+use Rattle.log.specs.declared.Sieve.{Sieve}
+
+-- the first time that still counts at this one, or a day's end if none does
+unfoldable pub firstTime : Kind → ℕ → ℕ
+firstTime (Rate window) time = min 86_400_000 (time + 1 - window)
+firstTime Absolute time = 0
+
+-- the digits of an entry's first number that a scope asks for: root, unit and a flag take 6, 2, 1 and 1 bits
+unfoldable pub sieveIn : Scope → ℕ → Sieve
+sieveIn EveryFill from = record { mask = 1; want = 1; from = from }
+sieveIn (WholeRoot root) from = record { mask = 63 * 16 + 2; want = root * 16 + 2; from = from }
+sieveIn (OneUnit root unit) from = record { mask = 63 * 16 + 3 * 4 + 2; want = root * 16 + unit * 4 + 2; from = from }
+
+unfoldable pub sieveOf : Rule → ℕ → Sieve
+sieveOf rule time = sieveIn (rule .scope) (firstTime (rule .kind) time * 1024)
+
+-- a first number passes
+unfoldable pub passes : Sieve → ℕ → Bool
+passes s fill = eqb (bitAnd fill (s .mask)) (s .want) && leb (s .from) fill
+
+-- an entry's first number
+unfoldable pub fillNumber : Entry → ℕ
+fillNumber e = packed fillWidths (fillValues e)
+
+-- what an entry counts in a limit's measure, if its first number passes
+unfoldable pub sifted : Limit → Sieve → Entry → ℕ
+sifted limit s e = cond (passes s (fillNumber e)) (added limit (e .premium .0) (e .contracts .0)) 0

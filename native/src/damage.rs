@@ -1,0 +1,177 @@
+//! Damage to the numbers of a state: single numbers, exchanged ones, and whole states that are reshaped so that they nearly make sense.
+
+use second::gen::Random;
+use second::lent::Lent;
+use second::memory::{self, LOG, ROOTS, RULES, TOTALS};
+use second::profile::{Level, MOST_ROOTS, MOST_RULES};
+use second::unit::{Armed, Entry, Marks, LOG_PLACES};
+use second::LAST_TIME;
+
+use crate::SIZE;
+
+/// Numbers at the ends of ranges and just past them: those of the state, of limits, windows, premiums and contracts.
+const ENDS: [u64; 28] = [
+    0, 1, 2, 3, 4, 63, 64, 65, 99, 100, 255, 256, 257, 511, 512, 513, 1_000_000, 1_000_001, 86_399_999, 86_400_000, 86_400_001, 100_000_000,
+    100_000_001, 1_000_000_000, 1_000_000_001, 100_000_000_000, 1_000_000_000_000_000, 1_000_000_000_000_001,
+];
+
+/// A number of any size, or one at the end of a range.
+pub fn any_number(random: &mut Random) -> u64 {
+    let wide = random.number();
+    let narrow = wide >> random.below(64);
+    let end = random.pick(&ENDS);
+    random.pick(&[wide, narrow, end, end, u64::MAX])
+}
+
+/// Places of the state and the numbers that they get.
+pub fn damage(random: &mut Random, second: &mut Lent) -> Vec<(usize, u64)> {
+    match (random.below(8), second.unit().armed.clone()) {
+        (0, _) => exchanged(random, second),
+        (1..=3, Some(armed)) => reshaped(random, armed, second.numbers()),
+        _ => {
+            let times = random.pick(&[1, 1, 1, 2, 3]);
+            (0..times).map(|_| single(random, second)).collect()
+        }
+    }
+}
+
+/// Another number in one place.
+fn single(random: &mut Random, second: &mut Lent) -> (usize, u64) {
+    let (first, length) = table(random, second);
+    let place = first + random.below(length) as usize;
+    (place, other_number(random, second, place))
+}
+
+/// Two numbers of one table exchanged, or two pairs of numbers.
+fn exchanged(random: &mut Random, second: &mut Lent) -> Vec<(usize, u64)> {
+    let (first, length) = table(random, second);
+    let wide = random.pick(&[1, 2]);
+    let places = [(); 2].map(|_| first + (random.below(length) / wide * wide) as usize);
+    let sides = (0..wide as usize).map(|side| places.map(|place| (place + side).min(SIZE - 1)));
+    sides.flat_map(|[one, other]| [(one, second.numbers()[other]), (other, second.numbers()[one])]).collect()
+}
+
+/// Where a table of the state begins and how many numbers of it are used, with one beyond at times.
+fn table(random: &mut Random, second: &mut Lent) -> (usize, u64) {
+    let Some(armed) = &second.unit().armed else { return (0, SIZE as u64) };
+    let (roots, rules, log) = (armed.roots.len(), armed.profile.rules.len(), armed.log.len());
+    let tables = [(0, 10), (ROOTS, roots), (RULES, 2 * rules), (TOTALS, rules), (LOG, 2 * log), (LOG, 2 * log), (0, SIZE)];
+    let (first, length) = random.pick(&tables);
+    let beyond = usize::from(length == 0 || random.once_in(20) && first + length < SIZE);
+    (first, (length + beyond) as u64)
+}
+
+/// Another number for a place: a bit, a unit of some field, a field at an end, a total near its limit, or any number.
+fn other_number(random: &mut Random, second: &mut Lent, place: usize) -> u64 {
+    let number = second.numbers()[place];
+    let bit = 1 << random.below(64);
+    match random.below(8) {
+        0 => number ^ bit,
+        1 => number.wrapping_add(random.pick(&[1, u64::MAX])),
+        2 => number.wrapping_add(random.pick(&[bit, bit.wrapping_neg()])),
+        3 => any_number(random),
+        4 if place == 1 && number <= LAST_TIME => random.between(number, LAST_TIME),
+        5 if (TOTALS..LOG).contains(&place) => total_near(random, second, place - TOTALS),
+        _ => other_field(random, number, place),
+    }
+}
+
+/// A total about as large as the limit of the rule.
+fn total_near(random: &mut Random, second: &mut Lent, line: usize) -> u64 {
+    let rule = second.unit().armed.as_ref().and_then(|armed| armed.profile.rules.get(line));
+    let limit = rule.map_or(0, |rule| rule.limit);
+    let less = random.pick(&[0, 1, 2, 9, 50]);
+    random.pick(&[limit.saturating_sub(less), limit.saturating_sub(less), limit + less])
+}
+
+/// The number with another value in one of its fields.
+fn other_field(random: &mut Random, number: u64, place: usize) -> u64 {
+    let fields: &[(u32, u32)] = match place {
+        RULES..TOTALS if place % 2 == 0 => &[(0, 27), (27, 37)],
+        RULES..TOTALS => &[(0, 2), (2, 6), (8, 2), (10, 1), (11, 2)],
+        LOG.. if place % 2 == 0 => &[(0, 1), (1, 1), (2, 2), (4, 6), (10, 27)],
+        LOG.. => &[(0, 20), (20, 27)],
+        _ => &[(0, 64), (0, 8), (8, 8), (0, 6)],
+    };
+    let (low, width) = random.pick(fields);
+    let mask = u64::MAX >> (64 - width);
+    number & !(mask << low) | (any_number(random) & mask) << low
+}
+
+/// The numbers by which a state differs after its rules, roots or log were reshaped.
+fn reshaped(random: &mut Random, mut armed: Armed, numbers: &[u64]) -> Vec<(usize, u64)> {
+    match random.below(4) {
+        0 | 1 => reshape_rules(random, &mut armed),
+        2 => reshape_log(random, &mut armed),
+        _ => reshape_roots(random, &mut armed),
+    }
+    let mut other = vec![0; SIZE];
+    memory::write(&armed, &mut other);
+    (0..SIZE).filter(|place| other[*place] != numbers[*place]).map(|place| (place, other[place])).collect()
+}
+
+/// Turns, exchanges, removes, doubles or moves rules.
+fn reshape_rules(random: &mut Random, armed: &mut Armed) {
+    let rules = &mut armed.profile.rules;
+    let [one, other] = [(); 2].map(|_| random.below(rules.len() as u64) as usize);
+    match random.below(6) {
+        0 => {
+            // the other kind; a rate rule has no total
+            let window = random.pick(&[99, 100, 1_000, 86_400_000, 86_400_001]);
+            rules[one].window = if rules[one].window.is_some() { None } else { Some(window) };
+            armed.totals[one] *= u64::from(rules[one].window.is_none());
+        }
+        1 => rules.iter_mut().for_each(|rule| rule.window = None),
+        2 => {
+            rules.swap(one, other);
+            armed.totals.swap(one, other);
+        }
+        3 => {
+            rules.remove(one);
+            armed.totals.remove(one);
+        }
+        4 if rules.len() < MOST_RULES => {
+            rules.push(rules[one].clone());
+            armed.totals.push(0);
+        }
+        _ => {
+            let root = random.below(armed.roots.len() as u64 + 1).min(63);
+            let unit = random.below(4);
+            rules[one].level = random.pick(&[Level::Firm, Level::Root { root, unit: None }, Level::Root { root, unit: Some(unit) }]);
+        }
+    }
+}
+
+/// Takes an entry away, doubles one, or adds one of any root at the clock.
+fn reshape_log(random: &mut Random, armed: &mut Armed) {
+    let place = random.below(armed.log.len().max(1) as u64) as usize;
+    let known = armed.log.get(place).copied();
+    match (random.below(3), known) {
+        (0, Some(_)) => drop(armed.log.remove(place)),
+        (1, Some(entry)) if armed.log.len() < LOG_PLACES => armed.log.insert(place, entry),
+        _ if armed.log.len() < LOG_PLACES => {
+            let [counts_for_root, counts_for_firm] = [(); 2].map(|_| random.once_in(2));
+            let root = random.below(armed.roots.len() as u64 + 1).min(63);
+            let (time, unit, premium, contracts) = (armed.clock, random.below(4), random.pick(&[1, 70_000, 100_000_000]), random.pick(&[1, 1_000_000]));
+            armed.log.push_back(Entry { time, root, unit, premium, contracts, counts_for_root, counts_for_firm });
+        }
+        _ => armed.log.clear(),
+    }
+}
+
+/// Exchanges names, takes the last root away, adds one, or locks any.
+fn reshape_roots(random: &mut Random, armed: &mut Armed) {
+    let names = &mut armed.profile.roots;
+    match random.below(4) {
+        0 if names.len() > 1 => names.swap(0, 1),
+        1 if !names.is_empty() => {
+            names.pop();
+            armed.roots.pop();
+        }
+        2 if names.len() < MOST_ROOTS => {
+            names.push(b"NEW".to_vec());
+            armed.roots.push(Marks::default());
+        }
+        _ => armed.roots.iter_mut().for_each(|marks| *marks = Marks { tripped: random.once_in(2), user: random.once_in(2) }),
+    }
+}

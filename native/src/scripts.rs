@@ -1,0 +1,137 @@
+//! Scripts: one step a line, in plain text that can be run again.
+
+use std::fmt;
+use std::str::FromStr;
+
+/// What a step does: lends so many numbers, puts a number into the memory, or calls.
+#[derive(Clone, Copy, Debug, PartialEq, Eq)]
+pub enum Kind {
+    Length,
+    Damage,
+    Arm,
+    Clear,
+    Order,
+    Lockout,
+    Offer,
+    Remaining,
+    Status,
+    Text,
+}
+
+/// Each kind with its word and how many numbers follow it: the length; place and number; none (Arm has a text instead); none; time, root and
+/// reset; time, level and root; time, root, unit, premium and contracts; time and rule; none; verdict and room.
+const WORDS: [(&str, Kind, usize); 10] = [
+    ("length", Kind::Length, 1),
+    ("damage", Kind::Damage, 2),
+    ("arm", Kind::Arm, 0),
+    ("clear", Kind::Clear, 0),
+    ("order", Kind::Order, 3),
+    ("lockout", Kind::Lockout, 3),
+    ("offer", Kind::Offer, 5),
+    ("remaining", Kind::Remaining, 2),
+    ("status", Kind::Status, 0),
+    ("text", Kind::Text, 2),
+];
+
+/// One step of a script.
+#[derive(Clone, Debug, PartialEq, Eq)]
+pub struct Step {
+    pub kind: Kind,
+    /// The kind's numbers in the order of its line, then zeros.
+    pub numbers: [u64; 5],
+    /// The profile of Arm, empty in the others.
+    pub profile: Vec<u8>,
+}
+
+impl Step {
+    /// A step with its numbers.
+    pub fn new(kind: Kind, own: &[u64]) -> Step {
+        let mut numbers = [0; 5];
+        numbers[..own.len()].copy_from_slice(own);
+        Step { kind, numbers, profile: Vec::new() }
+    }
+
+    /// Arm from a text.
+    pub fn arm(profile: Vec<u8>) -> Step {
+        Step { kind: Kind::Arm, numbers: [0; 5], profile }
+    }
+
+    /// Is it a call, and not a change of the memory from outside?
+    pub fn is_call(&self) -> bool {
+        !matches!(self.kind, Kind::Length | Kind::Damage)
+    }
+
+    /// The kind's own numbers.
+    pub fn own(&self) -> &[u64] {
+        &self.numbers[..word(self.kind).1]
+    }
+}
+
+/// A kind's word and how many numbers follow it.
+fn word(kind: Kind) -> (&'static str, usize) {
+    let (word, _, numbers) = WORDS[kind as usize];
+    (word, numbers)
+}
+
+impl fmt::Display for Step {
+    fn fmt(&self, f: &mut fmt::Formatter) -> fmt::Result {
+        write!(f, "{}", word(self.kind).0)?;
+        if !self.profile.is_empty() {
+            write!(f, " {}", self.profile.escape_ascii())?;
+        }
+        self.own().iter().try_for_each(|number| write!(f, " {number}"))
+    }
+}
+
+impl FromStr for Step {
+    type Err = String;
+
+    fn from_str(line: &str) -> Result<Step, String> {
+        let bad = || format!("no step: {line}");
+        let (first, rest) = line.split_once(' ').unwrap_or((line, ""));
+        let (_, kind, count) = *WORDS.iter().find(|(word, _, _)| *word == first).ok_or_else(bad)?;
+        if kind == Kind::Arm {
+            return unescaped(rest).map(Step::arm).ok_or_else(bad);
+        }
+        let own = rest.split_whitespace().map(str::parse).collect::<Result<Vec<u64>, _>>().map_err(|_| bad())?;
+        if own.len() != count {
+            return Err(bad());
+        }
+        Ok(Step::new(kind, &own))
+    }
+}
+
+/// The bytes of a text in which some are written as `\n`, `\x00` and so on.
+fn unescaped(text: &str) -> Option<Vec<u8>> {
+    let mut bytes = Vec::new();
+    let mut left = text.bytes();
+    while let Some(byte) = left.next() {
+        bytes.push(match byte {
+            b'\\' => match left.next()? {
+                b'n' => b'\n',
+                b'r' => b'\r',
+                b't' => b'\t',
+                b'x' => 16 * hex_digit(left.next()?)? + hex_digit(left.next()?)?,
+                other => other,
+            },
+            plain => plain,
+        });
+    }
+    Some(bytes)
+}
+
+/// The value of a digit to base 16.
+fn hex_digit(digit: u8) -> Option<u8> {
+    char::from(digit).to_digit(16).map(|value| value as u8)
+}
+
+/// A script as text, one step a line.
+pub fn print(script: &[Step]) -> String {
+    script.iter().map(|step| format!("{step}\n")).collect()
+}
+
+/// The script of a text; empty lines and those that begin with # mean nothing.
+pub fn parse(text: &str) -> Result<Vec<Step>, String> {
+    let lines = text.split('\n').filter(|line| !line.is_empty() && !line.starts_with('#'));
+    lines.map(str::parse).collect()
+}

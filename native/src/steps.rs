@@ -1,0 +1,164 @@
+//! The steps of one day, drawn from a seed: calls near the second program's limits and window ends, arbitrary numbers, lengths and damage.
+
+use std::collections::VecDeque;
+
+use second::gen::{self, Call, Maker, Random};
+use second::lent::Lent;
+use second::unit::LOG_PLACES;
+use second::LAST_TIME;
+
+use crate::damage::{any_number, damage};
+use crate::profiles::clashing;
+use crate::scripts::{Kind, Step};
+use crate::SIZE;
+
+/// Makes the steps of a day.
+pub struct Day {
+    random: Random,
+    maker: Maker,
+    /// Steps that come next.
+    queue: VecDeque<Step>,
+    /// What takes the last damage back, until it is known whether the state is still sound.
+    repair: Vec<Step>,
+    /// Calls that are still to be planned.
+    left: u64,
+}
+
+impl Day {
+    /// The day of a seed: lengths, junk under a mark of 0 and faulty profiles at times, then a profile that arms.
+    pub fn new(seed: u64) -> Day {
+        let mut random = Random::new(seed);
+        let calls = random.pick(&[50, 300, 300, 1_000, 4_000]);
+        let maker = Maker::beside(random.number(), calls as usize);
+        let mut day = Day { random, maker, queue: VecDeque::new(), repair: Vec::new(), left: calls };
+        let length = SIZE as u64 + day.random.pick(&[0, 0, 0, 1, 2, 100]);
+        day.queue.push_back(Step::new(Kind::Length, &[if day.random.once_in(200) { 70_000 } else { length }]));
+        if day.random.once_in(4) {
+            for _ in 0..day.random.between(1, 20) {
+                let place = day.random.between(1, SIZE as u64 - 1);
+                day.queue.push_back(Step::new(Kind::Damage, &[place, day.random.number()]));
+            }
+        }
+        for _ in 0..day.random.below(20) {
+            let damaged = gen::damaged_profile(day.random.number());
+            let clashing = clashing(&mut day.random);
+            day.queue.push_back(Step::arm(if day.random.once_in(4) { damaged } else { clashing }));
+            day.queue.push_back(Step::new(Kind::Clear, &[]));
+        }
+        if day.random.once_in(8) {
+            day.fill_the_log();
+        }
+        day.queue.push_back(Step::arm(gen::valid_profile(day.random.number())));
+        day
+    }
+
+    /// Arms with wide limits, and fills the log or leaves a place or two.
+    fn fill_the_log(&mut self) {
+        let [window, other] = [(); 2].map(|_| self.random.pick(&[100, 101, 1_000, 60_000, 600_000, 86_400_000]));
+        let count = self.random.pick(&[511, 512, 513, 1_000_000_000]);
+        let profile = format!("FULL,rate_vol,X,1000000000,{window}\nFULL,rate_count,,{count},{other},T\nFULL,abs_vol,Y,600,,,C,F");
+        self.queue.push_back(Step::arm(profile.into_bytes()));
+        let mut time = self.random.below(1_000);
+        for _ in 0..self.random.between(509, 514) {
+            time += u64::from(self.random.once_in(20));
+            self.queue.push_back(Step::new(Kind::Offer, &[time, self.random.below(2), self.random.below(4), 1, 1]));
+        }
+    }
+
+    /// The next step, by how the second program stands; none when the day is over.
+    pub fn next(&mut self, second: &mut Lent) -> Option<Step> {
+        if self.queue.is_empty() && self.left > 0 {
+            self.left -= 1;
+            self.plan(second);
+        }
+        self.queue.pop_front()
+    }
+
+    /// Plans at least one step.
+    fn plan(&mut self, second: &mut Lent) {
+        let repair = std::mem::take(&mut self.repair);
+        let unsound = second.is_unsound();
+        match self.random.below(400) {
+            0..=199 if unsound && !repair.is_empty() => self.queue.extend(repair),
+            0..=59 if unsound => self.clear_and_arm(),
+            0 => self.lend_less(second),
+            1..=14 => self.damage(second),
+            choice => {
+                // what is unsound may still be taken back later
+                self.repair = if unsound { repair } else { Vec::new() };
+                let usual = self.usual(second);
+                let step = match choice {
+                    15..=24 => self.with_any_number(usual),
+                    25..=64 => self.when_the_oldest_leaves(usual, second),
+                    _ => usual,
+                };
+                self.queue.push_back(step);
+            }
+        }
+    }
+
+    /// A call near the limits and window ends of the second program.
+    fn usual(&mut self, second: &mut Lent) -> Step {
+        match self.maker.next_on(second.unit()) {
+            Call::Arm { seed } => Step::arm(gen::profile(seed)),
+            Call::ArmValid { seed } => Step::arm(gen::valid_profile(seed)),
+            Call::Clear => Step::new(Kind::Clear, &[]),
+            Call::Order { time, root, reset } => Step::new(Kind::Order, &[time, root, reset]),
+            Call::Lockout { time, level, root } => Step::new(Kind::Lockout, &[time, level, root]),
+            Call::Offer { time, root, unit, premium, contracts } => Step::new(Kind::Offer, &[time, root, unit, premium, contracts]),
+            Call::Remaining { time, rule } => Step::new(Kind::Remaining, &[time, rule]),
+            Call::Status => Step::new(Kind::Status, &[]),
+            Call::Text { verdict, room } => Step::new(Kind::Text, &[verdict, room]),
+        }
+    }
+
+    /// An offer on a full log at the time at which its oldest entry leaves, or one millisecond beside it; other calls as they are.
+    fn when_the_oldest_leaves(&mut self, mut step: Step, second: &mut Lent) -> Step {
+        let Some(armed) = &second.unit().armed else { return step };
+        let (oldest, longest) = (armed.log.front(), armed.profile.longest_window());
+        if let (Kind::Offer, LOG_PLACES, Some(oldest), Some(longest)) = (step.kind, armed.log.len(), oldest, longest) {
+            let time = oldest.time + longest - 1 + self.random.below(3);
+            if (armed.clock..=LAST_TIME).contains(&time) {
+                step.numbers[0] = time;
+            }
+        }
+        step
+    }
+
+    /// The call with any number in one of its places, at times in more.
+    fn with_any_number(&mut self, mut step: Step) -> Step {
+        let places = step.own().len() as u64;
+        for _ in 0..self.random.pick(&[1, 1, 2, 5]).min(places) {
+            step.numbers[self.random.below(places) as usize] = any_number(&mut self.random);
+        }
+        step
+    }
+
+    /// Clears the memory and arms it anew.
+    fn clear_and_arm(&mut self) {
+        self.queue.push_back(Step::new(Kind::Clear, &[]));
+        self.queue.push_back(Step::arm(gen::valid_profile(self.random.number())));
+    }
+
+    /// Lends too little for some calls, then more than enough.
+    fn lend_less(&mut self, second: &mut Lent) {
+        let size = SIZE as u64;
+        let any = self.random.below(size);
+        self.queue.push_back(Step::new(Kind::Length, &[self.random.pick(&[0, 1, size - 1, size - 1, any])]));
+        for kind in [Kind::Status, Kind::Clear] {
+            let step = self.usual(second);
+            self.queue.extend([step, Step::new(kind, &[])]);
+        }
+        self.queue.push_back(Step::arm(gen::profile(self.random.number())));
+        self.queue.push_back(Step::new(Kind::Length, &[size + self.random.pick(&[0, 0, 1, 1, 7, 100])]));
+    }
+
+    /// Damages the state and looks at it; what takes the damage back is kept.
+    fn damage(&mut self, second: &mut Lent) {
+        for (place, number) in damage(&mut self.random, second) {
+            self.queue.push_back(Step::new(Kind::Damage, &[place as u64, number]));
+            self.repair.push(Step::new(Kind::Damage, &[place as u64, second.numbers()[place]]));
+        }
+        self.queue.push_back(Step::new(Kind::Status, &[]));
+    }
+}

@@ -1,0 +1,169 @@
+//! What came up in a run: so that a run that saw too little does not pass.
+
+use std::fmt;
+
+use second::lent::{Lent, Row};
+use second::unit::LOG_PLACES;
+
+use crate::scripts::{Kind, Step};
+use crate::SIZE;
+
+/// What has to come up at least once, beside each refusal from 1 to 15, in groups that are printed a line each.
+const WANTED: [(&str, &[&str]); 10] = [
+    ("calls", &["arm", "clear", "order", "lockout", "offer", "remaining", "status", "text"]),
+    ("offers", &["granted whole", "cut above 0", "cut to 0", "under a locked firm", "under a locked root"]),
+    ("trips", &["of a root", "of the firm", "of both", "of an absolute rule just reached"]),
+    ("resets", &["none", "SYMBOL", "FIRM", "BOTH"]),
+    ("lockouts", &["of a root", "of the firm"]),
+    ("offers when a window", &["ended 1 ms ago", "ends", "ends in 1 ms"]),
+    ("armed with", &["256 rules", "64 roots", "10 firm rules", "6 rules on a unit", "firm rules alone"]),
+    ("damaged states", &["sound", "unsound", "with mark 0", "taken back"]),
+    ("offers on a full log when the oldest entry", &["left 1 ms ago", "leaves", "leaves in 1 ms"]),
+    ("lent numbers", &["0", "1", "1865", "other short", "1866", "1867", "more"]),
+];
+/// The groups by their places.
+const CALLS: usize = 0;
+const OFFERS: usize = 1;
+const TRIPS: usize = 2;
+const RESETS: usize = 3;
+const LOCKOUTS: usize = 4;
+const WINDOWS: usize = 5;
+const PROFILES: usize = 6;
+const DAMAGED: usize = 7;
+const OLDEST: usize = 8;
+const LENT: usize = 9;
+
+/// Counts of what came up.
+#[derive(Default)]
+pub struct Tally {
+    pub calls: u64,
+    refusals: [u64; 16],
+    /// Offers that left a log of 512 entries.
+    full_logs: u64,
+    seen: [[u64; 8]; WANTED.len()],
+    /// Was a number changed from outside since the last call, and was the state unsound before?
+    damaged: Option<bool>,
+}
+
+impl Tally {
+    /// Looks at a step before it is run.
+    pub fn before(&mut self, step: &Step, second: &mut Lent) {
+        if step.kind == Kind::Damage && self.damaged.is_none() {
+            let [place, number, ..] = step.numbers;
+            self.damaged = (second.numbers().get(place as usize) != Some(&number)).then(|| second.is_unsound());
+        }
+        if !step.is_call() {
+            return;
+        }
+        self.see(LENT, lent_place(second.length()));
+        if let Some(was_unsound) = self.damaged.take() {
+            self.see(DAMAGED, match (second.is_unsound(), second.unit().armed.is_some()) {
+                (true, _) => 1,
+                (false, false) => 2,
+                (false, true) => if was_unsound { 3 } else { 0 },
+            });
+        }
+        if step.kind == Kind::Offer {
+            self.see_windows(step.numbers[0], second);
+        }
+    }
+
+    /// Looks at a call's row and at what it left.
+    pub fn after(&mut self, step: &Step, row: Row, second: &mut Lent) {
+        if !step.is_call() {
+            return;
+        }
+        self.calls += 1;
+        self.refusals[row[0] as usize] += 1;
+        self.see(CALLS, step.kind as usize - Kind::Arm as usize);
+        match step.kind {
+            _ if row[0] != 0 => {}
+            Kind::Arm => self.see_profile(second),
+            Kind::Order => self.see(RESETS, step.numbers[2] as usize),
+            Kind::Lockout => self.see(LOCKOUTS, step.numbers[1] as usize),
+            Kind::Offer => self.see_offer(step.numbers[4], row, second),
+            _ => {}
+        }
+    }
+
+    /// What has to come up and did not.
+    pub fn missing(&self) -> Vec<String> {
+        let refusals = (1..=15).filter(|refusal| self.refusals[*refusal] == 0).map(|refusal| format!("refusal {refusal}"));
+        let rows = WANTED.iter().zip(&self.seen);
+        let names = rows.flat_map(|((group, names), seen)| names.iter().zip(seen).map(move |(name, count)| (group, name, count)));
+        let names = names.filter(|(_, _, count)| **count == 0).map(|(group, name, _)| format!("{group} {name}"));
+        refusals.chain(names).chain((self.full_logs == 0).then(|| "a full log".into())).collect()
+    }
+
+    fn see(&mut self, group: usize, place: usize) {
+        self.seen[group][place] += 1;
+    }
+
+    /// Does the window of some rule end for some entry of the log at this time, or one millisecond beside it?
+    fn see_windows(&mut self, time: u64, second: &mut Lent) {
+        let Some(armed) = &second.unit().armed else { return };
+        let ends_at = |end: u64| {
+            armed.profile.rules.iter().filter_map(|rule| end.checked_sub(rule.window?)).any(|begin| {
+                let place = armed.log.partition_point(|entry| entry.time < begin);
+                armed.log.get(place).is_some_and(|entry| entry.time == begin)
+            })
+        };
+        let times = [time.saturating_sub(1), time, time.saturating_add(1)];
+        let ends = times.map(ends_at);
+        let full = armed.log.len() == LOG_PLACES;
+        let leaves = armed.log.front().zip(armed.profile.longest_window()).map(|(oldest, longest)| oldest.time + longest);
+        (0..3).filter(|place| ends[*place]).for_each(|place| self.see(WINDOWS, place));
+        (0..3).filter(|place| full && leaves == Some(times[*place])).for_each(|place| self.see(OLDEST, place));
+    }
+
+    fn see_profile(&mut self, second: &mut Lent) {
+        let Some(armed) = &second.unit().armed else { return };
+        let (rules, roots) = (&armed.profile.rules, armed.roots.len() as u64);
+        let on_unit = |root: u64, unit: u64| rules.iter().filter(|rule| !rule.is_firm() && rule.covers(root, unit)).count();
+        let shapes = [
+            rules.len() == 256,
+            roots == 64,
+            rules.iter().filter(|rule| rule.is_firm()).count() == 10,
+            (0..roots).any(|root| (0..4).any(|unit| on_unit(root, unit) == 6)),
+            roots == 0,
+        ];
+        (0..shapes.len()).filter(|place| shapes[*place]).for_each(|place| self.see(PROFILES, place));
+    }
+
+    fn see_offer(&mut self, contracts: u64, row: Row, second: &mut Lent) {
+        let [_, verdict, grant, root_trip, firm_trip] = row;
+        self.see(OFFERS, match (verdict, grant) {
+            (1, _) => 3,
+            (2, _) => 4,
+            (_, 0) => 2,
+            _ => usize::from(grant < contracts),
+        });
+        let just_reached = grant == contracts && root_trip + firm_trip > 0;
+        let trips = [root_trip == 1, firm_trip == 1, root_trip + firm_trip == 2, just_reached];
+        (0..trips.len()).filter(|place| trips[*place]).for_each(|place| self.see(TRIPS, place));
+        let is_full = second.unit().armed.as_ref().is_some_and(|armed| armed.log.len() == LOG_PLACES);
+        self.full_logs += u64::from(is_full && grant > 0);
+    }
+}
+
+/// The place of a length in its group.
+fn lent_place(length: usize) -> usize {
+    match length {
+        0 | 1 => length,
+        length if length + 1 == SIZE => 2,
+        length if length < SIZE => 3,
+        length => 4 + (length - SIZE).min(2),
+    }
+}
+
+impl fmt::Display for Tally {
+    fn fmt(&self, f: &mut fmt::Formatter) -> fmt::Result {
+        write!(f, "refusals:")?;
+        (0..=15).try_for_each(|refusal| write!(f, " {refusal}={}", self.refusals[refusal]))?;
+        for ((group, names), seen) in WANTED.iter().zip(&self.seen) {
+            let counts: Vec<String> = names.iter().zip(seen).map(|(name, count)| format!("{name} {count}")).collect();
+            write!(f, "\n{group}: {}", counts.join(", "))?;
+        }
+        write!(f, "\nfills that left a full log: {}", self.full_logs)
+    }
+}

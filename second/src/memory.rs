@@ -1,0 +1,235 @@
+//! The state in lent 64-bit numbers: the map of docs/MEMORY.md, and document 01's sentence on what is sound.
+
+use std::collections::VecDeque;
+
+use crate::profile::{self, Level, Measure, Profile, Rule, UNITS};
+use crate::unit::{Armed, Entry, Marks, LOG_PLACES};
+use crate::{is_contracts, is_premium, is_time};
+
+/// How many numbers the state takes.
+pub const NUMBERS: usize = 1_866;
+/// Where the roots' names begin.
+pub const ROOTS: usize = 10;
+/// Where the rules begin, two numbers each.
+pub const RULES: usize = 74;
+/// Where the totals begin.
+pub const TOTALS: usize = 586;
+/// Where the log begins, two numbers an entry.
+pub const LOG: usize = 842;
+
+/// The largest total of a rule.
+const MOST_TOTAL: u64 = 1_000_000_000_000_000;
+/// Ten-thousandths in a dollar.
+const DOLLAR: u64 = 10_000;
+
+/// What the state's numbers hold.
+#[derive(Clone, Debug, PartialEq, Eq)]
+pub enum Held {
+    /// The mark is 0; the rest may be anything.
+    NotArmed,
+    /// A sound state.
+    Sound(Armed),
+    /// The mark is not 0, and the state is not sound.
+    Unsound,
+}
+
+/// Reads what the numbers hold.
+pub fn read(numbers: &[u64]) -> Held {
+    match numbers[0] {
+        0 => Held::NotArmed,
+        1 => armed_of(numbers).map_or(Held::Unsound, Held::Sound),
+        _ => Held::Unsound,
+    }
+}
+
+/// Writes a state: its numbers where they belong, and 0 in the places that are not used.
+pub fn write(armed: &Armed, numbers: &mut [u64]) {
+    let profile = &armed.profile;
+    numbers[..NUMBERS].fill(0);
+    let lengths = [profile.roots.len() as u64, profile.rules.len() as u64, armed.log.len() as u64];
+    numbers[..3].copy_from_slice(&[1, armed.clock, name_number(&profile.firm)]);
+    numbers[3..6].copy_from_slice(&lengths);
+    numbers[6..8].copy_from_slice(&[armed.firm.tripped.into(), armed.firm.user.into()]);
+    for (root, marks) in armed.roots.iter().enumerate() {
+        numbers[8] |= u64::from(marks.tripped) << root;
+        numbers[9] |= u64::from(marks.user) << root;
+        numbers[ROOTS + root] = name_number(&profile.roots[root]);
+    }
+    for (line, rule) in profile.rules.iter().enumerate() {
+        numbers[RULES + 2 * line..][..2].copy_from_slice(&rule_numbers(rule));
+        numbers[TOTALS + line] = armed.totals[line];
+    }
+    for (place, entry) in armed.log.iter().enumerate() {
+        numbers[LOG + 2 * place..][..2].copy_from_slice(&entry_numbers(entry));
+    }
+}
+
+/// A name's bytes as one number, the first on top.
+fn name_number(name: &[u8]) -> u64 {
+    name.iter().fold(0, |number, byte| number << 8 | u64::from(*byte))
+}
+
+/// The bytes of a number, from the first that is not 0.
+fn name_of(number: u64) -> Vec<u8> {
+    number.to_be_bytes().into_iter().skip_while(|byte| *byte == 0).collect()
+}
+
+/// Fields side by side, each with its width in bits, the first on top.
+fn joined(fields: &[(u64, u32)]) -> u64 {
+    fields.iter().fold(0, |number, (field, width)| number << width | field)
+}
+
+/// The fields of a number by their widths, which make 64 together.
+fn parted<const N: usize>(number: u64, widths: [u32; N]) -> [u64; N] {
+    let mut left = u64::BITS;
+    widths.map(|width| {
+        left -= width;
+        number >> left & ((1 << width) - 1)
+    })
+}
+
+/// The two numbers of a rule.
+fn rule_numbers(rule: &Rule) -> [u64; 2] {
+    let (measure, limit) = match rule.measure {
+        Measure::Notional => (0, rule.limit / DOLLAR),
+        Measure::Volume => (1, rule.limit),
+        Measure::Count => (2, rule.limit),
+    };
+    let (scope, root, unit) = match rule.level {
+        Level::Firm => (0, 0, 0),
+        Level::Root { root, unit: None } => (1, root, 0),
+        Level::Root { root, unit: Some(unit) } => (2, root, unit),
+    };
+    let kind = u64::from(rule.window.is_none());
+    let first = joined(&[(limit, 37), (rule.window.unwrap_or(0), 27)]);
+    [first, joined(&[(measure, 2), (kind, 1), (scope, 2), (root, 6), (unit, 2)])]
+}
+
+/// The two numbers of an entry.
+fn entry_numbers(entry: &Entry) -> [u64; 2] {
+    let flags = [(entry.counts_for_root.into(), 1), (entry.counts_for_firm.into(), 1)];
+    let first = joined(&[(entry.time, 27), (entry.root, 6), (entry.unit, 2), flags[0], flags[1]]);
+    [first, joined(&[(entry.premium, 27), (entry.contracts, 20)])]
+}
+
+/// The state of numbers whose mark is 1, if it is sound.
+fn armed_of(numbers: &[u64]) -> Option<Armed> {
+    let clock = Some(numbers[1]).filter(|clock| is_time(*clock))?;
+    let roots = used(&numbers[ROOTS..RULES], numbers[3], 1)?;
+    let rules = used(&numbers[RULES..TOTALS], numbers[4], 2)?;
+    let totals = used(&numbers[TOTALS..LOG], numbers[4], 1)?;
+    let log = used(&numbers[LOG..NUMBERS], numbers[5], 2)?;
+    let profile = profile_of(numbers[2], roots, rules)?;
+    if !totals.iter().zip(&profile.rules).all(|(total, rule)| is_total(*total, rule)) {
+        return None;
+    }
+    let log = log_of(log, clock, roots.len() as u64)?;
+    if profile.longest_window().is_none() && !log.is_empty() {
+        return None;
+    }
+    let firm = Marks { tripped: flag(numbers[6])?, user: flag(numbers[7])? };
+    let roots = marks_of(numbers[8], numbers[9], roots.len())?;
+    Some(Armed { profile, clock, totals: totals.to_vec(), firm, roots, log })
+}
+
+/// The part of a table that is used, if it has so many places and the others hold 0.
+fn used(table: &[u64], places: u64, numbers_each: usize) -> Option<&[u64]> {
+    let length = usize::try_from(places).ok()?.checked_mul(numbers_each)?;
+    let (used, unused) = table.split_at_checked(length)?;
+    unused.iter().all(|number| *number == 0).then_some(used)
+}
+
+/// The profile of a firm, roots and rules, if some accepted text gives just these: the plain one that is written from them does.
+fn profile_of(firm: u64, roots: &[u64], rules: &[u64]) -> Option<Profile> {
+    let roots: Vec<Vec<u8>> = roots.iter().map(|name| name_of(*name)).collect();
+    let rules = rules.chunks(2).map(rule_of).collect::<Option<Vec<Rule>>>()?;
+    let stored = Profile { firm: name_of(firm), roots, rules };
+    let text = text_of(&stored)?;
+    profile::read(&text).ok().filter(|profile| *profile == stored)
+}
+
+/// The rule of two numbers, if its fields mean something; whether a profile can have it is judged elsewhere.
+fn rule_of(numbers: &[u64]) -> Option<Rule> {
+    let [limit, window] = parted(numbers[0], [37, 27]);
+    let [spare, measure, kind, scope, root, unit] = parted(numbers[1], [51, 2, 1, 2, 6, 2]);
+    let (measure, limit) = match measure {
+        0 => (Measure::Notional, limit * DOLLAR),
+        1 => (Measure::Volume, limit),
+        2 => (Measure::Count, limit),
+        _ => return None,
+    };
+    let window = match (kind, window) {
+        (0, window) => Some(window),
+        (_, 0) => None,
+        _ => return None,
+    };
+    let level = match (scope, root, unit) {
+        (0, 0, 0) => Level::Firm,
+        (1, root, 0) => Level::Root { root, unit: None },
+        (2, root, unit) => Level::Root { root, unit: Some(unit) },
+        _ => return None,
+    };
+    (spare == 0).then_some(Rule { measure, window, limit, level })
+}
+
+/// A profile as text, one line a rule; none if a rule speaks of a root that is not there.
+fn text_of(profile: &Profile) -> Option<Vec<u8>> {
+    let mut text = Vec::new();
+    for rule in &profile.rules {
+        let kind = if rule.window.is_some() { "rate" } else { "abs" };
+        let (measure, limit) = match rule.measure {
+            Measure::Notional => ("ntnl", rule.limit / DOLLAR),
+            Measure::Volume => ("vol", rule.limit),
+            Measure::Count => ("count", rule.limit),
+        };
+        let (root, tail) = match rule.level {
+            Level::Firm => (&b""[..], "T,,"),
+            Level::Root { root, unit } => {
+                let units = unit.map_or(",,", |unit| [",C,F", ",C,T", ",P,F", ",P,T"][unit as usize]);
+                (&profile.roots.get(root as usize)?[..], units)
+            }
+        };
+        text.extend_from_slice(&profile.firm);
+        text.extend_from_slice(format!(",{kind}_{measure},").as_bytes());
+        text.extend_from_slice(root);
+        text.extend_from_slice(format!(",{limit},{},{tail}\n", rule.window.unwrap_or(0)).as_bytes());
+    }
+    Some(text)
+}
+
+/// May the rule have this total? A rate rule has none, so its place holds 0.
+fn is_total(total: u64, rule: &Rule) -> bool {
+    total <= if rule.window.is_some() { 0 } else { MOST_TOTAL }
+}
+
+/// The log, if its entries are in range, in order of time and none later than the clock.
+fn log_of(numbers: &[u64], clock: u64, roots: u64) -> Option<VecDeque<Entry>> {
+    let log = numbers.chunks(2).map(|pair| entry_of(pair, roots)).collect::<Option<VecDeque<Entry>>>()?;
+    let times = || log.iter().map(|entry| entry.time);
+    let in_order = times().zip(times().skip(1).chain([clock])).all(|(one, next)| one <= next);
+    (log.len() <= LOG_PLACES && in_order).then_some(log)
+}
+
+/// The entry of two numbers, if all its fields are in range.
+fn entry_of(numbers: &[u64], roots: u64) -> Option<Entry> {
+    let [spare, time, root, unit, for_root, for_firm] = parted(numbers[0], [27, 27, 6, 2, 1, 1]);
+    let [above, premium, contracts] = parted(numbers[1], [17, 27, 20]);
+    let in_range = is_time(time) && root < roots && unit < UNITS && is_premium(premium) && is_contracts(contracts);
+    let (counts_for_root, counts_for_firm) = (for_root == 1, for_firm == 1);
+    let entry = Entry { time, root, unit, premium, contracts, counts_for_root, counts_for_firm };
+    (spare == 0 && above == 0 && in_range).then_some(entry)
+}
+
+/// A mark that is 0 or 1.
+fn flag(number: u64) -> Option<bool> {
+    (number <= 1).then_some(number == 1)
+}
+
+/// Each root's marks by the two words, if no bit stands for a root beyond the last.
+fn marks_of(tripped: u64, user: u64, roots: usize) -> Option<Vec<Marks>> {
+    let bit = |word: u64, root: usize| word >> root & 1 == 1;
+    if (roots..64).any(|beyond| bit(tripped | user, beyond)) {
+        return None;
+    }
+    Some((0..roots).map(|root| Marks { tripped: bit(tripped, root), user: bit(user, root) }).collect())
+}
