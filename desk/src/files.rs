@@ -53,6 +53,9 @@ pub fn write_page(name: &str, text: &str) -> Result<(), String> {
 
 /// Keeps a profile, or any other file of the person's, from being written over by a slip.
 fn replaceable(name: &str, wanted: &str, holds: impl Fn(&[u8]) -> bool) -> Result<(), String> {
+    if !std::fs::metadata(name).is_ok_and(|there| there.is_file()) {
+        return Ok(());
+    }
     match at_most(name, DAY_BYTES) {
         Ok(bytes) if !holds(&bytes) => Err(format!("'{name}' is there and does not hold {wanted}, so it is left alone; type another name")),
         _ => Ok(()),

@@ -25,8 +25,14 @@ fn main() -> ExitCode {
     };
     match done {
         Ok(0) => ExitCode::SUCCESS,
-        // a line that could not be carried out, or a reader that went away
-        _ => ExitCode::FAILURE,
+        Ok(_) => ExitCode::FAILURE,
+        // whoever read the answers has gone away, and needs no word of it
+        Err(error) if error.kind() == io::ErrorKind::BrokenPipe => ExitCode::FAILURE,
+        Err(error) => {
+            // where even this cannot be written, the exit code says it
+            let _ = writeln!(io::stderr(), "the desk cannot go on: {error}");
+            ExitCode::FAILURE
+        }
     }
 }
 

@@ -9,8 +9,13 @@ pub const SIZE: usize = 1866;
 /// An answer: five numbers, the refusal first (0 if the call was not refused).
 pub type Row = [u64; 5];
 
+/// An event's numbers: kind, time, root, unit, premium, contracts, reset, level. One that its kind does not use is 0.
+pub type EventNumbers = [u64; 8];
+
 mod exported {
     use super::Row;
+    /// What reading a record answers: the refusal, then the event's numbers.
+    pub type Reading = [u64; 9];
     extern "C" {
         pub fn mbrumzheg_arm(m: *mut u64, len: usize, text: *const u8, text_len: usize, row: *mut Row);
         pub fn mbrumzheg_clear(m: *mut u64, len: usize, row: *mut Row);
@@ -20,6 +25,20 @@ mod exported {
         pub fn mbrumzheg_remaining(m: *const u64, len: usize, time: u64, rule: u64, row: *mut Row);
         pub fn mbrumzheg_status(m: *const u64, len: usize, row: *mut Row);
         pub fn mbrumzheg_text(verdict: u64, room: *mut u8, len: usize, row: *mut Row);
+        pub fn mbrumzheg_read_record(bytes: *const u8, len: usize, row: *mut Reading);
+        pub fn mbrumzheg_write_record(
+            kind: u64,
+            time: u64,
+            root: u64,
+            unit: u64,
+            premium: u64,
+            contracts: u64,
+            reset: u64,
+            level: u64,
+            room: *mut u8,
+            len: usize,
+            row: *mut Row,
+        );
     }
 }
 
@@ -80,5 +99,22 @@ pub fn status(memory: &[u64]) -> Row {
 pub fn text(verdict: u64, room: &mut [u8]) -> Row {
     let mut row = [0; 5];
     unsafe { exported::mbrumzheg_text(verdict, room.as_mut_ptr(), room.len(), &mut row) };
+    row
+}
+
+/// Reads an event record: refusal, and the event's numbers (zeros if refused).
+pub fn read_record(bytes: &[u8]) -> (u64, EventNumbers) {
+    let mut row = [0; 9];
+    unsafe { exported::mbrumzheg_read_record(bytes.as_ptr(), bytes.len(), &mut row) };
+    let [refusal, numbers @ ..] = row;
+    (refusal, numbers)
+}
+
+/// Writes an event's record to the first 12 bytes of the room: refusal.
+pub fn write_record(event: EventNumbers, room: &mut [u8]) -> Row {
+    let mut row = [0; 5];
+    let [kind, time, root, unit, premium, contracts, reset, level] = event;
+    let (start, len) = (room.as_mut_ptr(), room.len());
+    unsafe { exported::mbrumzheg_write_record(kind, time, root, unit, premium, contracts, reset, level, start, len, &mut row) };
     row
 }

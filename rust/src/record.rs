@@ -1,4 +1,5 @@
-//! The 12-byte event record: one event, its fields from the most significant bit on, those that its kind does not use 0.
+//! The 12-byte event record: one event, its fields from the most significant bit on, those that its kind does not use 0. The
+//! library reads and writes it; this file gives its numbers their types.
 //!
 //! ```
 //! use mbrumzheg::{Contracts, Event, Offer, Premium, Root, Time, UnitOfRoot};
@@ -16,6 +17,7 @@
 //! ```
 
 use crate::event::{Event, Offer};
+use crate::raw::{self, EventNumbers};
 use crate::refusal::Refusal;
 use crate::values::{Contracts, Level, Premium, Reset, Root, Time, UnitOfRoot};
 use std::io::{self, Write};
@@ -25,99 +27,50 @@ use std::slice::Chunks;
 /// How many bytes a record has.
 pub const RECORD_SIZE: usize = 12;
 
-/// A record's fields as numbers, before it is known whether they make an event.
-#[derive(Default, PartialEq)]
-struct Fields {
-    kind: u64,
-    time: u64,
-    root: u64,
-    unit: u64,
-    premium: u64,
-    contracts: u64,
-    reset: u64,
-    level: u64,
-    spare: u64,
+/// An event's numbers as the library takes them: kind, time, root, unit, premium, contracts, reset, level.
+fn numbers(event: &Event) -> EventNumbers {
+    match *event {
+        Event::Order { time, root, reset } => [0, time.ms(), root.number(), 0, 0, 0, reset.number(), 0],
+        Event::Offer(Offer { time, root, unit, premium, contracts }) => {
+            [1, time.ms(), root.number(), unit.number(), premium.ten_thousandths(), contracts.count(), 0, 0]
+        }
+        Event::Lockout { time, level } => [2, time.ms(), level.root_number(), 0, 0, 0, 0, level.number()],
+    }
 }
 
-impl Fields {
-    /// The widths in bits, in the order of the fields.
-    const WIDTHS: [u32; 9] = [2, 27, 6, 2, 27, 20, 2, 1, 9];
-
-    fn of_bytes(bytes: &[u8; RECORD_SIZE]) -> Fields {
-        let mut rest = bytes.iter().fold(0, |all: u128, byte| all << 8 | u128::from(*byte)) << 32;
-        let mut next = |width: u32| {
-            let field = (rest >> (128 - width)) as u64;
-            rest <<= width;
-            field
-        };
-        let [kind, time, root, unit, premium, contracts, reset, level, spare] = Fields::WIDTHS.map(&mut next);
-        Fields { kind, time, root, unit, premium, contracts, reset, level, spare }
-    }
-
-    fn to_bytes(&self) -> [u8; RECORD_SIZE] {
-        let fields = [self.kind, self.time, self.root, self.unit, self.premium, self.contracts, self.reset, self.level, self.spare];
-        let all = fields.iter().zip(Fields::WIDTHS).fold(0, |all: u128, (field, width)| all << width | u128::from(*field));
-        let mut bytes = [0; RECORD_SIZE];
-        bytes.copy_from_slice(&all.to_be_bytes()[4..]);
-        bytes
-    }
-
-    fn of_event(event: &Event) -> Fields {
-        match *event {
-            Event::Order { time, root, reset } => {
-                Fields { kind: 0, time: time.ms(), root: root.number(), reset: reset.number(), ..Fields::default() }
-            }
-            Event::Offer(Offer { time, root, unit, premium, contracts }) => Fields {
-                kind: 1,
-                time: time.ms(),
-                root: root.number(),
-                unit: unit.number(),
-                premium: premium.ten_thousandths(),
-                contracts: contracts.count(),
-                ..Fields::default()
-            },
-            Event::Lockout { time, level } => {
-                Fields { kind: 2, time: time.ms(), root: level.root_number(), level: level.number(), ..Fields::default() }
-            }
-        }
-    }
-
-    /// The event that the fields name, each number taken through the constructor that checks its range.
-    fn event(&self) -> Result<Event, Refusal> {
-        let time = Time::from_ms(self.time)?;
-        let root = Root::new(self.root)?;
-        match (self.kind, self.level) {
-            (0, _) => Ok(Event::Order { time, root, reset: Reset::from_number(self.reset)? }),
-            (1, _) => Ok(Event::Offer(Offer {
-                time,
-                root,
-                unit: UnitOfRoot::from_number(self.unit)?,
-                premium: Premium::from_ten_thousandths(self.premium)?,
-                contracts: Contracts::new(self.contracts)?,
-            })),
-            (2, 0) => Ok(Event::Lockout { time, level: Level::Root(root) }),
-            (2, _) => Ok(Event::Lockout { time, level: Level::Firm }),
-            _ => Err(Refusal::RecordFaulty),
-        }
+/// The event that numbers name, each taken through the constructor that checks its range.
+fn event([kind, time, root, unit, premium, contracts, reset, level]: EventNumbers) -> Result<Event, Refusal> {
+    let time = Time::from_ms(time)?;
+    let root = Root::new(root)?;
+    match (kind, level) {
+        (0, _) => Ok(Event::Order { time, root, reset: Reset::from_number(reset)? }),
+        (1, _) => Ok(Event::Offer(Offer {
+            time,
+            root,
+            unit: UnitOfRoot::from_number(unit)?,
+            premium: Premium::from_ten_thousandths(premium)?,
+            contracts: Contracts::new(contracts)?,
+        })),
+        (2, 0) => Ok(Event::Lockout { time, level: Level::Root(root) }),
+        (2, 1) => Ok(Event::Lockout { time, level: Level::Firm }),
+        _ => Err(Refusal::RecordFaulty),
     }
 }
 
 impl Event {
     /// The event's record.
     pub fn to_record(&self) -> [u8; RECORD_SIZE] {
-        Fields::of_event(self).to_bytes()
+        let mut room = [0; RECORD_SIZE];
+        let row = raw::write_record(numbers(self), &mut room);
+        debug_assert_eq!(row[0], 0, "numbers within their ranges are written");
+        room
     }
 
     /// The event of a record; [`Refusal::RecordFaulty`] for any bytes that no event has.
     pub fn from_record(bytes: &[u8]) -> Result<Event, Refusal> {
-        let bytes: &[u8; RECORD_SIZE] = bytes.try_into().map_err(|_| Refusal::RecordFaulty)?;
-        let fields = Fields::of_bytes(bytes);
-        let event = fields.event().map_err(|_| Refusal::RecordFaulty)?;
-        // a field that the kind does not use must be 0, which is what the event's own record has there
-        if fields == Fields::of_event(&event) {
-            Ok(event)
-        } else {
-            Err(Refusal::RecordFaulty)
+        match raw::read_record(bytes) {
+            (0, numbers) => event(numbers).map_err(|_| Refusal::RecordFaulty),
+            _ => Err(Refusal::RecordFaulty),
         }
     }
 }

@@ -43,7 +43,14 @@ pub enum Unarmed {}
 #[derive(Debug)]
 pub enum Armed {}
 
-/// A risk unit on memory `M`. Orders and offers exist for `Unit<M, Armed>` alone.
+/// A risk unit on memory `M`. Orders and offers exist for `Unit<M, Armed>` alone:
+///
+/// ```
+/// use mbrumzheg::{Reset, Root, Time, Unit, Verdict};
+/// let mut unit = Unit::new().arm("ABCD,abs_vol,XYZ,1000").unwrap();
+/// let verdict = unit.order(Time::START, Root::new(0).unwrap(), Reset::None);
+/// assert_eq!(verdict, Ok(Verdict::Pass));
+/// ```
 ///
 /// An unarmed unit has no order to pass, so forgetting to arm does not compile:
 ///
