@@ -90,6 +90,39 @@ fn bench_lines_of_one_root() {
 }
 
 #[test]
+fn bench_lines_of_three_rules_and_of_counts() {
+    let mut b2 = armed("ABCD,rate_vol,XYZ,500,1000\nABCD,rate_vol,XYZ,20000,60000\nABCD,abs_ntnl,XYZ,100000");
+    // 19,000 contracts for $25,000 inside the minute, 400 of them inside the second
+    for second in 0..36 {
+        assert_eq!(fill(&mut b2, second * 1_000, 1, 500), (500, false, false));
+    }
+    assert_eq!(fill(&mut b2, 36_000, 1, 500), (500, false, false));
+    assert_eq!(fill(&mut b2, 37_000, 1, 100), (100, false, false));
+    assert_eq!(fill(&mut b2, 38_000, 16, 400), (400, false, false));
+    assert_eq!([0, 1, 2].map(|rule| b2.remaining(time(38_000), rule)), [Ok(100), Ok(1_000), Ok(750_000_000)]);
+    assert_eq!(fill(&mut b2, 38_000, 1, 200), (100, true, false));
+    assert_eq!(b2.order(time(38_000), root(), Reset::Symbol), Ok(Verdict::Pass));
+    assert_eq!([0, 1, 2].map(|rule| b2.remaining(time(38_000), rule)), [Ok(500), Ok(20_000), Ok(1_000_000_000)]);
+
+    let mut b7 = armed("ABCD,abs_count,XYZ,10");
+    for ms in 0..9 {
+        assert_eq!(fill(&mut b7, ms, 1, 1), (1, false, false));
+    }
+    assert_eq!(fill(&mut b7, 9, 1, 1), (1, true, false));
+
+    let mut b8 = armed("ABCD,abs_ntnl,XYZ,1000");
+    assert_eq!(fill(&mut b8, 0, 7, 140), (140, false, false));
+    assert_eq!(fill(&mut b8, 1, 21, 1), (0, true, false));
+
+    for (window, shortest) in [("", 100), ("0", 100), ("99", 100), ("101", 101)] {
+        let mut b11 = armed(&format!("ABCD,rate_count,XYZ,2,{window}"));
+        assert_eq!(fill(&mut b11, 0, 1, 1), (1, false, false));
+        assert_eq!(b11.remaining(time(shortest - 1), 0), Ok(1), "window {window}");
+        assert_eq!(b11.remaining(time(shortest), 0), Ok(2), "window {window}");
+    }
+}
+
+#[test]
 fn bench_lines_of_root_and_firm() {
     for (firm, trips) in [(5, (5, true, true)), (7, (5, true, false))] {
         let mut unit = armed(&format!("ABCD,rate_vol,XYZ,5,1000\nABCD,rate_vol,,{firm},1000,T"));
