@@ -79,7 +79,7 @@ fn ordered(session: &Session, root: Root, reset: Reset, verdict: Verdict) -> Str
         Reset::Both => format!("root {name} and firm {} reset; ", session.profile.firm),
     };
     match verdict {
-        Verdict::Pass => format!("{done}the order on {name} may pass"),
+        Verdict::Free => format!("{done}the order on {name} may pass"),
         _ => format!("{done}{}", rejected(session, verdict, root)),
     }
 }
@@ -106,7 +106,7 @@ pub fn why_locked(marks: Marks) -> &'static str {
 /// What to type after a refusal.
 fn advice(session: &Session, refusal: Refusal) -> String {
     match refusal {
-        Refusal::TimeOutOfOrder => format!("; type {} or a later time", words::time(session.unit.clock())),
+        Refusal::BadTime => format!("; type {} or a later time", words::time(session.unit.clock())),
         Refusal::LogFull => "; type a time at which the longest window has passed over the oldest fill".to_string(),
         _ => String::new(),
     }

@@ -2,6 +2,7 @@
 
 use crate::chart::{escaped, meaning, shape};
 use crate::day::{Day, Entry, Kind};
+use crate::lines::plain;
 use crate::panel;
 use crate::profile::Profile;
 use crate::words::{self, grouped};
@@ -34,6 +35,7 @@ pub fn page(profile: &Profile, events: &[Event], stretch: Option<(u64, u64)>) ->
         format!("<section><h2>Locks</h2>{}</section>", panel::lanes(profile, &day)),
         format!("<h2>Use of each rule against its limit</h2>{}", rules(profile, &day)),
         format!("<section><h2>What did not simply pass</h2>{}</section>", table(&day.entries)),
+        format!("<section><h2>Profile</h2><pre>{}</pre></section>", text_of(profile)),
     ];
     Ok(format!(
         "<!DOCTYPE html>\n<html lang=\"en\"><head><meta charset=\"utf-8\">\
@@ -41,6 +43,13 @@ pub fn page(profile: &Profile, events: &[Event], stretch: Option<(u64, u64)>) ->
          <body>{HATCH}<main>\n{}\n</main></body></html>\n",
         body.join("\n")
     ))
+}
+
+/// The profile as it was read, with a space for what a page cannot show.
+fn text_of(profile: &Profile) -> String {
+    let text = String::from_utf8_lossy(&profile.text);
+    let lines: Vec<String> = text.lines().map(|line| escaped(&plain(line))).collect();
+    lines.join("\n")
 }
 
 /// The pattern of locked stretches, told apart without colour.

@@ -65,7 +65,7 @@ impl Session {
         Passed {
             place: self.place,
             event: None,
-            answer: Err(Refusal::RecordFaulty),
+            answer: Err(Refusal::FaultyRecord),
             cut_by: Vec::new(),
             reached: Vec::new(),
             covered: false,

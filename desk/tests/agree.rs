@@ -44,7 +44,7 @@ fn the_rules_that_cut_are_those_that_the_grant_shows() {
             let least = session.least_allowance(&offer);
             let passed = session.pass(next);
             let Ok(answer) = passed.answer else { continue };
-            if answer.verdict != Verdict::Pass {
+            if answer.verdict != Verdict::Free {
                 assert!(passed.cut_by.is_empty() && passed.reached.is_empty());
                 continue;
             }

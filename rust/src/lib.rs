@@ -26,11 +26,11 @@
 //!
 //! // 50 are left of 1,000, so 200 are cut to 50 and the root is locked
 //! let second = unit.offer(at_seven_dollars(10, 200)?)?;
-//! assert_eq!(second, Answer { verdict: Verdict::Pass, grant: 50, root_trip: true, firm_trip: false });
+//! assert_eq!(second, Answer { verdict: Verdict::Free, grant: 50, root_trip: true, firm_trip: false });
 //!
 //! let verdict = unit.order(Time::from_ms(20)?, root, Reset::None)?;
 //! assert_eq!(verdict, Verdict::RootLocked);
-//! assert_eq!(unit.order(Time::from_ms(30)?, root, Reset::Symbol)?, Verdict::Pass);
+//! assert_eq!(unit.order(Time::from_ms(30)?, root, Reset::Symbol)?, Verdict::Free);
 //! # Ok::<(), Box<dyn std::error::Error>>(())
 //! ```
 //!

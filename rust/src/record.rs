@@ -53,7 +53,7 @@ fn event([kind, time, root, unit, premium, contracts, reset, level]: EventNumber
         })),
         (2, 0) => Ok(Event::Lockout { time, level: Level::Root(root) }),
         (2, 1) => Ok(Event::Lockout { time, level: Level::Firm }),
-        _ => Err(Refusal::RecordFaulty),
+        _ => Err(Refusal::FaultyRecord),
     }
 }
 
@@ -66,11 +66,11 @@ impl Event {
         room
     }
 
-    /// The event of a record; [`Refusal::RecordFaulty`] for any bytes that no event has.
+    /// The event of a record; [`Refusal::FaultyRecord`] for any bytes that no event has.
     pub fn from_record(bytes: &[u8]) -> Result<Event, Refusal> {
         match raw::read_record(bytes) {
-            (0, numbers) => event(numbers).map_err(|_| Refusal::RecordFaulty),
-            _ => Err(Refusal::RecordFaulty),
+            (0, numbers) => event(numbers).map_err(|_| Refusal::FaultyRecord),
+            _ => Err(Refusal::FaultyRecord),
         }
     }
 }
@@ -82,7 +82,7 @@ impl Event {
 /// let event = Event::Lockout { time: Time::START, level: Level::Firm };
 /// let mut bytes = event.to_record().to_vec();
 /// bytes.push(0);
-/// assert_eq!(Records::new(&bytes).collect::<Vec<_>>(), [Ok(event), Err(Refusal::RecordFaulty)]);
+/// assert_eq!(Records::new(&bytes).collect::<Vec<_>>(), [Ok(event), Err(Refusal::FaultyRecord)]);
 /// ```
 #[derive(Clone, Debug)]
 pub struct Records<'a>(Chunks<'a, u8>);

@@ -16,21 +16,21 @@ use std::fmt;
 #[repr(u8)]
 pub enum Refusal {
     /// 1: the memory, or the room for a text, is too short.
-    MemoryShort = 1,
+    NoRoom = 1,
     /// 2: the memory is marked, yet holds no sound state.
-    NotSound = 2,
+    Unsound = 2,
     /// 3: arming memory whose mark is not 0.
-    AlreadyArmed = 3,
+    ArmedAlready = 3,
     /// 4: a call on memory that is not armed.
     NotArmed = 4,
     /// 5: the profile is empty or longer than 65,536 bytes.
     ProfileLength = 5,
     /// 6: a line is malformed.
-    LineMalformed = 6,
+    Malformed = 6,
     /// 7: a line names another firm than the first.
-    FirmDiffers = 7,
+    OtherFirm = 7,
     /// 8: a limit or a window is out of range.
-    LimitOutOfRange = 8,
+    OutOfRange = 8,
     /// 9: root and firm level clash.
     LevelClash = 9,
     /// 10: the unit fields clash.
@@ -38,36 +38,36 @@ pub enum Refusal {
     /// 11: one rule or root too many.
     TooMany = 11,
     /// 12: the time is no time of the day, or below the clock.
-    TimeOutOfOrder = 12,
+    BadTime = 12,
     /// 13: a number that the profile or the library does not know.
-    NotKnown = 13,
+    Unknown = 13,
     /// 14: premium or contracts out of range.
-    AmountOutOfRange = 14,
+    BadAmount = 14,
     /// 15: the log is full.
     LogFull = 15,
     /// 16: an event record is faulty.
-    RecordFaulty = 16,
+    FaultyRecord = 16,
 }
 
 impl Refusal {
     /// Every refusal, by number.
     pub const ALL: [Refusal; 16] = [
-        Refusal::MemoryShort,
-        Refusal::NotSound,
-        Refusal::AlreadyArmed,
+        Refusal::NoRoom,
+        Refusal::Unsound,
+        Refusal::ArmedAlready,
         Refusal::NotArmed,
         Refusal::ProfileLength,
-        Refusal::LineMalformed,
-        Refusal::FirmDiffers,
-        Refusal::LimitOutOfRange,
+        Refusal::Malformed,
+        Refusal::OtherFirm,
+        Refusal::OutOfRange,
         Refusal::LevelClash,
         Refusal::UnitClash,
         Refusal::TooMany,
-        Refusal::TimeOutOfOrder,
-        Refusal::NotKnown,
-        Refusal::AmountOutOfRange,
+        Refusal::BadTime,
+        Refusal::Unknown,
+        Refusal::BadAmount,
         Refusal::LogFull,
-        Refusal::RecordFaulty,
+        Refusal::FaultyRecord,
     ];
 
     /// The refusal of a number from 1 to 16.
@@ -84,44 +84,44 @@ impl Refusal {
     /// A short name.
     pub const fn name(self) -> &'static str {
         match self {
-            Refusal::MemoryShort => "memory short",
-            Refusal::NotSound => "state not sound",
-            Refusal::AlreadyArmed => "armed already",
+            Refusal::NoRoom => "memory short",
+            Refusal::Unsound => "state not sound",
+            Refusal::ArmedAlready => "armed already",
             Refusal::NotArmed => "not armed",
             Refusal::ProfileLength => "profile length",
-            Refusal::LineMalformed => "line malformed",
-            Refusal::FirmDiffers => "firm differs",
-            Refusal::LimitOutOfRange => "limit out of range",
+            Refusal::Malformed => "line malformed",
+            Refusal::OtherFirm => "firm differs",
+            Refusal::OutOfRange => "limit out of range",
             Refusal::LevelClash => "root and firm level clash",
             Refusal::UnitClash => "unit fields clash",
             Refusal::TooMany => "too many",
-            Refusal::TimeOutOfOrder => "time out of order",
-            Refusal::NotKnown => "not known",
-            Refusal::AmountOutOfRange => "amount out of range",
+            Refusal::BadTime => "time out of order",
+            Refusal::Unknown => "not known",
+            Refusal::BadAmount => "amount out of range",
             Refusal::LogFull => "log full",
-            Refusal::RecordFaulty => "record faulty",
+            Refusal::FaultyRecord => "record faulty",
         }
     }
 
     /// What it means, in a sentence without its first capital and full stop.
     pub const fn sentence(self) -> &'static str {
         match self {
-            Refusal::MemoryShort => "the lent memory has fewer than 1,866 numbers, or the room for a text fewer than 20 bytes",
-            Refusal::NotSound => "the memory is marked, but what stands in it is no sound state",
-            Refusal::AlreadyArmed => "the memory's armed mark is not 0, so clear it before arming",
+            Refusal::NoRoom => "the lent memory has fewer than 1,866 numbers, or the room for a text fewer than 20 bytes",
+            Refusal::Unsound => "the memory is marked, but what stands in it is no sound state",
+            Refusal::ArmedAlready => "the memory's armed mark is not 0, so clear it before arming",
             Refusal::NotArmed => "the memory is not armed, so no rule stands behind this call",
             Refusal::ProfileLength => "the profile is empty or longer than 65,536 bytes",
-            Refusal::LineMalformed => "the line has too few or too many fields, a field of wrong length or characters, or an unknown type",
-            Refusal::FirmDiffers => "the line names another firm than the first line does",
-            Refusal::LimitOutOfRange => "the line's limit or time limit is out of range",
+            Refusal::Malformed => "the line has too few or too many fields, a field of wrong length or characters, or an unknown type",
+            Refusal::OtherFirm => "the line names another firm than the first line does",
+            Refusal::OutOfRange => "the line's limit or time limit is out of range",
             Refusal::LevelClash => "the line has a root and also T for the firm, or neither",
             Refusal::UnitClash => "the line sets one of call/put and month without the other, or sets them in a firm rule",
             Refusal::TooMany => "the line is one rule or one root more than a profile may have",
-            Refusal::TimeOutOfOrder => "the time is no time of the day, or earlier than the unit's clock",
-            Refusal::NotKnown => "the root, unit, rule, level, reset or verdict is not known here",
-            Refusal::AmountOutOfRange => "the premium is not within $0.0001 to $10,000, or the contracts are not within 1 to 1,000,000",
+            Refusal::BadTime => "the time is no time of the day, or earlier than the unit's clock",
+            Refusal::Unknown => "the root, unit, rule, level, reset or verdict is not known here",
+            Refusal::BadAmount => "the premium is not within $0.0001 to $10,000, or the contracts are not within 1 to 1,000,000",
             Refusal::LogFull => "512 fills stand inside the longest window, so the log has no place for another",
-            Refusal::RecordFaulty => "the event record is not 12 bytes, or a field in it is out of range or not 0 where it must be",
+            Refusal::FaultyRecord => "the event record is not 12 bytes, or a field in it is out of range or not 0 where it must be",
         }
     }
 }

@@ -49,7 +49,7 @@ pub enum Armed {}
 /// use mbrumzheg::{Reset, Root, Time, Unit, Verdict};
 /// let mut unit = Unit::new().arm("ABCD,abs_vol,XYZ,1000").unwrap();
 /// let verdict = unit.order(Time::START, Root::new(0).unwrap(), Reset::None);
-/// assert_eq!(verdict, Ok(Verdict::Pass));
+/// assert_eq!(verdict, Ok(Verdict::Free));
 /// ```
 ///
 /// An unarmed unit has no order to pass, so forgetting to arm does not compile:
@@ -111,7 +111,7 @@ impl Default for Unit {
 impl<M: Memory> Unit<M, Unarmed> {
     /// Takes memory that may hold a state already, and finds out by the library's own check of the whole state.
     ///
-    /// Refused with [`Refusal::MemoryShort`] or [`Refusal::NotSound`]; the memory then comes back as it was.
+    /// Refused with [`Refusal::NoRoom`] or [`Refusal::Unsound`]; the memory then comes back as it was.
     ///
     /// ```
     /// use mbrumzheg::{Adopted, Refusal, Unit, SIZE};
@@ -120,7 +120,7 @@ impl<M: Memory> Unit<M, Unarmed> {
     /// unit.arm("ABCD,abs_vol,XYZ,1000").unwrap();
     /// assert!(matches!(Unit::adopt(&mut lent[..]), Ok(Adopted::Armed(_))));
     /// lent[0] = 7;
-    /// assert_eq!(Unit::adopt(&mut lent[..]).unwrap_err().why, Refusal::NotSound);
+    /// assert_eq!(Unit::adopt(&mut lent[..]).unwrap_err().why, Refusal::Unsound);
     /// ```
     pub fn adopt(memory: M) -> Result<Adopted<M>, Refused<M>> {
         match accepted(raw::status(memory.numbers())) {
@@ -130,7 +130,7 @@ impl<M: Memory> Unit<M, Unarmed> {
         }
     }
 
-    /// Takes memory and sets the state in it to zeros, whatever it held. Refused with [`Refusal::MemoryShort`] alone.
+    /// Takes memory and sets the state in it to zeros, whatever it held. Refused with [`Refusal::NoRoom`] alone.
     pub fn cleared(mut memory: M) -> Result<Unit<M, Unarmed>, Refused<M>> {
         match accepted(raw::clear(memory.numbers_mut())) {
             Ok(_) => Ok(Unit::on(memory)),
@@ -143,7 +143,7 @@ impl<M: Memory> Unit<M, Unarmed> {
     /// ```
     /// use mbrumzheg::{Refusal, Unit};
     /// let refused = Unit::new().arm("ABCD,abs_vol,XYZ,1000\nABCD,abs_vol,XYZ,0\n").unwrap_err();
-    /// assert_eq!((refused.why.refusal, refused.why.line), (Refusal::LimitOutOfRange, Some(2)));
+    /// assert_eq!((refused.why.refusal, refused.why.line), (Refusal::OutOfRange, Some(2)));
     /// let unit = refused.kept.arm("ABCD,abs_vol,XYZ,1000\n").unwrap();
     /// assert_eq!((unit.rule_count(), unit.root_count()), (1, 1));
     /// ```
@@ -166,7 +166,7 @@ impl<M: Memory> Unit<M, Armed> {
         judged(row).map(|answer| answer.verdict)
     }
 
-    /// Locks a root or the firm by the user's hand; it answers [`Verdict::Pass`].
+    /// Locks a root or the firm by the user's hand; it answers [`Verdict::Free`].
     pub fn lockout(&mut self, time: Time, level: Level) -> Result<Verdict, Refusal> {
         let row = raw::lockout(self.memory.numbers_mut(), time.ms(), level.number(), level.root_number());
         judged(row).map(|answer| answer.verdict)
@@ -191,7 +191,7 @@ impl<M: Memory> Unit<M, Armed> {
     /// What remains of a rule's limit at a time: ten-thousandths of a dollar, contracts or executions, by the rule's type.
     /// Rules are numbered from 0 by line. Neither the clock nor anything else changes.
     pub fn remaining(&self, time: Time, rule: usize) -> Result<u64, Refusal> {
-        let rule = u64::try_from(rule).map_err(|_| Refusal::NotKnown)?;
+        let rule = u64::try_from(rule).map_err(|_| Refusal::Unknown)?;
         accepted(raw::remaining(self.memory.numbers(), time.ms(), rule)).map(|row| row[1])
     }
 

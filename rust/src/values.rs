@@ -15,9 +15,9 @@ impl Time {
     /// The last millisecond of the day.
     pub const LAST: Time = Time(86_399_999);
 
-    /// A time from milliseconds; [`Refusal::TimeOutOfOrder`] beyond the day.
+    /// A time from milliseconds; [`Refusal::BadTime`] beyond the day.
     pub fn from_ms(ms: u64) -> Result<Time, Refusal> {
-        in_range(ms, 0, Time::LAST.ms(), Refusal::TimeOutOfOrder).map(Time)
+        in_range(ms, 0, Time::LAST.ms(), Refusal::BadTime).map(Time)
     }
 
     /// The milliseconds of the day.
@@ -31,9 +31,9 @@ impl Time {
 pub struct Root(u8);
 
 impl Root {
-    /// A root by its number; [`Refusal::NotKnown`] above 63. Whether the profile has that root, the call tells.
+    /// A root by its number; [`Refusal::Unknown`] above 63. Whether the profile has that root, the call tells.
     pub fn new(number: u64) -> Result<Root, Refusal> {
-        in_range(number, 0, 63, Refusal::NotKnown).map(|n| Root(n as u8))
+        in_range(number, 0, 63, Refusal::Unknown).map(|n| Root(n as u8))
     }
 
     /// Its number.
@@ -60,7 +60,7 @@ impl UnitOfRoot {
     /// The four, by number.
     pub const ALL: [UnitOfRoot; 4] = [UnitOfRoot::CallsFront, UnitOfRoot::CallsTrailing, UnitOfRoot::PutsFront, UnitOfRoot::PutsTrailing];
 
-    /// A unit by its number; [`Refusal::NotKnown`] above 3.
+    /// A unit by its number; [`Refusal::Unknown`] above 3.
     pub fn from_number(number: u64) -> Result<UnitOfRoot, Refusal> {
         by_number(&UnitOfRoot::ALL, number)
     }
@@ -76,9 +76,9 @@ impl UnitOfRoot {
 pub struct Premium(u32);
 
 impl Premium {
-    /// A premium from ten-thousandths of a dollar; [`Refusal::AmountOutOfRange`] outside the range.
+    /// A premium from ten-thousandths of a dollar; [`Refusal::BadAmount`] outside the range.
     pub fn from_ten_thousandths(n: u64) -> Result<Premium, Refusal> {
-        in_range(n, 1, 100_000_000, Refusal::AmountOutOfRange).map(Premium)
+        in_range(n, 1, 100_000_000, Refusal::BadAmount).map(Premium)
     }
 
     /// The ten-thousandths of a dollar.
@@ -92,9 +92,9 @@ impl Premium {
 pub struct Contracts(u32);
 
 impl Contracts {
-    /// So many contracts; [`Refusal::AmountOutOfRange`] outside the range.
+    /// So many contracts; [`Refusal::BadAmount`] outside the range.
     pub fn new(n: u64) -> Result<Contracts, Refusal> {
-        in_range(n, 1, 1_000_000, Refusal::AmountOutOfRange).map(Contracts)
+        in_range(n, 1, 1_000_000, Refusal::BadAmount).map(Contracts)
     }
 
     /// How many.
@@ -122,7 +122,7 @@ impl Reset {
     /// The four, by number.
     pub const ALL: [Reset; 4] = [Reset::None, Reset::Symbol, Reset::Firm, Reset::Both];
 
-    /// A reset by its number; [`Refusal::NotKnown`] above 3.
+    /// A reset by its number; [`Refusal::Unknown`] above 3.
     pub fn from_number(number: u64) -> Result<Reset, Refusal> {
         by_number(&Reset::ALL, number)
     }
@@ -165,8 +165,8 @@ impl Level {
 #[repr(u8)]
 #[must_use = "an order whose verdict is not looked at has not been checked"]
 pub enum Verdict {
-    /// 0: it may pass.
-    Pass = 0,
+    /// 0: nothing is locked, so it may pass.
+    Free = 0,
     /// 1: the firm is locked.
     FirmLocked = 1,
     /// 2: the root is locked.
@@ -174,9 +174,9 @@ pub enum Verdict {
 }
 
 impl Verdict {
-    /// A verdict by its number; [`Refusal::NotKnown`] above 2.
+    /// A verdict by its number; [`Refusal::Unknown`] above 2.
     pub fn from_number(number: u64) -> Result<Verdict, Refusal> {
-        by_number(&[Verdict::Pass, Verdict::FirmLocked, Verdict::RootLocked], number)
+        by_number(&[Verdict::Free, Verdict::FirmLocked, Verdict::RootLocked], number)
     }
 
     /// Its number.
@@ -186,7 +186,7 @@ impl Verdict {
 
     /// Whether the order or offer may pass.
     pub const fn passes(self) -> bool {
-        matches!(self, Verdict::Pass)
+        matches!(self, Verdict::Free)
     }
 
     /// The text of a rejection, as the library writes it; none for a pass.
@@ -195,7 +195,7 @@ impl Verdict {
     /// use mbrumzheg::Verdict;
     /// assert_eq!(&*Verdict::FirmLocked.text().unwrap(), "f: RiskMgmtFirmLevel");
     /// assert_eq!(&*Verdict::RootLocked.text().unwrap(), "s: RiskMgmtSymLevel");
-    /// assert!(Verdict::Pass.text().is_none());
+    /// assert!(Verdict::Free.text().is_none());
     /// ```
     pub fn text(self) -> Option<VerdictText> {
         let mut room = [0; 20];
@@ -234,5 +234,5 @@ fn in_range(n: u64, least: u64, most: u64, otherwise: Refusal) -> Result<u32, Re
 
 /// The case that a number stands for.
 fn by_number<T: Copy>(all: &[T], number: u64) -> Result<T, Refusal> {
-    usize::try_from(number).ok().and_then(|n| all.get(n)).copied().ok_or(Refusal::NotKnown)
+    usize::try_from(number).ok().and_then(|n| all.get(n)).copied().ok_or(Refusal::Unknown)
 }

@@ -101,7 +101,7 @@ fn bench_lines_of_three_rules_and_of_counts() {
     assert_eq!(fill(&mut b2, 38_000, 16, 400), (400, false, false));
     assert_eq!([0, 1, 2].map(|rule| b2.remaining(time(38_000), rule)), [Ok(100), Ok(1_000), Ok(750_000_000)]);
     assert_eq!(fill(&mut b2, 38_000, 1, 200), (100, true, false));
-    assert_eq!(b2.order(time(38_000), root(), Reset::Symbol), Ok(Verdict::Pass));
+    assert_eq!(b2.order(time(38_000), root(), Reset::Symbol), Ok(Verdict::Free));
     assert_eq!([0, 1, 2].map(|rule| b2.remaining(time(38_000), rule)), [Ok(500), Ok(20_000), Ok(1_000_000_000)]);
 
     let mut b7 = armed("ABCD,abs_count,XYZ,10");
@@ -139,19 +139,19 @@ fn status_and_marks_agree() {
     assert_eq!(unit.status(), Ok(none));
 
     assert_eq!(fill(&mut unit, 5, 1, 1001), (1000, true, false));
-    assert_eq!(unit.lockout(time(6), Level::Root(root())), Ok(Verdict::Pass));
+    assert_eq!(unit.lockout(time(6), Level::Root(root())), Ok(Verdict::Free));
     let spy = unit.root_named("SPY").expect("the profile has it");
-    assert_eq!(unit.lockout(time(7), Level::Root(spy)), Ok(Verdict::Pass));
+    assert_eq!(unit.lockout(time(7), Level::Root(spy)), Ok(Verdict::Free));
     let status = Status { tripped: 1, locked_by_user: 2, locked: 2, lowest_locked: Some(root()) };
     assert_eq!((unit.status(), unit.clock()), (Ok(status), time(7)));
     assert_eq!(unit.root_marks(root()), Marks { tripped: true, locked_by_user: true });
     assert_eq!(unit.root_marks(spy), Marks { tripped: false, locked_by_user: true });
     assert!(!unit.root_marks(unit.root_named("QQQ").expect("the profile has it")).locked());
 
-    assert_eq!(unit.lockout(time(8), Level::Firm), Ok(Verdict::Pass));
+    assert_eq!(unit.lockout(time(8), Level::Firm), Ok(Verdict::Free));
     assert_eq!(unit.firm_marks(), Marks { tripped: false, locked_by_user: true });
     assert_eq!(unit.order(time(9), spy, Reset::None), Ok(Verdict::FirmLocked));
-    assert_eq!(unit.order(time(9), spy, Reset::Both), Ok(Verdict::Pass));
+    assert_eq!(unit.order(time(9), spy, Reset::Both), Ok(Verdict::Free));
     assert_eq!((unit.firm_marks(), unit.root_marks(spy)), (Marks::default(), Marks::default()));
 }
 
@@ -191,6 +191,6 @@ fn a_unit_stands_on_its_own_or_on_lent_memory() {
     let mut lent = vec![7; SIZE + 10];
     let unit: Unit<&mut [u64], Unarmed> = Unit::cleared(&mut lent[..]).expect("long enough");
     let mut unit = unit.arm("ABCD,abs_vol,XYZ,1000").expect("accepted");
-    assert_eq!(unit.order(time(1), root(), Reset::None), Ok(Verdict::Pass));
+    assert_eq!(unit.order(time(1), root(), Reset::None), Ok(Verdict::Free));
     assert_eq!((lent[0], &lent[SIZE..]), (1, &[7; 10][..]), "what is lent beyond the state is untouched");
 }

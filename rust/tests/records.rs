@@ -58,7 +58,7 @@ fn a_record_is_read_exactly_if_it_is_good_and_written_back_as_it_was() {
                 read += 1;
             }
             Err(refusal) => {
-                assert_eq!(refusal, Refusal::RecordFaulty);
+                assert_eq!(refusal, Refusal::FaultyRecord);
                 assert!(!good(fields), "{fields:?} is refused");
                 faulty += 1;
             }
@@ -95,5 +95,5 @@ fn records_come_one_after_the_other() {
     assert_eq!(Records::new(&bytes).len(), 100);
     assert!(Records::new(&bytes).map(|record| record.expect("a good record")).eq(events.iter().copied()));
     bytes.pop();
-    assert_eq!(Records::new(&bytes).last(), Some(Err(Refusal::RecordFaulty)), "a short last record");
+    assert_eq!(Records::new(&bytes).last(), Some(Err(Refusal::FaultyRecord)), "a short last record");
 }

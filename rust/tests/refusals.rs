@@ -42,13 +42,44 @@ fn every_refusal_has_a_number_a_name_and_a_sentence_of_its_own() {
     assert_eq!(Refusal::from_number(u64::MAX), None);
 }
 
+/// A name as C spells it: `NoRoom` is `MBRUMZHEG_NO_ROOM`.
+fn in_c(name: &str) -> String {
+    let mut text = "MBRUMZHEG".to_string();
+    for letter in name.chars() {
+        if letter.is_ascii_uppercase() {
+            text.push('_');
+        }
+        text.push(letter.to_ascii_uppercase());
+    }
+    text
+}
+
+#[test]
+fn rust_and_c_have_the_same_names_and_numbers() {
+    let header = include_str!("../../include/mbrumzheg.h");
+    let has = |name: String, number: u64| {
+        let known =
+            header.split([',', '{', '\n']).any(|part| part.split_whitespace().take(3).eq([in_c(&name).as_str(), "=", &number.to_string()]));
+        assert!(known, "{name} is {number} in Rust, so {} = {number} should be in the header", in_c(&name));
+    };
+    Refusal::ALL.iter().for_each(|refusal| has(format!("{refusal:?}"), refusal.number()));
+    UnitOfRoot::ALL.iter().for_each(|unit| has(format!("{unit:?}"), unit.number()));
+    Reset::ALL.iter().for_each(|reset| has(format!("Reset{reset:?}"), reset.number()));
+    for verdict in [Verdict::Free, Verdict::FirmLocked, Verdict::RootLocked] {
+        has(format!("{verdict:?}"), verdict.number());
+    }
+    has("LevelRoot".to_string(), Level::Root(root(5)).number());
+    has("LevelFirm".to_string(), Level::Firm.number());
+    assert!(header.contains(&format!("#define MBRUMZHEG_SIZE {SIZE}\n")));
+}
+
 #[test]
 fn short_memory_is_refused_with_1_and_given_back() {
     let mut short = vec![5; SIZE - 1];
     let refused = Unit::adopt(&mut short[..]).expect_err("one number is missing");
-    assert_eq!(refused.why, Refusal::MemoryShort);
+    assert_eq!(refused.why, Refusal::NoRoom);
     let refused = Unit::cleared(refused.kept).expect_err("one number is missing");
-    assert_eq!((refused.why, refused.kept.len()), (Refusal::MemoryShort, SIZE - 1));
+    assert_eq!((refused.why, refused.kept.len()), (Refusal::NoRoom, SIZE - 1));
     assert_eq!(short, vec![5; SIZE - 1]);
     assert_eq!(raw::text(1, &mut [0; 19]), [1, 0, 0, 0, 0]);
 }
@@ -58,7 +89,7 @@ fn memory_without_a_sound_state_is_refused_with_2() {
     let mut memory = Unit::new().arm(EXAMPLE).expect("accepted").into_memory();
     memory[1] = 86_400_000;
     let refused = Unit::adopt(memory).expect_err("the clock is no time");
-    assert_eq!((refused.why, refused.kept[1]), (Refusal::NotSound, 86_400_000));
+    assert_eq!((refused.why, refused.kept[1]), (Refusal::Unsound, 86_400_000));
 }
 
 #[test]
@@ -91,27 +122,27 @@ fn profiles_are_refused_with_5_to_11_and_the_line() {
 
 #[test]
 fn times_numbers_and_amounts_are_refused_with_12_13_and_14() {
-    assert_eq!(Time::from_ms(86_400_000), Err(Refusal::TimeOutOfOrder));
-    assert_eq!(Root::new(64), Err(Refusal::NotKnown));
-    assert_eq!(UnitOfRoot::from_number(4), Err(Refusal::NotKnown));
-    assert_eq!(Reset::from_number(4), Err(Refusal::NotKnown));
-    assert_eq!(Verdict::from_number(3), Err(Refusal::NotKnown));
+    assert_eq!(Time::from_ms(86_400_000), Err(Refusal::BadTime));
+    assert_eq!(Root::new(64), Err(Refusal::Unknown));
+    assert_eq!(UnitOfRoot::from_number(4), Err(Refusal::Unknown));
+    assert_eq!(Reset::from_number(4), Err(Refusal::Unknown));
+    assert_eq!(Verdict::from_number(3), Err(Refusal::Unknown));
     for n in [0, 100_000_001, u64::MAX] {
-        assert_eq!(Premium::from_ten_thousandths(n), Err(Refusal::AmountOutOfRange));
+        assert_eq!(Premium::from_ten_thousandths(n), Err(Refusal::BadAmount));
     }
     for n in [0, 1_000_001, u64::MAX] {
-        assert_eq!(Contracts::new(n), Err(Refusal::AmountOutOfRange));
+        assert_eq!(Contracts::new(n), Err(Refusal::BadAmount));
     }
     let mut unit = Unit::new().arm(EXAMPLE).expect("accepted");
-    assert_eq!(unit.order(time(50), root(0), Reset::None), Ok(Verdict::Pass));
+    assert_eq!(unit.order(time(50), root(0), Reset::None), Ok(Verdict::Free));
     let before = unit.memory().to_vec();
-    assert_eq!(unit.order(time(49), root(0), Reset::Both), Err(Refusal::TimeOutOfOrder));
-    assert_eq!(unit.lockout(time(49), Level::Firm), Err(Refusal::TimeOutOfOrder));
-    assert_eq!(unit.remaining(time(49), 0), Err(Refusal::TimeOutOfOrder));
-    assert_eq!(unit.offer(offer(60, 1, 1)), Err(Refusal::NotKnown));
-    assert_eq!(unit.lockout(time(60), Level::Root(root(1))), Err(Refusal::NotKnown));
-    assert_eq!(unit.remaining(time(60), 1), Err(Refusal::NotKnown));
-    assert_eq!(unit.remaining(time(60), usize::MAX), Err(Refusal::NotKnown));
+    assert_eq!(unit.order(time(49), root(0), Reset::Both), Err(Refusal::BadTime));
+    assert_eq!(unit.lockout(time(49), Level::Firm), Err(Refusal::BadTime));
+    assert_eq!(unit.remaining(time(49), 0), Err(Refusal::BadTime));
+    assert_eq!(unit.offer(offer(60, 1, 1)), Err(Refusal::Unknown));
+    assert_eq!(unit.lockout(time(60), Level::Root(root(1))), Err(Refusal::Unknown));
+    assert_eq!(unit.remaining(time(60), 1), Err(Refusal::Unknown));
+    assert_eq!(unit.remaining(time(60), usize::MAX), Err(Refusal::Unknown));
     assert_eq!(unit.memory(), before, "refusals change nothing");
     let mut memory = unit.into_memory();
     assert_eq!(raw::offer(&mut memory, 60, 0, 0, 0, 1), [14, 0, 0, 0, 0]);
@@ -134,19 +165,19 @@ fn faulty_records_are_refused_with_16() {
     let good = order.to_record();
     for length in [0, 11, 13] {
         let bytes: Vec<u8> = good.iter().copied().chain([0]).take(length).collect();
-        assert_eq!(Event::from_record(&bytes), Err(Refusal::RecordFaulty), "{length} bytes");
+        assert_eq!(Event::from_record(&bytes), Err(Refusal::FaultyRecord), "{length} bytes");
     }
     // every bit above the fields that an order has, and one at a time
     for (place, bit) in [(0, 0xC0), (4, 0x18), (5, 0x01), (11, 0x01), (10, 0x10), (10, 0x02)] {
         let mut bytes = good;
         bytes[place] |= bit;
-        assert_eq!(Event::from_record(&bytes), Err(Refusal::RecordFaulty), "byte {place}, bit {bit:#x}");
+        assert_eq!(Event::from_record(&bytes), Err(Refusal::FaultyRecord), "byte {place}, bit {bit:#x}");
     }
     let late = Event::Order { time: Time::LAST, root: root(0), reset: Reset::None };
     let mut bytes = late.to_record();
     assert_eq!(Event::from_record(&bytes), Ok(late));
     bytes[0] |= 0x3F;
-    assert_eq!(Event::from_record(&bytes), Err(Refusal::RecordFaulty), "a time beyond the day");
+    assert_eq!(Event::from_record(&bytes), Err(Refusal::FaultyRecord), "a time beyond the day");
 }
 
 #[test]

@@ -28,7 +28,7 @@ pub fn profile(dice: &mut Dice) -> String {
     let mut text = String::new();
     for root in &["XYZ", "QQQ", "7"][..dice.below(4) as usize] {
         for _ in 0..1 + dice.below(6) {
-            let unit = dice.pick(&["", ",,", ",,C,F", ",,C,T", ",,P,F", ",,P,T", ",x", ",,,"]);
+            let unit = dice.pick(&["", ",,", ",,C,F", ",,C,T", ",,P,F", ",,P,T", ",<i>&x", ",,,"]);
             text.push_str(&format!("ABCD,{},{root},{},{}{unit}\n", kind(dice), limit(dice), window(dice)));
         }
     }
