@@ -80,20 +80,21 @@ impl Desk {
     }
 
     fn arm(&mut self, file: &str) -> Result<String, String> {
-        if let Bench::Armed(session) = &self.bench {
-            return Err(format!("armed already for {} (refusal 3); type clear first", session.profile.firm));
-        }
+        let unit = match std::mem::take(self).bench {
+            Bench::Unarmed(unit) => unit,
+            Bench::Armed(session) => {
+                let advice = format!("armed already for {} (refusal 3); type clear first", session.profile.firm);
+                self.bench = Bench::Armed(session);
+                return Err(advice);
+            }
+        };
         let text = files::profile(file)?;
-        match std::mem::take(self).bench {
-            Bench::Unarmed(unit) => match unit.arm(&text) {
-                Ok(unit) => self.armed(Session::new(unit, &text)),
-                Err(refused) => Err(not_armed(file, &text, refused.why)),
-            },
-            Bench::Armed(_) => Err(ARM_FIRST.to_string()),
-        }
+        let armed = unit.arm(&text).map_err(|refused| not_armed(file, &text, refused.why))?;
+        Ok(self.begin(Session::new(armed, &text)))
     }
 
-    fn armed(&mut self, session: Session) -> Result<String, String> {
+    /// Begins a day, and says with what.
+    fn begin(&mut self, session: Session) -> String {
         let profile = &session.profile;
         let (rules, roots) = (session.unit.rule_count(), session.unit.root_count());
         let names = if profile.roots.is_empty() { String::new() } else { format!(": {}", listed(&profile.roots)) };
@@ -105,7 +106,7 @@ impl Desk {
             profile.firm
         );
         self.bench = Bench::Armed(Box::new(session));
-        Ok(text)
+        text
     }
 
     /// Passes the event that the words ask for.

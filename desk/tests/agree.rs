@@ -193,7 +193,7 @@ fn the_page_marks_what_happened() {
     let profile = Profile::of_accepted(text.as_bytes());
     let mut made = session(text);
     let mut dice = Dice::new(1);
-    while made.events.len() < 40 {
+    for _ in 0..40 {
         let next = event(&mut dice, made.unit.clock().ms(), 2);
         made.pass(next);
     }
