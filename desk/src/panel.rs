@@ -123,7 +123,10 @@ fn summary(rule: &Rule, of_rule: &Use) -> String {
     let (ms, most) = of_rule.peak();
     let when = Time::from_ms(ms).map(words::time).unwrap_or_default();
     let count = |kind| of_rule.marks.iter().filter(|mark| mark.kind == kind).count();
-    let mut text = format!("Most used: {} ({}% of the limit), first at {when}.", rule.amount(most), share(most, rule.limit, 100));
+    let mut text = match most {
+        0 => "Nothing used.".to_string(),
+        _ => format!("Most used: {} ({}% of the limit), first at {when}.", rule.amount(most), share(most, rule.limit, 100)),
+    };
     for (kind, thing) in [(Kind::Cut, "cut"), (Kind::Trip, "trip"), (Kind::Reset, "reset"), (Kind::Lockout, "lockout")] {
         match count(kind) {
             0 => {}
