@@ -1,0 +1,131 @@
+//! Answers in words, with the scope paper's numbers in brackets after them.
+
+use crate::profile::Profile;
+use crate::session::{Passed, Session};
+use crate::words::{self, grouped};
+use mbrumzheg::{Answer, Event, Level, Marks, Offer, Refusal, Reset, Root, Verdict};
+
+/// The answer to an event that was typed, in words and numbers; a refusal says what to type.
+pub fn answer(session: &Session, passed: &Passed) -> String {
+    let advice = match &passed.answer {
+        Err(refusal) => advice(session, *refusal),
+        Ok(_) => String::new(),
+    };
+    format!("{}{advice}  [{}]", sentence(session, passed), passed.numbers())
+}
+
+/// The answer to an event that was replayed, after the words that would type it.
+pub fn replayed(session: &Session, passed: &Passed) -> String {
+    let typed = passed.event.map_or_else(|| "faulty record".to_string(), |event| typed(&session.profile, &event));
+    let words = match &passed.answer {
+        Err(refusal) => format!("refused with {}, {}", refusal.number(), refusal.name()),
+        Ok(_) => sentence(session, passed),
+    };
+    format!("{typed}: {words}  [{}]", passed.numbers())
+}
+
+/// The answer in words.
+pub fn sentence(session: &Session, passed: &Passed) -> String {
+    match (&passed.event, &passed.answer) {
+        (Some(Event::Offer(offer)), Ok(answer)) if answer.verdict.passes() => filled(&session.profile, offer, answer, passed),
+        (Some(Event::Offer(offer)), Ok(answer)) => {
+            format!("{}, granted 0 of {}", rejected(session, answer.verdict, offer.root), grouped(offer.contracts.count()))
+        }
+        (Some(Event::Order { root, reset, .. }), Ok(answer)) => ordered(session, *root, *reset, answer.verdict),
+        (Some(Event::Lockout { level, .. }), Ok(_)) => match level {
+            Level::Root(root) => format!("root {} locked by hand", session.profile.root_name(root.number())),
+            Level::Firm => format!("firm {} locked by hand", session.profile.firm),
+        },
+        (_, Err(refusal)) => refusal.to_string(),
+        (None, Ok(_)) => String::new(),
+    }
+}
+
+fn filled(profile: &Profile, offer: &Offer, answer: &Answer, passed: &Passed) -> String {
+    let offered = offer.contracts.count();
+    let mut text = if answer.cuts(offer.contracts) {
+        let granted = format!("granted {} of {}", grouped(answer.grant.into()), grouped(offered));
+        format!("{granted}, cut by {}", rules(profile, &passed.cut_by))
+    } else if passed.covered {
+        format!("granted all {}", grouped(offered))
+    } else {
+        format!("granted all {}, no rule covers it", grouped(offered))
+    };
+    let reached: Vec<usize> = passed.reached.iter().filter(|number| !passed.cut_by.contains(number)).copied().collect();
+    if !reached.is_empty() {
+        text.push_str(&format!("; limit reached: {}", rules(profile, &reached)));
+    }
+    if answer.root_trip {
+        text.push_str(&format!("; root {} tripped", profile.root_name(offer.root.number())));
+    }
+    if answer.firm_trip {
+        text.push_str(&format!("; firm {} tripped", profile.firm));
+    }
+    text
+}
+
+/// Rules by their words, joined by "and".
+pub fn rules(profile: &Profile, numbers: &[usize]) -> String {
+    let each: Vec<String> = numbers.iter().filter_map(|n| profile.rules.get(*n)).map(|rule| profile.rule_words(rule)).collect();
+    each.join(" and ")
+}
+
+fn ordered(session: &Session, root: Root, reset: Reset, verdict: Verdict) -> String {
+    let name = session.profile.root_name(root.number());
+    let done = match reset {
+        Reset::None => String::new(),
+        Reset::Symbol => format!("root {name} reset; "),
+        Reset::Firm => format!("firm {} reset; ", session.profile.firm),
+        Reset::Both => format!("root {name} and firm {} reset; ", session.profile.firm),
+    };
+    match verdict {
+        Verdict::Free => format!("{done}the order on {name} may pass"),
+        _ => format!("{done}{}", rejected(session, verdict, root)),
+    }
+}
+
+fn rejected(session: &Session, verdict: Verdict, root: Root) -> String {
+    let text = verdict.text().map_or_else(String::new, |text| text.to_string());
+    let (what, marks) = match verdict {
+        Verdict::FirmLocked => (format!("firm {}", session.profile.firm), session.unit.firm_marks()),
+        _ => (format!("root {}", session.profile.root_name(root.number())), session.unit.root_marks(root)),
+    };
+    format!("rejected, {what} is {} ({text})", why_locked(marks))
+}
+
+/// Why something is locked, in words; "free" if it is not.
+pub fn why_locked(marks: Marks) -> &'static str {
+    match (marks.tripped, marks.locked_by_user) {
+        (true, true) => "tripped and locked by hand",
+        (true, false) => "tripped",
+        (false, true) => "locked by hand",
+        (false, false) => "free",
+    }
+}
+
+/// What to type after a refusal.
+fn advice(session: &Session, refusal: Refusal) -> String {
+    match refusal {
+        Refusal::BadTime => format!("; type {} or a later time", words::time(session.unit.clock())),
+        Refusal::LogFull => "; type a time at which the longest window has passed over the oldest fill".to_string(),
+        _ => String::new(),
+    }
+}
+
+/// An event in the words that would type it.
+pub fn typed(profile: &Profile, event: &Event) -> String {
+    let time = words::time(event.time());
+    let root = |root: &Root| profile.root_name(root.number());
+    match event {
+        Event::Order { root: on, reset, .. } => format!("order {time} {}{}", root(on), words::reset(*reset)),
+        Event::Offer(offer) => format!(
+            "offer {time} {} {} {} {}",
+            root(&offer.root),
+            words::unit(offer.unit),
+            words::premium(offer.premium),
+            offer.contracts.count()
+        ),
+        Event::Lockout { level: Level::Root(on), .. } => format!("lock {time} {}", root(on)),
+        Event::Lockout { level: Level::Firm, .. } => format!("lock {time} firm"),
+    }
+}

@@ -1,0 +1,148 @@
+//! A typed line as a command, or as a sentence that says what to type.
+
+/// What the desk can be asked to do. Words that need the profile or the clock are kept as words.
+#[derive(Clone, Debug, PartialEq, Eq)]
+pub enum Command {
+    /// Nothing: an empty line or a comment.
+    Nothing,
+    /// Arm from the profile in a file.
+    Arm(String),
+    /// Offer a fill.
+    Offer(Vec<String>),
+    /// Pass an order.
+    Order(Vec<String>),
+    /// Lock a root or the firm by hand.
+    Lock(Vec<String>),
+    /// Show the rules with what is used and left.
+    Remaining(Vec<String>),
+    /// Show what is locked.
+    Status,
+    /// Forget everything.
+    Clear,
+    /// Write the day's events to a file.
+    Save(String),
+    /// Pass the events of a file; `quiet` shows only what did not simply pass.
+    Replay {
+        /// The file of records.
+        file: String,
+        /// Whether plain passes are left out.
+        quiet: bool,
+    },
+    /// Write a page on the day, or on a stretch of it, to a file.
+    Report {
+        /// The file to write.
+        file: String,
+        /// The first and last time of a stretch, as words.
+        stretch: Option<(String, String)>,
+    },
+    /// Show the commands.
+    Help,
+    /// End.
+    Quit,
+}
+
+/// How an offer is typed.
+pub const OFFER_FORM: &str = "offer TIME ROOT call|put front|trailing PREMIUM CONTRACTS";
+/// How an order is typed.
+pub const ORDER_FORM: &str = "order TIME ROOT [reset symbol|firm|both]";
+/// How a lockout is typed.
+pub const LOCK_FORM: &str = "lock [TIME] ROOT|firm";
+/// How the table of rules is asked for.
+pub const REMAINING_FORM: &str = "remaining [TIME] [ROOT|firm]";
+
+/// The commands with a sentence each.
+pub const HELP: &str = "\
+arm FILE                  arm from the profile in FILE, before anything else can be passed
+offer TIME ROOT call|put front|trailing PREMIUM CONTRACTS
+                          offer a fill:          offer 10ms XYZ call front 7.00 200
+order TIME ROOT [reset symbol|firm|both]
+                          pass an order:         order 20ms XYZ reset symbol
+lock [TIME] ROOT|firm     lock by hand:          lock XYZ, lock firm
+remaining [TIME] [ROOT|firm]
+                          every rule with its limit, used, left and a bar
+status                    the clock, and what is locked and why
+save FILE                 write the day's events as 12-byte records
+replay FILE [quiet]       pass the records of FILE; quiet shows cuts, trips, rejections and refusals alone
+report FILE [from TIME to TIME]
+                          write a page (HTML) on the day so far, or on a stretch of it
+clear                     set the unit to zeros; arm again after it
+help, quit                this list; the end
+TIME is 10ms, 2.5s, 09:30, 09:30:00.250, now, or +10ms for 10 ms after the clock. # starts a comment.
+In brackets after an answer: the event's place, refusal, verdict, grant, root trip, firm trip.
+Rules are numbered from 0: rule 0 is the profile's first line.";
+
+/// Reads a line.
+pub fn read(line: &str) -> Result<Command, String> {
+    let line = line.trim();
+    if line.is_empty() || line.starts_with('#') {
+        return Ok(Command::Nothing);
+    }
+    let (name, rest) = line.split_once(char::is_whitespace).unwrap_or((line, ""));
+    let rest = rest.trim();
+    let words = || rest.split_whitespace().map(str::to_string).collect::<Vec<_>>();
+    match name.to_ascii_lowercase().as_str() {
+        "arm" => file(rest, "arm FILE").map(Command::Arm),
+        "offer" => Ok(Command::Offer(words())),
+        "order" => Ok(Command::Order(words())),
+        "lock" | "lockout" => Ok(Command::Lock(words())),
+        "remaining" | "rules" => Ok(Command::Remaining(words())),
+        "status" => alone(rest, "status", Command::Status),
+        "clear" => alone(rest, "clear", Command::Clear),
+        "save" => file(rest, "save FILE").map(Command::Save),
+        "replay" => replay(rest),
+        "report" => report(rest),
+        "help" | "?" => Ok(Command::Help),
+        "quit" | "exit" => alone(rest, "quit", Command::Quit),
+        _ => Err(format!("'{}' is no command; type help for the list{}", shortened(name), meant(name))),
+    }
+}
+
+fn file(rest: &str, form: &str) -> Result<String, String> {
+    if rest.is_empty() {
+        return Err(format!("which file? type {form}"));
+    }
+    Ok(rest.to_string())
+}
+
+fn alone(rest: &str, name: &str, command: Command) -> Result<Command, String> {
+    if rest.is_empty() {
+        return Ok(command);
+    }
+    Err(format!("{name} takes nothing after it; type {name}"))
+}
+
+fn replay(rest: &str) -> Result<Command, String> {
+    let quiet = rest.split_whitespace().last().is_some_and(|word| word == "quiet") && rest.contains(char::is_whitespace);
+    let name = if quiet { rest.trim_end_matches("quiet") } else { rest };
+    let file = file(name.trim(), "replay FILE, or replay FILE quiet")?;
+    Ok(Command::Replay { file, quiet })
+}
+
+fn report(rest: &str) -> Result<Command, String> {
+    let form = "report FILE, or report FILE from TIME to TIME";
+    let words: Vec<&str> = rest.split_whitespace().collect();
+    let (name, stretch) = match words.as_slice() {
+        [_, .., "from", from, "to", to] => (rest.rsplit_once(" from ").map_or(rest, |(name, _)| name), Some((*from, *to))),
+        ["from", _, "to", _] => ("", None),
+        _ => (rest, None),
+    };
+    let stretch = stretch.map(|(from, to)| (from.to_string(), to.to_string()));
+    Ok(Command::Report { file: file(name.trim(), form)?, stretch })
+}
+
+/// A word cut to a length that a line can hold.
+pub fn shortened(word: &str) -> String {
+    let mut text: String = word.chars().take(24).collect();
+    if word.chars().count() > 24 {
+        text.push_str("...");
+    }
+    text
+}
+
+/// A hint for a word that begins like a command.
+fn meant(name: &str) -> String {
+    const NAMES: [&str; 12] = ["arm", "offer", "order", "lock", "remaining", "status", "clear", "save", "replay", "report", "help", "quit"];
+    let start: String = name.to_lowercase().chars().take(2).collect();
+    let close = NAMES.iter().find(|known| start.len() == 2 && known.starts_with(&start));
+    close.map_or_else(String::new, |known| format!(" (did you mean {known}?)"))
+}

@@ -1,0 +1,227 @@
+//! The desk: takes lines, works on the unit, answers in words.
+
+use crate::answer;
+use crate::asked::{listed, Names};
+use crate::command::{self, Command};
+use crate::files;
+use crate::report;
+use crate::session::{Passed, Session};
+use crate::table::{self, counted};
+use mbrumzheg::{ArmRefusal, Event, Records, Unit};
+use std::io::{self, Write};
+
+/// What stands on the desk: a unit without rules, or one with a day behind it.
+enum Bench {
+    Unarmed(Unit),
+    Armed(Box<Session>),
+}
+
+/// The desk.
+pub struct Desk {
+    bench: Bench,
+}
+
+/// Whether the desk goes on after a line.
+#[derive(Clone, Copy, Debug, PartialEq, Eq)]
+pub enum After {
+    /// The line was carried out.
+    Done,
+    /// The line could not be carried out; the answer says what to type.
+    NotDone,
+    /// The line asked for the end.
+    End,
+}
+
+const ARM_FIRST: &str = "the unit is not armed, so nothing can be passed or asked (refusal 4); type arm FILE first";
+
+impl Default for Desk {
+    fn default() -> Desk {
+        Desk { bench: Bench::Unarmed(Unit::new()) }
+    }
+}
+
+impl Desk {
+    /// Carries out a line and writes the answer; an error only if the answer cannot be written.
+    pub fn line(&mut self, line: &str, out: &mut dyn Write) -> io::Result<After> {
+        let done = match command::read(line) {
+            Ok(Command::Quit) => return Ok(After::End),
+            Ok(Command::Replay { file, quiet }) => self.replay(&file, quiet, out)?,
+            Ok(command) => self.carry_out(command),
+            Err(advice) => Err(advice),
+        };
+        match done {
+            Ok(text) if text.is_empty() => Ok(After::Done),
+            Ok(text) => writeln!(out, "{text}").map(|()| After::Done),
+            Err(advice) => writeln!(out, "{advice}").map(|()| After::NotDone),
+        }
+    }
+
+    fn carry_out(&mut self, command: Command) -> Result<String, String> {
+        match command {
+            Command::Arm(file) => self.arm(&file),
+            Command::Offer(words) => self.pass(|names| names.offer(&words)),
+            Command::Order(words) => self.pass(|names| names.order(&words)),
+            Command::Lock(words) => self.pass(|names| names.lockout(&words)),
+            Command::Remaining(words) => self.remaining(&words),
+            Command::Status => table::status(self.session()?).map_err(|refusal| refusal.to_string()),
+            Command::Clear => Ok(self.clear()),
+            Command::Save(file) => self.save(&file),
+            Command::Report { file, stretch } => self.report(&file, stretch),
+            Command::Help => Ok(command::HELP.to_string()),
+            Command::Nothing | Command::Quit | Command::Replay { .. } => Ok(String::new()),
+        }
+    }
+
+    fn session(&mut self) -> Result<&mut Session, String> {
+        match &mut self.bench {
+            Bench::Armed(session) => Ok(session),
+            Bench::Unarmed(_) => Err(ARM_FIRST.to_string()),
+        }
+    }
+
+    fn arm(&mut self, file: &str) -> Result<String, String> {
+        let unit = match std::mem::take(self).bench {
+            Bench::Unarmed(unit) => unit,
+            Bench::Armed(session) => {
+                let advice = format!("armed already for {} (refusal 3); type clear first", session.profile.firm);
+                self.bench = Bench::Armed(session);
+                return Err(advice);
+            }
+        };
+        let text = files::profile(file)?;
+        let armed = unit.arm(&text).map_err(|refused| not_armed(file, &text, refused.why))?;
+        Ok(self.begin(Session::new(armed, &text)))
+    }
+
+    /// Begins a day, and says with what.
+    fn begin(&mut self, session: Session) -> String {
+        let profile = &session.profile;
+        let (rules, roots) = (session.unit.rule_count(), session.unit.root_count());
+        let names = if profile.roots.is_empty() { String::new() } else { format!(": {}", listed(&profile.roots)) };
+        let text = format!(
+            "armed for firm {}, {} and {}{names}  [armed {} {rules} {roots}]",
+            profile.firm,
+            counted(rules, "rule"),
+            counted(roots, "root"),
+            profile.firm
+        );
+        self.bench = Bench::Armed(Box::new(session));
+        text
+    }
+
+    /// Passes the event that the words ask for.
+    fn pass(&mut self, asked: impl FnOnce(Names) -> Result<Event, String>) -> Result<String, String> {
+        let session = self.session()?;
+        let event = asked(Names { profile: &session.profile, clock: session.unit.clock() })?;
+        let passed = session.pass(event);
+        Ok(answer::answer(session, &passed))
+    }
+
+    fn remaining(&mut self, words: &[String]) -> Result<String, String> {
+        let session = self.session()?;
+        let (time, shown) = Names { profile: &session.profile, clock: session.unit.clock() }.table(words)?;
+        table::rules(session, time, shown).map_err(|refusal| {
+            let clock = crate::words::time(session.unit.clock());
+            format!("{refusal}; type remaining, or a time from {clock} on")
+        })
+    }
+
+    fn clear(&mut self) -> String {
+        let before = std::mem::take(self).bench;
+        if let Bench::Armed(session) = before {
+            self.bench = Bench::Unarmed(session.unit.clear());
+        }
+        "cleared: the unit holds no rules, and nothing may pass until it is armed  [0]".to_string()
+    }
+
+    fn save(&mut self, file: &str) -> Result<String, String> {
+        let session = self.session()?;
+        files::write_records(file, &session.events)?;
+        Ok(format!("saved {} to {file}", counted(session.events.len(), "record")))
+    }
+
+    fn report(&mut self, file: &str, stretch: Option<(String, String)>) -> Result<String, String> {
+        let session = self.session()?;
+        let names = Names { profile: &session.profile, clock: session.unit.clock() };
+        let stretch = stretch.map(|(from, to)| names.stretch(&from, &to)).transpose()?;
+        let page = report::page(&session.profile, &session.events, stretch)?;
+        files::write_page(file, &page)?;
+        Ok(format!("wrote a page on {} to {file}", counted(session.events.len(), "event")))
+    }
+
+    fn replay(&mut self, file: &str, quiet: bool, out: &mut dyn Write) -> io::Result<Result<String, String>> {
+        let session = match self.session() {
+            Ok(session) => session,
+            Err(advice) => return Ok(Err(advice)),
+        };
+        let bytes = match files::day(file) {
+            Ok(bytes) => bytes,
+            Err(advice) => return Ok(Err(advice)),
+        };
+        let clock = session.unit.clock();
+        let mut sums = Sums::default();
+        for record in Records::new(&bytes) {
+            let passed = match record {
+                Ok(event) => session.pass(event),
+                Err(_) => session.pass_faulty(),
+            };
+            sums.add(&passed);
+            if !quiet || passed.is_notable() {
+                writeln!(out, "{}", answer::replayed(session, &passed))?;
+            }
+        }
+        let late = matches!(Records::new(&bytes).next(), Some(Ok(first)) if first.time() < clock);
+        let advice =
+            if late { "; that day begins before the unit's clock: type clear and arm FILE to replay it from its start" } else { "" };
+        Ok(Ok(format!("{}{advice}", sums.words())))
+    }
+}
+
+/// What a replay came to.
+#[derive(Default)]
+struct Sums {
+    all: usize,
+    cuts: usize,
+    trips: usize,
+    rejected: usize,
+    refused: usize,
+}
+
+impl Sums {
+    fn add(&mut self, passed: &Passed) {
+        self.all += 1;
+        self.cuts += usize::from(passed.is_cut());
+        match &passed.answer {
+            Ok(answer) => {
+                self.trips += usize::from(answer.root_trip) + usize::from(answer.firm_trip);
+                self.rejected += usize::from(!answer.verdict.passes());
+            }
+            Err(_) => self.refused += 1,
+        }
+    }
+
+    fn words(&self) -> String {
+        format!(
+            "replayed {}: {}, {}, {} rejected, {} refused",
+            counted(self.all, "record"),
+            counted(self.cuts, "cut"),
+            counted(self.trips, "trip"),
+            self.rejected,
+            self.refused
+        )
+    }
+}
+
+/// Why a profile was not accepted, with the line itself.
+fn not_armed(file: &str, text: &[u8], why: ArmRefusal) -> String {
+    let line = why.line.unwrap_or(0);
+    let numbers = format!("[refused {} {line}]", why.refusal.number());
+    let shown = why.line.and_then(|line| text.split(|byte| *byte == b'\n').nth(line as usize - 1));
+    match shown {
+        Some(bytes) => {
+            let content: String = crate::lines::plain(&String::from_utf8_lossy(bytes)).chars().take(100).collect();
+            format!("{why}\n  {line} | {content}\nnot armed; mend line {line} of {file} and type arm {file}  {numbers}")
+        }
+        None => format!("{why}\nnot armed; put 1 to 65,536 bytes of rules into {file} and type arm {file}  {numbers}"),
+    }
+}

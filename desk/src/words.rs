@@ -1,0 +1,182 @@
+//! Times, premiums, amounts and units as people type and read them.
+
+use mbrumzheg::{Contracts, Premium, Reset, Time, UnitOfRoot};
+use std::fmt;
+
+/// An amount of what a rule counts, to be read by a person.
+#[derive(Clone, Copy, Debug, PartialEq, Eq)]
+pub enum Amount {
+    /// Ten-thousandths of a dollar.
+    Dollars(u64),
+    /// Contracts or executions.
+    Pieces(u64),
+}
+
+impl fmt::Display for Amount {
+    fn fmt(&self, f: &mut fmt::Formatter<'_>) -> fmt::Result {
+        match *self {
+            Amount::Dollars(n) => f.pad(&format!("${}", dollars(n))),
+            Amount::Pieces(n) => f.pad(&grouped(n)),
+        }
+    }
+}
+
+/// A number with a comma between thousands.
+pub fn grouped(number: u64) -> String {
+    let digits = number.to_string();
+    let mut text = String::new();
+    for (place, digit) in digits.chars().enumerate() {
+        if place > 0 && (digits.len() - place) % 3 == 0 {
+            text.push(',');
+        }
+        text.push(digit);
+    }
+    text
+}
+
+/// Ten-thousandths as dollars: whole, with cents, or with all four places, whichever says it all.
+pub fn dollars(n: u64) -> String {
+    let (whole, rest) = (grouped(n / 10_000), n % 10_000);
+    match rest {
+        0 => whole,
+        rest if rest % 100 == 0 => format!("{whole}.{:02}", rest / 100),
+        rest => format!("{whole}.{rest:04}"),
+    }
+}
+
+/// A premium as it is typed: at least cents.
+pub fn premium(premium: Premium) -> String {
+    let n = premium.ten_thousandths();
+    let (whole, rest) = (n / 10_000, n % 10_000);
+    if rest % 100 == 0 {
+        format!("{whole}.{:02}", rest / 100)
+    } else {
+        format!("{whole}.{rest:04}")
+    }
+}
+
+/// A stretch of milliseconds in the largest unit that says it whole.
+pub fn span(ms: u64) -> String {
+    match ms {
+        0 => "0 ms".to_string(),
+        ms if ms % 3_600_000 == 0 => format!("{} h", ms / 3_600_000),
+        ms if ms % 60_000 == 0 => format!("{} min", ms / 60_000),
+        ms if ms % 1_000 == 0 => format!("{} s", ms / 1_000),
+        ms => format!("{} ms", grouped(ms)),
+    }
+}
+
+/// A time of the day: milliseconds below ten seconds, as at a bench, and the clock's face from there on.
+pub fn time(time: Time) -> String {
+    let ms = time.ms();
+    if ms < 10_000 {
+        return format!("{ms}ms");
+    }
+    let (hours, minutes, seconds) = (ms / 3_600_000, ms / 60_000 % 60, ms / 1_000 % 60);
+    format!("{hours:02}:{minutes:02}:{seconds:02}.{:03}", ms % 1_000)
+}
+
+/// A unit in the words that the desk takes.
+pub fn unit(unit: UnitOfRoot) -> &'static str {
+    match unit {
+        UnitOfRoot::CallsFront => "call front",
+        UnitOfRoot::CallsTrailing => "call trailing",
+        UnitOfRoot::PutsFront => "put front",
+        UnitOfRoot::PutsTrailing => "put trailing",
+    }
+}
+
+/// A reset in the words that the desk takes; nothing for none.
+pub fn reset(reset: Reset) -> &'static str {
+    match reset {
+        Reset::None => "",
+        Reset::Symbol => " reset symbol",
+        Reset::Firm => " reset firm",
+        Reset::Both => " reset both",
+    }
+}
+
+/// How a time may be typed, for error messages.
+pub const TIME_FORMS: &str = "a time like 10ms, 2.5s, 09:30, 09:30:00.250, now, or +10ms for 10 ms after the clock";
+
+/// Reads a time: from midnight, of the clock's face, or from the unit's clock.
+pub fn read_time(word: &str, clock: Time) -> Result<Time, String> {
+    let wrong = || format!("'{word}' is no time; type {TIME_FORMS}");
+    let ms = match word.strip_prefix('+') {
+        Some(after) => clock.ms().checked_add(read_span(after).ok_or_else(wrong)?).ok_or_else(wrong)?,
+        None if word.eq_ignore_ascii_case("now") => clock.ms(),
+        None if word.contains(':') => read_face(word).ok_or_else(wrong)?,
+        None => read_span(word).ok_or_else(wrong)?,
+    };
+    Time::from_ms(ms).map_err(|_| format!("'{word}' is past the end of the day; the last time is 23:59:59.999"))
+}
+
+/// Whether a word is meant as a time: no name of a root has a small letter, a colon or a plus.
+pub fn looks_like_time(word: &str) -> bool {
+    word == "now"
+        || word.starts_with('+')
+        || word.contains(':')
+        || (word.starts_with(|c: char| c.is_ascii_digit()) && word.ends_with(|c: char| c.is_ascii_lowercase()))
+}
+
+/// `10ms`, `2.5s`, `3min`, `1h` as milliseconds.
+fn read_span(word: &str) -> Option<u64> {
+    let end = word.find(|c: char| c.is_ascii_alphabetic())?;
+    let (number, unit) = word.split_at(end);
+    let thousandths = read_decimal(number, 3)?;
+    let scale: u64 = match unit {
+        "ms" => 1,
+        "s" => 1_000,
+        "min" => 60_000,
+        "h" => 3_600_000,
+        _ => return None,
+    };
+    let all = thousandths.checked_mul(scale)?;
+    (all % 1_000 == 0).then_some(all / 1_000)
+}
+
+/// `09:30`, `09:30:15` or `09:30:15.250` as milliseconds.
+fn read_face(word: &str) -> Option<u64> {
+    let mut parts = word.split(':');
+    let hours = read_below(parts.next()?, 24)?;
+    let minutes = read_below(parts.next()?, 60)?;
+    let ms = match parts.next() {
+        Some(seconds) => read_decimal(seconds, 3).filter(|ms| *ms < 60_000)?,
+        None => 0,
+    };
+    parts.next().is_none().then_some(hours * 3_600_000 + minutes * 60_000 + ms)
+}
+
+fn read_below(word: &str, end: u64) -> Option<u64> {
+    read_decimal(word, 0).filter(|n| *n < end)
+}
+
+/// Reads a premium in dollars, with at most four places after the point.
+pub fn read_premium(word: &str) -> Result<Premium, String> {
+    let number = word.strip_prefix('$').unwrap_or(word);
+    read_decimal(number, 4)
+        .and_then(|n| Premium::from_ten_thousandths(n).ok())
+        .ok_or_else(|| format!("'{word}' is no premium; type dollars from 0.0001 to 10000, like 7.00"))
+}
+
+/// Reads a number of contracts.
+pub fn read_contracts(word: &str) -> Result<Contracts, String> {
+    read_decimal(word, 0)
+        .and_then(|n| Contracts::new(n).ok())
+        .ok_or_else(|| format!("'{word}' is no number of contracts; type 1 to 1000000"))
+}
+
+/// Digits, commas between them allowed, with at most so many after a point, as a number of the last place.
+fn read_decimal(word: &str, places: u32) -> Option<u64> {
+    let (whole, part) = word.split_once('.').unwrap_or((word, ""));
+    let well_placed = |text: &str| text.bytes().all(|b| b.is_ascii_digit() || b == b',');
+    if whole.is_empty() || !whole.starts_with(|c: char| c.is_ascii_digit()) || !well_placed(whole) {
+        return None;
+    }
+    if part.len() > places as usize || !part.bytes().all(|b| b.is_ascii_digit()) || word.ends_with('.') {
+        return None;
+    }
+    let digits: String = whole.chars().filter(|c| *c != ',').chain(part.chars()).collect();
+    let missing = places - part.len() as u32;
+    digits.parse::<u64>().ok()?.checked_mul(10u64.pow(missing))
+}

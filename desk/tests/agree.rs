@@ -1,0 +1,208 @@
+//! What the desk works out by itself agrees with what the library answers, on random profiles and days.
+mod common;
+use common::{event, profile, Dice};
+use desk::answer;
+use desk::asked::Names;
+use desk::command::{self, Command};
+use desk::day::{Day, Kind};
+use desk::profile::{Profile, Rule, Scope};
+use desk::session::Session;
+use mbrumzheg::{Event, Offer, Reset, Time, Unit, Verdict};
+
+fn session(text: &str) -> Session {
+    let unit = Unit::new().arm(text).unwrap_or_else(|refused| panic!("{refused}\n{text}"));
+    Session::new(unit, text.as_bytes())
+}
+
+#[test]
+fn the_reading_of_an_accepted_profile_is_the_librarys() {
+    for seed in 0..2_000 {
+        let text = profile(&mut Dice::new(seed));
+        let session = session(&text);
+        assert_eq!(session.unit.firm().as_str(), session.profile.firm);
+        assert_eq!(session.unit.rule_count(), session.profile.rules.len());
+        let names: Vec<String> = session.unit.roots().map(|(_, name)| name.to_string()).collect();
+        assert_eq!(names, session.profile.roots, "{text}");
+        for rule in &session.profile.rules {
+            assert_eq!(session.unit.remaining(Time::START, rule.number), Ok(rule.limit), "{text}");
+        }
+    }
+}
+
+#[test]
+fn the_rules_that_cut_are_those_that_the_grant_shows() {
+    let (mut cuts, mut reached) = (0, 0);
+    for seed in 0..400 {
+        let mut dice = Dice::new(seed);
+        let mut session = session(&profile(&mut dice));
+        for _ in 0..60 {
+            let next = event(&mut dice, session.unit.clock().ms(), session.unit.root_count() as u64);
+            let Event::Offer(offer) = next else {
+                session.pass(next);
+                continue;
+            };
+            let least = session.least_allowance(&offer);
+            let passed = session.pass(next);
+            let Ok(answer) = passed.answer else { continue };
+            if answer.verdict != Verdict::Free {
+                assert!(passed.cut_by.is_empty() && passed.reached.is_empty());
+                continue;
+            }
+            assert_eq!(u64::from(answer.grant), least);
+            assert_eq!(passed.is_cut(), !passed.cut_by.is_empty());
+            let tripped: Vec<usize> = passed.cut_by.iter().chain(&passed.reached).copied().collect();
+            let of_firm = |number: &usize| session.profile.rules[*number].scope == Scope::Firm;
+            assert_eq!(answer.firm_trip, tripped.iter().any(of_firm));
+            assert_eq!(answer.root_trip, tripped.iter().any(|number| !of_firm(number)));
+            assert_eq!(passed.covered, session.profile.covering(&offer).next().is_some());
+            cuts += passed.cut_by.len();
+            reached += passed.reached.len();
+        }
+    }
+    assert!(cuts > 500 && reached > 100, "the days have {cuts} cuts and {reached} limits reached");
+}
+
+#[test]
+fn a_replayed_day_has_the_same_answers() {
+    for seed in 0..100 {
+        let mut dice = Dice::new(seed);
+        let text = profile(&mut dice);
+        let (mut first, mut second) = (session(&text), session(&text));
+        let mut lines = Vec::new();
+        for _ in 0..60 {
+            let next = event(&mut dice, first.unit.clock().ms(), first.unit.root_count() as u64);
+            let passed = first.pass(next);
+            lines.push(answer::replayed(&first, &passed));
+        }
+        let bytes: Vec<u8> = first.events.iter().flat_map(Event::to_record).collect();
+        let again: Vec<String> = mbrumzheg::Records::new(&bytes)
+            .map(|record| {
+                let passed = second.pass(record.expect("a saved record is good"));
+                answer::replayed(&second, &passed)
+            })
+            .collect();
+        assert_eq!(lines, again);
+        assert_eq!(first.unit.memory(), second.unit.memory());
+    }
+}
+
+#[test]
+fn an_event_typed_as_it_is_shown_is_the_same_event() {
+    let mut dice = Dice::new(9);
+    let profile = Profile::of_accepted(b"ABCD,abs_vol,XYZ,1000\nABCD,abs_vol,7,5\nABCD,abs_vol,NOW,5\nABCD,abs_vol,FIRM,5");
+    for _ in 0..5_000 {
+        let clock = dice.pick(&[0, 9_990, 60_000, 34_200_000, 86_399_000]);
+        let asked = event(&mut dice, clock, 4);
+        if asked.root().is_some_and(|root| root.number() > 3) {
+            continue;
+        }
+        let shown = answer::typed(&profile, &asked);
+        let names = Names { profile: &profile, clock: Time::START };
+        let typed = match command::read(&shown) {
+            Ok(Command::Offer(words)) => names.offer(&words),
+            Ok(Command::Order(words)) => names.order(&words),
+            Ok(Command::Lock(words)) => names.lockout(&words),
+            other => panic!("{shown}: {other:?}"),
+        };
+        assert_eq!(typed, Ok(asked), "{shown}");
+    }
+}
+
+/// A fill that was granted, and whether each level still counts it.
+struct Fill {
+    offer: Offer,
+    granted: u64,
+    counts: [bool; 2],
+}
+
+/// What a rule has used at a time, by the scope paper's words and from the grants alone.
+fn used(rule: &Rule, fills: &[Fill], ms: u64) -> u64 {
+    let level = usize::from(rule.scope == Scope::Firm);
+    let inside = |fill: &&Fill| rule.window.is_none_or(|window| fill.offer.time.ms() + window > ms);
+    fills
+        .iter()
+        .filter(|fill| fill.counts[level] && rule.covers(&fill.offer))
+        .filter(inside)
+        .map(|fill| rule.adds(&fill.offer, fill.granted))
+        .sum()
+}
+
+/// The use that the page draws at a time: the last step that is not after it.
+fn drawn(steps: &[(u64, u64)], ms: u64) -> u64 {
+    steps.iter().take_while(|(at, _)| *at <= ms).last().map_or(0, |(_, used)| *used)
+}
+
+#[test]
+fn the_page_draws_the_use_that_the_grants_make() {
+    for seed in 0..150 {
+        let mut dice = Dice::new(seed);
+        let text = profile(&mut dice);
+        let mut session = session(&text);
+        let mut fills: Vec<Fill> = Vec::new();
+        // what each rule had used just after each moment of the day
+        let mut seen: Vec<(u64, Vec<u64>)> = Vec::new();
+        for _ in 0..50 {
+            let before = session.unit.clock().ms();
+            let next = event(&mut dice, before, session.unit.root_count() as u64);
+            let passed = session.pass(next);
+            let Ok(answer) = passed.answer else { continue };
+            let now = next.time().ms();
+            for ms in [before + 1, (before + now) / 2, now.saturating_sub(1)] {
+                if before < ms && ms < now {
+                    seen.push((ms, session.profile.rules.iter().map(|rule| used(rule, &fills, ms)).collect()));
+                }
+            }
+            match next {
+                Event::Offer(offer) if answer.grant > 0 => fills.push(Fill { offer, granted: answer.grant.into(), counts: [true; 2] }),
+                Event::Order { root, reset, .. } => forget(&mut fills, root.number(), reset),
+                _ => {}
+            }
+            seen.retain(|(ms, _)| *ms != now);
+            seen.push((now, session.profile.rules.iter().map(|rule| used(rule, &fills, now)).collect()));
+        }
+        let day = Day::replayed(&session.profile, &session.events).expect("a day");
+        for (ms, wanted) in &seen {
+            let drawn: Vec<u64> = day.uses.iter().map(|of_rule| drawn(&of_rule.steps, *ms)).collect();
+            assert_eq!(&drawn, wanted, "seed {seed} at {ms} ms\n{text}");
+        }
+        let (from, to) = (day.span.0 + dice.below(2_000), day.span.0 + 2_000 + dice.below(2_000));
+        let steps: Vec<Vec<(u64, u64)>> = day.uses.iter().map(|of_rule| of_rule.steps.clone()).collect();
+        let part = day.within(from, to);
+        for (whole, of_rule) in steps.iter().zip(&part.uses) {
+            assert!((from..=to).step_by(97).all(|ms| drawn(whole, ms) == drawn(&of_rule.steps, ms)), "a stretch draws what the day does");
+        }
+        assert!(part.uses.iter().all(|of_rule| of_rule.steps.windows(2).all(|pair| pair[0].0 <= pair[1].0)), "steps in order of time");
+    }
+}
+
+/// What a reset takes from the counts.
+fn forget(fills: &mut [Fill], root: u64, reset: Reset) {
+    for fill in fills {
+        if matches!(reset, Reset::Symbol | Reset::Both) && fill.offer.root.number() == root {
+            fill.counts[0] = false;
+        }
+        if matches!(reset, Reset::Firm | Reset::Both) {
+            fill.counts[1] = false;
+        }
+    }
+}
+
+#[test]
+fn the_page_marks_what_happened() {
+    let text = "ABCD,abs_vol,XYZ,1000\nABCD,abs_vol,QQQ,5";
+    let profile = Profile::of_accepted(text.as_bytes());
+    let mut made = session(text);
+    let mut dice = Dice::new(1);
+    for _ in 0..40 {
+        let next = event(&mut dice, made.unit.clock().ms(), 2);
+        made.pass(next);
+    }
+    let day = Day::replayed(&profile, &made.events).expect("a day");
+    let count = |kind| day.lanes.iter().flat_map(|lane| &lane.marks).filter(|mark| mark.kind == kind).count();
+    let [cuts, trips, rejected, _] = day.sums.outcomes;
+    assert_eq!((count(Kind::Cut), count(Kind::Trip), count(Kind::Rejected)), (cuts, trips, rejected));
+    assert!(cuts > 0 && trips >= cuts && rejected > 0 && count(Kind::Reset) > 0 && count(Kind::Lockout) > 0);
+    for lane in &day.lanes {
+        assert!(lane.locked.iter().all(|(from, to)| from <= to));
+    }
+}

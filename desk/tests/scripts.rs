@@ -1,0 +1,120 @@
+//! Runs every script in `tests/scripts` through the program and compares what it prints with the file of expected lines.
+use std::fs;
+use std::path::{Path, PathBuf};
+use std::process::{Command, Output, Stdio};
+
+fn folder() -> PathBuf {
+    Path::new(env!("CARGO_MANIFEST_DIR")).join("tests/scripts")
+}
+
+/// A folder of its own with the profiles, in which a script may write.
+fn workplace(name: &str) -> PathBuf {
+    let place = std::env::temp_dir().join(format!("desk-{name}-{}", std::process::id()));
+    fs::create_dir_all(&place).expect("a folder");
+    for entry in fs::read_dir(folder()).expect("scripts") {
+        let path = entry.expect("a file").path();
+        fs::copy(&path, place.join(path.file_name().expect("a name"))).expect("copied");
+    }
+    place
+}
+
+fn desk(place: &Path) -> Command {
+    let mut command = Command::new(env!("CARGO_BIN_EXE_desk"));
+    command.current_dir(place);
+    command
+}
+
+fn text(bytes: &[u8]) -> String {
+    String::from_utf8(bytes.to_vec()).expect("the desk writes text")
+}
+
+/// Runs a script and compares; answers what the program did.
+fn compare(name: &str) -> Output {
+    let place = workplace(name);
+    let output = desk(&place).arg(format!("{name}.desk")).output().expect("the desk runs");
+    let expected = fs::read_to_string(folder().join(format!("{name}.expected"))).expect("expected lines");
+    let printed = text(&output.stdout);
+    for (number, (line, wanted)) in printed.lines().zip(expected.lines()).enumerate() {
+        assert_eq!(line, wanted, "{name}: line {}", number + 1);
+    }
+    assert_eq!(printed, expected, "{name}");
+    fs::remove_dir_all(place).expect("removed");
+    output
+}
+
+#[test]
+fn scripts_print_what_is_expected() {
+    for name in ["example", "cuts", "trips", "locks", "replay", "help"] {
+        assert!(compare(name).status.success(), "{name}: every line was carried out");
+    }
+    for name in ["firm", "errors"] {
+        assert!(!compare(name).status.success(), "{name}: some lines were not carried out");
+    }
+}
+
+#[test]
+fn every_script_is_run() {
+    let scripts = fs::read_dir(folder()).expect("scripts").filter(|entry| {
+        let path = entry.as_ref().expect("a file").path();
+        path.extension().is_some_and(|extension| extension == "desk")
+    });
+    assert_eq!(scripts.count(), 8);
+}
+
+#[test]
+fn a_pipe_gives_what_a_script_gives() {
+    let place = workplace("pipe");
+    let script = fs::File::open(place.join("example.desk")).expect("a script");
+    let output = desk(&place).stdin(Stdio::from(script)).output().expect("the desk runs");
+    assert_eq!(text(&output.stdout), fs::read_to_string(folder().join("example.expected")).expect("expected lines"));
+    fs::remove_dir_all(place).expect("removed");
+}
+
+#[test]
+fn saved_records_are_the_scope_papers() {
+    let place = workplace("saved");
+    desk(&place).arg("example.desk").output().expect("the desk runs");
+    let bytes = fs::read(place.join("example.records")).expect("records");
+    assert_eq!(bytes.len(), 36);
+    assert_eq!(bytes[12..24], [0x40, 0, 0, 0x50, 0, 0x01, 0x11, 0x70, 0, 0x0C, 0x80, 0]);
+    fs::remove_dir_all(place).expect("removed");
+}
+
+#[test]
+fn a_reader_that_goes_away_ends_the_desk_quietly() {
+    let place = workplace("away");
+    let mut child = desk(&place).stdin(Stdio::piped()).stdout(Stdio::piped()).stderr(Stdio::piped()).spawn().expect("the desk runs");
+    drop(child.stdout.take());
+    drop(child.stdin.take().map(|mut input| std::io::Write::write_all(&mut input, b"help\nhelp\n")));
+    let output = child.wait_with_output().expect("ended");
+    assert_eq!(text(&output.stderr), "");
+    fs::remove_dir_all(place).expect("removed");
+}
+
+/// The profile and the commands of the dialogue in the README, run as they stand there.
+#[test]
+fn the_dialogue_in_the_readme_is_true() {
+    let readme = fs::read_to_string(Path::new(env!("CARGO_MANIFEST_DIR")).join("../README.md")).expect("the README");
+    let (_, from_profile) = readme.split_once("```\n$ cat profile\n").expect("the profile is shown");
+    let (dialogue, _) = from_profile.split_once("```\n").expect("the dialogue ends");
+    let (profile, spoken) = dialogue.split_once("$ desk\n").expect("a call of the desk");
+    let place = workplace("dialogue");
+    fs::write(place.join("profile"), profile).expect("written");
+    let commands: String = spoken.lines().filter_map(|line| line.strip_prefix("> ")).map(|line| format!("{line}\n")).collect();
+    fs::write(place.join("dialogue"), commands).expect("written");
+    let output = desk(&place).arg("dialogue").output().expect("the desk runs");
+    assert_eq!(text(&output.stdout), spoken);
+    fs::remove_dir_all(place).expect("removed");
+}
+
+#[test]
+fn the_page_of_recorded_events_can_be_had_in_one_call() {
+    let place = workplace("page");
+    desk(&place).arg("example.desk").output().expect("the desk runs");
+    let output = desk(&place).args(["report", "example-profile", "example.records", "page.html"]).output().expect("the desk runs");
+    assert!(output.status.success());
+    assert!(fs::read_to_string(place.join("page.html")).expect("a page").contains("<h1>Risk day of firm ABCD</h1>"));
+    let output = desk(&place).args(["report", "example-profile"]).output().expect("the desk runs");
+    assert!(!output.status.success() && text(&output.stderr).starts_with("usage: desk"));
+    fs::remove_dir_all(place).expect("removed");
+}

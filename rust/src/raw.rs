@@ -1,0 +1,120 @@
+//! The calls as the library exports them: numbers and slices in, a row of five numbers out, the refusal first.
+//!
+//! Nothing here is unsafe to call: the library checks every number and the whole memory itself. The types of the rest of this
+//! crate are the better way in; these functions are for whoever has numbers, as a comparison with another program does.
+
+/// How many 64-bit numbers the state takes. More may be lent; the rest is neither read nor written.
+pub const SIZE: usize = 1866;
+
+/// An answer: five numbers, the refusal first (0 if the call was not refused).
+pub type Row = [u64; 5];
+
+/// An event's numbers: kind, time, root, unit, premium, contracts, reset, level. One that its kind does not use is 0.
+pub type EventNumbers = [u64; 8];
+
+mod exported {
+    use super::Row;
+    /// What reading a record answers: the refusal, then the event's numbers.
+    pub type Reading = [u64; 9];
+    extern "C" {
+        pub fn mbrumzheg_arm(m: *mut u64, len: usize, text: *const u8, text_len: usize, row: *mut Row);
+        pub fn mbrumzheg_clear(m: *mut u64, len: usize, row: *mut Row);
+        pub fn mbrumzheg_order(m: *mut u64, len: usize, time: u64, root: u64, reset: u64, row: *mut Row);
+        pub fn mbrumzheg_lockout(m: *mut u64, len: usize, time: u64, level: u64, root: u64, row: *mut Row);
+        pub fn mbrumzheg_offer(m: *mut u64, len: usize, time: u64, root: u64, unit: u64, premium: u64, contracts: u64, row: *mut Row);
+        pub fn mbrumzheg_remaining(m: *const u64, len: usize, time: u64, rule: u64, row: *mut Row);
+        pub fn mbrumzheg_status(m: *const u64, len: usize, row: *mut Row);
+        pub fn mbrumzheg_text(verdict: u64, room: *mut u8, len: usize, row: *mut Row);
+        pub fn mbrumzheg_read_record(bytes: *const u8, len: usize, row: *mut Reading);
+        pub fn mbrumzheg_write_record(
+            kind: u64,
+            time: u64,
+            root: u64,
+            unit: u64,
+            premium: u64,
+            contracts: u64,
+            reset: u64,
+            level: u64,
+            room: *mut u8,
+            len: usize,
+            row: *mut Row,
+        );
+    }
+}
+
+// SAFETY, of every call below: a slice's pointer and length are lent for the call alone, the library keeps neither, and the
+// row that it writes is five numbers.
+
+/// Arms memory from a profile: refusal, line, firm's name as a number, rules, roots.
+pub fn arm(memory: &mut [u64], profile: &[u8]) -> Row {
+    let mut row = [0; 5];
+    unsafe { exported::mbrumzheg_arm(memory.as_mut_ptr(), memory.len(), profile.as_ptr(), profile.len(), &mut row) };
+    row
+}
+
+/// Sets the state to zeros, whatever it held: refusal.
+pub fn clear(memory: &mut [u64]) -> Row {
+    let mut row = [0; 5];
+    unsafe { exported::mbrumzheg_clear(memory.as_mut_ptr(), memory.len(), &mut row) };
+    row
+}
+
+/// An order: refusal, verdict.
+pub fn order(memory: &mut [u64], time: u64, root: u64, reset: u64) -> Row {
+    let mut row = [0; 5];
+    unsafe { exported::mbrumzheg_order(memory.as_mut_ptr(), memory.len(), time, root, reset, &mut row) };
+    row
+}
+
+/// A lockout by the user: refusal, verdict.
+pub fn lockout(memory: &mut [u64], time: u64, level: u64, root: u64) -> Row {
+    let mut row = [0; 5];
+    unsafe { exported::mbrumzheg_lockout(memory.as_mut_ptr(), memory.len(), time, level, root, &mut row) };
+    row
+}
+
+/// An offered fill: refusal, verdict, grant, root trip, firm trip.
+pub fn offer(memory: &mut [u64], time: u64, root: u64, unit: u64, premium: u64, contracts: u64) -> Row {
+    let mut row = [0; 5];
+    let (start, len) = (memory.as_mut_ptr(), memory.len());
+    unsafe { exported::mbrumzheg_offer(start, len, time, root, unit, premium, contracts, &mut row) };
+    row
+}
+
+/// What remains of a rule's limit: refusal, the number.
+pub fn remaining(memory: &[u64], time: u64, rule: u64) -> Row {
+    let mut row = [0; 5];
+    unsafe { exported::mbrumzheg_remaining(memory.as_ptr(), memory.len(), time, rule, &mut row) };
+    row
+}
+
+/// How the roots stand: refusal, tripped, locked by the user, locked at all, the lowest locked root (64 if none).
+pub fn status(memory: &[u64]) -> Row {
+    let mut row = [0; 5];
+    unsafe { exported::mbrumzheg_status(memory.as_ptr(), memory.len(), &mut row) };
+    row
+}
+
+/// Writes the text for verdict 1 or 2 into the room: refusal, how many bytes.
+pub fn text(verdict: u64, room: &mut [u8]) -> Row {
+    let mut row = [0; 5];
+    unsafe { exported::mbrumzheg_text(verdict, room.as_mut_ptr(), room.len(), &mut row) };
+    row
+}
+
+/// Reads an event record: refusal, and the event's numbers (zeros if refused).
+pub fn read_record(bytes: &[u8]) -> (u64, EventNumbers) {
+    let mut row = [0; 9];
+    unsafe { exported::mbrumzheg_read_record(bytes.as_ptr(), bytes.len(), &mut row) };
+    let [refusal, numbers @ ..] = row;
+    (refusal, numbers)
+}
+
+/// Writes an event's record to the first 12 bytes of the room: refusal.
+pub fn write_record(event: EventNumbers, room: &mut [u8]) -> Row {
+    let mut row = [0; 5];
+    let [kind, time, root, unit, premium, contracts, reset, level] = event;
+    let (start, len) = (room.as_mut_ptr(), room.len());
+    unsafe { exported::mbrumzheg_write_record(kind, time, root, unit, premium, contracts, reset, level, start, len, &mut row) };
+    row
+}

@@ -1,0 +1,109 @@
+//! The typed calls against the independent second program, on random days: answers, Remaining, Status, clock, names and marks.
+use mbrumzheg::{Armed, Contracts, Event, Level, Offer, Premium, Reset, Root, Time, Unit, UnitOfRoot};
+
+/// Numbers that look random and are the same on every run.
+struct Dice(u64);
+
+impl Dice {
+    fn below(&mut self, end: u64) -> u64 {
+        self.0 = self.0.wrapping_mul(6_364_136_223_846_793_005).wrapping_add(1_442_695_040_888_963_407);
+        (self.0 >> 24) % end
+    }
+
+    fn pick<T: Copy>(&mut self, among: &[T]) -> T {
+        among[self.below(among.len() as u64) as usize]
+    }
+}
+
+/// A profile that is accepted, of root rules and firm rules.
+fn profile(dice: &mut Dice) -> String {
+    let mut text = String::new();
+    for _ in 0..1 + dice.below(8) {
+        let kind = dice.pick(&["rate_ntnl", "rate_vol", "rate_count", "abs_ntnl", "abs_vol", "abs_count"]);
+        let limit = dice.pick(&[1, 7, 60, 400, 3_000]);
+        let window = dice.pick(&["", "0", "150", "1000"]);
+        let place = text.lines().count() as u64;
+        match dice.below(4) {
+            0 => text.push_str(&format!("ABCD,{kind},,{limit},{window},T\n")),
+            // two rules a root, so that none has too many
+            _ => text.push_str(&format!("ABCD,{kind},R{},{limit},{window}{}\n", place / 2, dice.pick(&["", ",,C,F", ",,P,T"]))),
+        }
+    }
+    text
+}
+
+fn event(dice: &mut Dice, clock: u64) -> Event {
+    let back = u64::from(dice.below(30) == 0);
+    let time = Time::from_ms((clock + dice.pick(&[0, 0, 3, 60, 200])).saturating_sub(back)).expect("a time");
+    let root = Root::new(dice.below(5)).expect("a root");
+    match dice.below(12) {
+        0 => Event::Lockout { time, level: dice.pick(&[Level::Firm, Level::Root(root)]) },
+        1..=4 => Event::Order { time, root, reset: dice.pick(&Reset::ALL) },
+        _ => Event::Offer(Offer {
+            time,
+            root,
+            unit: dice.pick(&UnitOfRoot::ALL),
+            premium: Premium::from_ten_thousandths(dice.pick(&[1, 9_999, 20_000, 100_000_000])).expect("a premium"),
+            contracts: Contracts::new(dice.pick(&[1, 5, 50, 1_000])).expect("contracts"),
+        }),
+    }
+}
+
+/// What the second program answers to the same event: refusal, verdict, grant, root trip, firm trip.
+fn answered(unit: &mut second::unit::Unit, event: &Event) -> [u64; 5] {
+    match *event {
+        Event::Order { time, root, reset } => unit.order(time.ms(), root.number(), reset.number()),
+        Event::Lockout { time, level } => unit.lockout(time.ms(), level.number(), level.root_number()),
+        Event::Offer(Offer { time, root, unit: of_root, premium, contracts }) => {
+            unit.offer(time.ms(), root.number(), of_root.number(), premium.ten_thousandths(), contracts.count())
+        }
+    }
+    .numbers()
+}
+
+/// What may be asked of a unit is the same in both.
+fn compare(unit: &Unit<Box<[u64]>, Armed>, other: &second::unit::Unit) {
+    let armed = other.armed.as_ref().expect("armed");
+    assert_eq!(unit.clock().ms(), armed.clock);
+    let status = unit.status().expect("a sound state");
+    let lowest = status.lowest_locked.map_or(64, |root| root.number());
+    let counts = [status.tripped, status.locked_by_user, status.locked].map(u64::from);
+    assert_eq!([0, counts[0], counts[1], counts[2], lowest], other.status().numbers());
+    let marks = unit.firm_marks();
+    assert_eq!((marks.tripped, marks.locked_by_user), (armed.firm.tripped, armed.firm.user));
+    assert_eq!(unit.root_count(), armed.roots.len());
+    for ((root, name), (marks, known)) in unit.roots().zip(armed.roots.iter().zip(&armed.profile.roots)) {
+        assert_eq!(name.as_str().as_bytes(), known);
+        assert_eq!((unit.root_marks(root).tripped, unit.root_marks(root).locked_by_user), (marks.tripped, marks.user));
+    }
+    for rule in 0..=unit.rule_count() {
+        for later in [0, 1, 149, 1_000] {
+            let time = Time::from_ms(armed.clock + later).expect("a time");
+            let wanted = other.remaining(time.ms(), rule as u64).numbers();
+            assert_eq!(unit.remaining(time, rule).map_or_else(|refusal| [refusal.number(), 0], |left| [0, left]), wanted);
+        }
+    }
+}
+
+#[test]
+fn random_days_are_answered_as_the_second_program_answers_them() {
+    let mut seen = [0; 5];
+    for seed in 0..300 {
+        let mut dice = Dice(seed);
+        let text = profile(&mut dice);
+        let mut unit = Unit::new().arm(&text).unwrap_or_else(|refused| panic!("{refused}\n{text}"));
+        let mut other = second::unit::Unit::new();
+        assert_eq!(other.arm(text.as_bytes()).refusal, 0);
+        for _ in 0..60 {
+            let next = event(&mut dice, unit.clock().ms());
+            let row = match unit.answer(next) {
+                Ok(a) => [0, a.verdict.number(), a.grant.into(), a.root_trip.into(), a.firm_trip.into()],
+                Err(refusal) => [refusal.number(), 0, 0, 0, 0],
+            };
+            assert_eq!(row, answered(&mut other, &next), "{next:?}\n{text}");
+            compare(&unit, &other);
+            seen.iter_mut().zip(row).for_each(|(count, number)| *count += u64::from(number > 0));
+        }
+    }
+    assert!(seen.iter().all(|count| *count > 100), "refusals, verdicts, grants and trips came up: {seen:?}");
+}
