@@ -15,11 +15,11 @@ use Rattle.tables.specs.Tables.{zeros, every}
 use Rattle.tables.proofs.Tables.{length-zeros}
 use Rattle.profile.specs.Profile.{outcomeOf}
 use Rattle.state.specs.State.{State, size, decode, armedState}
-use Rattle.machine.specs.Machine.{Call, offer, remaining, status, verdictOf, grantOf, leftOf, noAccount, refusalOf, judged, acted, unless, step}
+use Rattle.machine.specs.Machine.{Call, offer, remaining, status, verdictOf, grantOf, leftOf, noAccount, refusalOf, judged, acted, unless, step, covering}
 use Rattle.machine.specs.declared.Offer.{Offer}
 use Rattle.machine.specs.declared.Answer.{Answer}
 use Rattle.machine.specs.declared.Answer.the-variants.{Refused, Judged, Left, Standing as Stand}
-use Rattle.machine.proofs.Grants.{covering, grant-largest}
+use Rattle.machine.proofs.Grants.{grant-largest}
 use Rattle.calls.specs.Calls.{memoryRefusal, callAnswer, isRefusal}
 use Rattle.calls.proofs.Armed.{refusal-unarmed}
 use Rattle.promises.proofs.Holds.{ready-holds, holds-ready, acts-unrefused}

@@ -17,48 +17,40 @@ use Rattle.tables.specs.EntryPlace.{isEntry}
 use Rattle.tables.specs.declared.Entry.{Entry}
 use Rattle.state.specs.State.{State}
 use Rattle.state.specs.Sound.{SoundState}
-use Rattle.machine.specs.Machine.{flagOf, entryShare, sumOf, counted, coversOffer, grantOf, keep}
+use Rattle.machine.specs.Machine.{flagOf, entryShare, sumOf, counted, coversOffer, limitIn, covering, grantOf, keep}
 use Rattle.machine.specs.declared.Offer.{Offer}
 use Rattle.machine.proofs.Lists.{sum-most}
 
 module _ (log : List Entry) (o : Offer) where
-  -- a rule's limit, with what is counted against it
-  abbrev pub limitIn : Account → Limit × ℕ
-  limitIn a = (a .rule .limit, counted log (o .time) a)
-
   -- what such a limit allows of the offer
   abbrev pub allowed : Limit × ℕ → ℕ
   allowed l = allowance (l .0) (l .1) (o .premium) (o .contracts)
 
-  -- the limits of the rules that cover the offer
-  unfoldable pub covering : List Account → List (Limit × ℕ)
-  covering accounts = map limitIn (keep (λ a. coversOffer o (a .rule)) accounts)
-
-  least-of : (accounts : List Account) → grantOf log o accounts ≡ leastOf (o .contracts) (map allowed (covering accounts))
+  least-of : (accounts : List Account) → grantOf log o accounts ≡ leastOf (o .contracts) (map allowed (covering log o accounts))
   unfolding grantOf leastOf covering keep
   least-of [] = refl
   least-of (a ∷ rest) = go (coversOffer o (a .rule)) (keep (λ b. coversOffer o (b .rule)) rest) (least-of rest)
     where
-      go : (b : Bool) (more : List Account) {n : ℕ} → n ≡ leastOf (o .contracts) (map allowed (map limitIn more))
-          → cond b (min (allowed (limitIn a)) n) n ≡ leastOf (o .contracts) (map allowed (map limitIn (cond b (a ∷ more) more)))
-      go true more e = ap (min (allowed (limitIn a))) e
+      go : (b : Bool) (more : List Account) {n : ℕ} → n ≡ leastOf (o .contracts) (map allowed (map (limitIn log o) more))
+          → cond b (min (allowed (limitIn log o a)) n) n ≡ leastOf (o .contracts) (map allowed (map (limitIn log o) (cond b (a ∷ more) more)))
+      go true more e = ap (min (allowed (limitIn log o a))) e
       go false more e = e
 
   -- the grant is the largest number up to the offer that keeps every covering limit
-  pub grant-largest : (accounts : List Account) → Largest (KeepsAll (covering accounts) (o .premium)) (o .contracts) (grantOf log o accounts)
-  grant-largest accounts = rw (least-of accounts) (least-largest (covering accounts) (o .premium) (o .contracts))
+  pub grant-largest : (accounts : List Account) → Largest (KeepsAll (covering log o accounts) (o .premium)) (o .contracts) (grantOf log o accounts)
+  grant-largest accounts = rw (least-of accounts) (least-largest (covering log o accounts) (o .premium) (o .contracts))
 
   pub grant-le : (accounts : List Account) → grantOf log o accounts ≤ o .contracts
   grant-le accounts = grant-largest accounts .within
 
   -- what is within the grant is within what the first rule allows, if it covers the offer, and within the grant of the others
   pub grant-first : (n : ℕ) (a : Account) (rest : List Account) → n ≤ grantOf log o (a ∷ rest)
-      → (coversOffer o (a .rule) ≡ true → n ≤ allowed (limitIn a)) × (n ≤ grantOf log o rest)
+      → (coversOffer o (a .rule) ≡ true → n ≤ allowed (limitIn log o a)) × (n ≤ grantOf log o rest)
   unfolding grantOf
   grant-first n a rest = go (coversOffer o (a .rule))
     where
-      go : (b : Bool) → n ≤ cond b (min (allowed (limitIn a)) (grantOf log o rest)) (grantOf log o rest)
-          → (b ≡ true → n ≤ allowed (limitIn a)) × (n ≤ grantOf log o rest)
+      go : (b : Bool) → n ≤ cond b (min (allowed (limitIn log o a)) (grantOf log o rest)) (grantOf log o rest)
+          → (b ≡ true → n ≤ allowed (limitIn log o a)) × (n ≤ grantOf log o rest)
       go true h = (λ e. omega arith, omega arith)
       go false h = (λ e. absurd (false≢true e), h)
 

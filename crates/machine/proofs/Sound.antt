@@ -67,11 +67,12 @@ use Rattle.machine.specs.Machine.{
   acted,
   unless,
   step,
+  limitIn,
 }
 use Rattle.machine.proofs.Lists.{every-imp, every-map, every-keep, every-join, ordered-wider, ordered-map, ordered-keep, ordered-join}
 use Rattle.machine.proofs.Refusals.{Timely, Known, Accepted, orderable, lockable, accepted}
 use Rattle.machine.proofs.Profiles.{reset-profile, filled-profile}
-use Rattle.machine.proofs.Grants.{limitIn, allowed, grant-le, grant-first}
+use Rattle.machine.proofs.Grants.{allowed, grant-le, grant-first}
 
 -- what soundness asks of a log, with these rules, so many roots and this clock
 record Logged (rules : List Rule) (roots clock : ℕ) (log : List Entry) : Type 0 where

@@ -13,6 +13,7 @@ use Rattle.rules.specs.Allowance.{allowance, trips}
 use Rattle.rules.specs.declared.Level.{Level}
 use Rattle.rules.specs.declared.Level.the-variants.{Firm, Root}
 use Rattle.rules.specs.declared.Scope.the-variants.{EveryFill}
+use Rattle.rules.specs.declared.Limit.{Limit}
 use Rattle.rules.specs.declared.Limit.the-variants.{Count}
 use Rattle.rules.specs.declared.Kind.{Kind}
 use Rattle.rules.specs.declared.Kind.the-variants.{Rate, Absolute}
@@ -122,6 +123,14 @@ counted log time a = countedOf (a .rule .kind) (a .total) (sumOf (entryShare (a 
 
 unfoldable pub coversOffer : Offer → Rule → Bool
 coversOffer o rule = covers (rule .scope) (o .root) (o .unit)
+
+-- a rule's limit, with what is counted against it at the offer's time
+abbrev pub limitIn : List Entry → Offer → Account → Limit × ℕ
+limitIn log o a = (a .rule .limit, counted log (o .time) a)
+
+-- the limits of the rules that cover the offer: what the grant has to keep
+unfoldable pub covering : List Entry → Offer → List Account → List (Limit × ℕ)
+covering log o accounts = map (limitIn log o) (keep (λ a. coversOffer o (a .rule)) accounts)
 
 -- the grant: the least allowance of the rules that cover the offer, or all of it if none does
 unfoldable pub grantOf : List Entry → Offer → List Account → ℕ
