@@ -22,6 +22,7 @@ use Rattle.state.proofs.Exactly.{sound-decode}
 use Rattle.machine.specs.declared.Offer.{Offer}
 use Rattle.machine.specs.declared.Answer.the-variants.{Judged}
 use Rattle.machine.specs.Machine.{offer, firstOf, badTime, isRoot, verdictOf, grantOf, levelTrips, longest, keep, recent, logPlaces, logFull, filled, ticked, refusalOf, judged, acted}
+use Rattle.reset.proofs.None.{ticked-stored}
 use Rattle.grant.specs.Grant.{Asked, AreCuts, Ready, HasRoom}
 use Rattle.grant.specs.declared.Cuts.{Cuts}
 use Rattle.grant.proofs.Trip.{grant-cuts}
@@ -143,10 +144,6 @@ module _ (xs : List ℕ) (ready : memoryRefusal xs ≡ 0) (o : Offer) (late : Bo
           free = v;
         }
 
-        stored-time : set xs 1 (o .time) ≡ stored (ticked (decode xs) (o .time)) xs
-        unfolding stored encode ticked
-        stored-time = ap (λ (l : List ℕ). set l 1 (o .time)) (laid xs ready .is)
-
         pub locked-out : (v : ℕ) → v ≡ verdictOf (decode xs) (o .root) → (v ≡ 0 → ⊥)
             → (Judged v 0 false false ≡ callAnswer xs (offer o)) × (set xs 1 (o .time) ≡ callMemory xs (offer o))
         unfolding refusalOf firstOf logFull acted judged isRefusal
@@ -159,4 +156,4 @@ module _ (xs : List ℕ) (ready : memoryRefusal xs ≡ 0) (o : Offer) (late : Bo
                 → (acted (decode xs) (offer o) .answer ≡ callAnswer xs (offer o)) × (stored (acted (decode xs) (offer o) .after) xs ≡ callMemory xs (offer o)))
                 → (Judged v 0 false false ≡ callAnswer xs (offer o)) × (set xs 1 (o .time) ≡ callMemory xs (offer o))
             go zero e z d = absurd (z refl)
-            go (suc v) e z d = let f = rw (← e) at d in (f refl .0, stored-time ∙ f refl .1)
+            go (suc v) e z d = let f = rw (← e) at d in (f refl .0, ticked-stored (laid xs ready) (o .time) ∙ f refl .1)

@@ -1,3 +1,4 @@
 pub mod Laid
 pub mod Wipes
 pub mod Resets
+pub mod None

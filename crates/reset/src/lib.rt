@@ -1,18 +1,20 @@
 // What an order's reset, a lockout and a question after what remains do to lent memory.
 ghost use mathlib.Core.Path.{_≡_};
-ghost use mathlib.Core.Bool.{cond};
+ghost use mathlib.Core.Bool.{true, cond};
 ghost use mathlib.Core.List.{map};
-ghost use Prim.Native.Nat.{_*_, _<_};
+ghost use Prim.Native.Nat.{ℕ, _*_, _<_};
 ghost use lib.ListN.{length, getD, drop};
 ghost use lib.Dec.{eqb};
 ghost use Rattle.bits.specs.Locks.{withBit, withoutBit};
-ghost use Rattle.rules.specs.Rules.{levelOf};
+ghost use Rattle.rules.specs.Rules.{levelOf, countedOf};
 ghost use Rattle.rules.specs.Resets.{zeroing, lifting};
 ghost use Rattle.rules.specs.declared.Level.the-variants.{Root};
-ghost use Rattle.tables.specs.RulePlace.{ruleAt};
-ghost use Rattle.state.specs.State.{stored, decode};
+ghost use Rattle.tables.specs.RulePlace.{ruleAt, isRule};
+ghost use Rattle.log.specs.Log.{entriesOf, entryShare, sumOf};
+ghost use Rattle.state.specs.State.{stored, logPart, decode};
 ghost use Rattle.state.specs.Laid.{Laid, withAccounts};
 ghost use Rattle.machine.specs.Machine.{verdictOf, levelNamed, lockedOut, wiped, resetState, leftOf, noAccount};
+use rules::Kind;
 use rules::Level;
 use rules::Rule;
 use rules::Scope;
@@ -128,7 +130,7 @@ fn wipe(m: &mut [u64], root: u64, reset: u64)
 }
 
 // Carries out the reset of an order for a root: clock, marks and words, totals, then the log's flags.
-pub fn reset_state(m: &mut [u64], time: u64, root: u64, reset: u64)
+fn carry_out(m: &mut [u64], time: u64, root: u64, reset: u64)
     requires { ⌜ Laid (now m) × (root < 64) ⌝ }
     ensures { λ _. ⌜ now (m .exit) ≡ stored (resetState (decode (now (m .entry))) time root reset) (now (m .entry)) ⌝ }
 {
@@ -142,6 +144,33 @@ pub fn reset_state(m: &mut [u64], time: u64, root: u64, reset: u64)
     log::unflag(&mut m[842..1866], entries, root, reset);
 }
 
+// What an order's reset leaves: without one the clock alone moves.
+pub fn reset_state(m: &mut [u64], time: u64, root: u64, reset: u64)
+    requires { ⌜ Laid (now m) × (root < 64) ⌝ }
+    ensures { λ _. ⌜ now (m .exit) ≡ stored (resetState (decode (now (m .entry))) time root reset) (now (m .entry)) ⌝ }
+{
+    if reset == 0 {
+        m[1] = time;
+        return;
+    }
+    carry_out(m, time, root, reset);
+}
+
+// What the log counts for a rule at a time, as far as the rule asks for it: an absolute rule does not.
+fn logged(m: &[u64], rule: Rule, time: u64) -> u64
+    requires { ⌜ Laid (now m) × (isRule 64 rule ≡ true) ⌝ }
+    ensures { λ r. ⌜ ((total : ℕ) → countedOf (rule .kind) total r ≡ countedOf (rule .kind) total (sumOf (entryShare rule time) (entriesOf (getD (now (m .entry)) 5 0) (logPart (now (m .entry)))))) ⌝ }
+{
+    let kind = rule.kind;
+    match kind {
+        Kind::Rate(_) => {
+            let entries = m[5] as usize;
+            log::counted(&m[842..1866], entries, rule, time)
+        }
+        Kind::Absolute => 0,
+    }
+}
+
 // What remains of a rule's limit at a time, and 0 if more than the limit is counted.
 pub fn left(m: &[u64], time: u64, rule: usize) -> u64
     requires { ⌜ Laid (now m) × (rule < length (decode (now m) .accounts)) ⌝ }
@@ -150,7 +179,5 @@ pub fn left(m: &[u64], time: u64, rule: usize) -> u64
     let asked = rule_at(&m[74..586], rule);
     let at = 586 + rule;
     let total = m[at];
-    let entries = m[5] as usize;
-    let logged = log::counted(&m[842..1866], entries, asked, time);
-    asked.left(asked.counted(total, logged))
+    asked.left(asked.counted(total, logged(m, asked, time)))
 }
