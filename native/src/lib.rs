@@ -1,6 +1,10 @@
 //! The proved library linked into a native program: its exported functions behind safe ones, and its comparison with the second program.
 
+pub mod beside;
 pub mod damage;
+pub mod hand;
+pub mod lines;
+pub mod measure;
 pub mod pair;
 pub mod profiles;
 pub mod records;
