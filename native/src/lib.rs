@@ -1,6 +1,7 @@
 //! The proved library linked into a native program: its exported functions behind safe ones, and its comparison with the second program.
 
 pub mod beside;
+pub mod counts;
 pub mod damage;
 pub mod hand;
 pub mod lines;

@@ -21,18 +21,19 @@ pub struct Cuts {
 /// Which entries count for a scope: those whose digits under a mask are these.
 #[derive(Clone, Copy)]
 struct Sieve {
-    mask: u64,
-    want: u64,
+    mask: u32,
+    want: u32,
 }
 
 impl Sieve {
     /// The sieve of a scope: 0 every fill, 1 a whole root, 2 one unit.
     fn new(scope: u64, root: u64, unit: u64) -> Sieve {
-        match scope {
-            0 => Sieve { mask: 1, want: 1 },
-            1 => Sieve { mask: ENTRY_ROOT | 2, want: root << 4 | 2 },
-            _ => Sieve { mask: ENTRY_ROOT | 14, want: root << 4 | unit << 2 | 2 },
-        }
+        let (mask, want) = match scope {
+            0 => (1, 1),
+            1 => (ENTRY_ROOT | 2, root << 4 | 2),
+            _ => (ENTRY_ROOT | 14, root << 4 | unit << 2 | 2),
+        };
+        Sieve { mask: mask as u32, want: want as u32 }
     }
 }
 
@@ -46,14 +47,15 @@ struct Sums {
 
 impl Sums {
     /// Adds those entries that pass a sieve.
+    #[inline(never)]
     fn add(&mut self, entries: &[u64], sieve: Sieve) {
         for entry in entries.chunks_exact(2) {
-            let passes = entry[0] & sieve.mask == sieve.want;
-            let second = if passes { entry[1] } else { 0 };
+            let passes = u64::from(entry[0] as u32 & sieve.mask == sieve.want);
+            let second = entry[1] & passes.wrapping_neg();
             let contracts = second & CONTRACTS;
             self.notional += u64::from((second >> 20) as u32) * contracts;
             self.volume += contracts;
-            self.count += u64::from(passes);
+            self.count += passes;
         }
     }
 

@@ -31,9 +31,14 @@ fn is_head(m: &State) -> bool {
         && beyond(m[TRIPPED] | m[LOCKED]) == 0
 }
 
-/// Is every number 0?
+/// Is every number 0? Sixteen of them at a time.
 fn is_zero(numbers: &[u64]) -> bool {
-    numbers.iter().fold(0, |any, number| any | number) == 0
+    let (chunks, rest) = numbers.as_chunks::<16>();
+    let mut any = [0; 16];
+    for chunk in chunks {
+        any.iter_mut().zip(chunk).for_each(|(any, number)| *any |= number);
+    }
+    any.iter().chain(rest).fold(0, |any, number| any | number) == 0
 }
 
 /// The same byte eight times.
@@ -56,6 +61,7 @@ fn is_name(number: u64, most: u32) -> bool {
 }
 
 /// Do the first places hold names of roots, no two the same, and the others 0?
+#[inline(never)]
 fn are_roots(names: &[u64], count: usize) -> bool {
     let (used, unused) = names.split_at(count);
     used.iter().fold(true, |good, name| good & is_name(*name, 6)) && is_zero(unused) && are_distinct(used)
@@ -81,32 +87,45 @@ fn are_distinct(names: &[u64]) -> bool {
     })
 }
 
-/// What a rule may hold: its limit, its window's least and span, its total.
+/// What a rule may hold: its limit, its window's least and most, its total.
 struct Bounds {
     limit: u64,
     least: u64,
-    span: u64,
+    most: u64,
     total: u64,
 }
 
-/// The bounds of a rate rule and of an absolute one by the largest limit.
-const fn bounds(limit: u64) -> [Bounds; 2] {
-    let rate = Bounds { limit, least: 100, span: MOST_WINDOW - 100, total: 0 };
-    [rate, Bounds { limit, least: 0, span: 0, total: MOST_TOTAL }]
+/// The bounds of a rate rule by the largest limit.
+const fn rate(limit: u64) -> Bounds {
+    Bounds { limit, least: 100, most: MOST_WINDOW, total: 0 }
 }
 
-/// By measure and kind.
-const BOUNDS: [[Bounds; 2]; 3] = [bounds(100_000_000_000), bounds(1_000_000_000), bounds(1_000_000_000)];
+/// The bounds of an absolute rule by the largest limit.
+const fn absolute(limit: u64) -> Bounds {
+    Bounds { limit, least: 0, most: 0, total: MOST_TOTAL }
+}
 
-/// What a rule of a root adds to the counts of the root's four units, a byte each, by scope and unit; 0 where these clash.
-const COVERS: [u32; 16] = [0, 0, 0, 0, 0x0101_0101, 0, 0, 0, 1, 1 << 8, 1 << 16, 1 << 24, 0, 0, 0, 0];
+const DOLLARS: u64 = 100_000_000_000;
+const OTHERS: u64 = 1_000_000_000;
+/// By measure and kind.
+const BOUNDS: [Bounds; 6] = [rate(DOLLARS), absolute(DOLLARS), rate(OTHERS), absolute(OTHERS), rate(OTHERS), absolute(OTHERS)];
+
+/// Scope and unit clash: this makes the count of each unit too high.
+const CLASH: u32 = 0x8080_8080;
+/// What a rule adds to the counts of its root's four units, a byte each, by scope and unit.
+const COVERS: [u32; 16] = {
+    let mut covers = [CLASH; 16];
+    (covers[0], covers[4]) = (0, 0x0101_0101);
+    (covers[8], covers[9], covers[10], covers[11]) = (1, 1 << 8, 1 << 16, 1 << 24);
+    covers
+};
 
 /// Added to counts of at most 6, this leaves the top bit of each byte 0.
 const OVER_SIX: u32 = 0x7979_7979;
 
-/// What the rules so far come to.
+/// What the rules so far come to; a number out of its range leaves the top bit 1 in a difference, and all differences are or-ed together.
 struct Tally {
-    good: bool,
+    bad: u64,
     seen: u64,
     firms: u64,
     longest: Longest,
@@ -116,48 +135,40 @@ struct Tally {
 
 impl Tally {
     /// Adds a rule's two numbers and its total.
-    fn add(&mut self, first: u64, second: u64, total: u64) {
-        let Some([rate, absolute]) = BOUNDS.get((second >> 11) as usize) else {
-            self.good = false;
-            return;
-        };
-        let bounds = if second & ABSOLUTE == 0 { rate } else { absolute };
-        let window = first & WINDOW;
-        self.good &= (first >> 27).wrapping_sub(1) < bounds.limit;
-        self.good &= window.wrapping_sub(bounds.least) <= bounds.span;
-        self.good &= total <= bounds.total;
+    fn add(&mut self, first: u64, second: u64, total: u64, bounds: &Bounds) {
+        let (limit, window) = (first >> 27, first & WINDOW);
+        self.bad |= limit.wrapping_sub(1) | bounds.limit.wrapping_sub(limit);
+        self.bad |= window.wrapping_sub(bounds.least) | bounds.most.wrapping_sub(window);
+        self.bad |= total | bounds.total.wrapping_sub(total);
         self.longest = self.longest.max(window);
-        if second & SCOPE == 0 {
-            self.good &= second & 0xFF == 0;
-            self.firms += 1;
-        } else {
-            self.add_root(second);
-        }
-    }
-
-    /// Adds a rule of a root, which has to have appeared or to be the next.
-    fn add_root(&mut self, second: u64) {
         let root = second >> 2 & 63;
         let covers = COVERS[(second >> 6 & 12 | second & 3) as usize];
-        let units = &mut self.units[root as usize];
-        *units = units.wrapping_add(covers);
-        self.over |= units.wrapping_add(OVER_SIX);
-        self.good &= covers != 0 && root <= self.seen;
-        self.seen = self.seen.max(root + 1);
+        if second & SCOPE == 0 {
+            self.firms += 1;
+            self.bad |= 0u64.wrapping_sub(root);
+            self.over |= covers;
+        } else {
+            let units = &mut self.units[root as usize];
+            *units = units.wrapping_add(covers);
+            self.over |= units.wrapping_add(OVER_SIX);
+            self.bad |= self.seen.wrapping_sub(root);
+            self.seen = self.seen.max(root + 1);
+        }
     }
 }
 
 /// The longest window, if the rules and totals are such as an accepted profile of so many roots gives.
+#[inline(never)]
 fn longest_of_rules(m: &State) -> Option<Longest> {
     let rules = m[RULE_COUNT] as usize;
     let (used, unused) = m[RULES..TOTALS].split_at(2 * rules);
     let (totals, beside) = m[TOTALS..LOG].split_at(rules);
-    let mut tally = Tally { good: true, seen: 0, firms: 0, longest: 0, over: 0, units: [0; 64] };
+    let mut tally = Tally { bad: 0, seen: 0, firms: 0, longest: 0, over: 0, units: [0; 64] };
     for (rule, total) in used.chunks_exact(2).zip(totals) {
-        tally.add(rule[0], rule[1], *total);
+        tally.add(rule[0], rule[1], *total, BOUNDS.get((rule[1] >> 10) as usize)?);
     }
-    let is_good = tally.good
-        && tally.over & 0x8080_8080 == 0
+    let is_good = tally.bad >> 63 == 0
+        && tally.over & CLASH == 0
         && tally.firms <= 10
         && tally.seen == m[ROOT_COUNT]
         && is_zero(unused)
@@ -167,6 +178,7 @@ fn longest_of_rules(m: &State) -> Option<Longest> {
 
 /// Do the first places hold entries in order of time, none later than the clock, and the others 0?
 /// A number out of its range leaves the top bit 1 in a difference, and all differences are or-ed together.
+#[inline(never)]
 fn is_log(log: &[u64], entries: usize, roots: u64, clock: u64) -> bool {
     let (used, unused) = log.split_at(2 * entries);
     let last_root = (roots << 4).wrapping_sub(16);
