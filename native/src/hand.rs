@@ -9,7 +9,7 @@ mod sound;
 
 pub use records::{read_record, write_record};
 
-use counted::{allowances, counted_by, Cuts, Offer};
+use counted::{counted_by, Covering, Cuts, Offer};
 use map::*;
 use sound::{longest_if_sound, Longest};
 
@@ -194,7 +194,8 @@ fn offered(m: &mut State, o: &Offer) -> Result<[u64; 4], u64> {
         m[CLOCK] = o.time;
         return Ok([verdict, 0, 0, 0]);
     }
-    let (covering, cuts) = allowances(m, o);
+    let covering = Covering::new(m, o);
+    let cuts = covering.cuts(m, o);
     let grant = cuts.root.min(cuts.firm);
     if grant > 0 && m[ENTRY_COUNT] == PLACES && entry_time(m[LOG]) + longest > o.time {
         return Err(15);

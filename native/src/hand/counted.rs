@@ -37,6 +37,29 @@ impl Sieve {
     }
 }
 
+impl Sieve {
+    /// The second number of an entry that passes, else 0.
+    fn amount(self, entry: &[u64]) -> u64 {
+        entry[1] & u64::from(entry[0] as u32 & self.mask == self.want).wrapping_neg()
+    }
+
+    /// What those of some entries that pass count in one measure.
+    #[inline(never)]
+    fn sum(self, entries: &[u64], measure: u64) -> u64 {
+        let amounts = entries.chunks_exact(2).map(|entry| self.amount(entry));
+        match measure {
+            0 => amounts.map(notional).sum(),
+            1 => amounts.map(|amount| amount & CONTRACTS).sum(),
+            _ => amounts.map(|amount| u64::from(amount != 0)).sum(),
+        }
+    }
+}
+
+/// The notional of an entry's second number.
+fn notional(amount: u64) -> u64 {
+    u64::from((amount >> 20) as u32) * (amount & CONTRACTS)
+}
+
 /// What some entries count in each measure.
 #[derive(Clone, Copy, Default)]
 struct Sums {
@@ -50,12 +73,10 @@ impl Sums {
     #[inline(never)]
     fn add(&mut self, entries: &[u64], sieve: Sieve) {
         for entry in entries.chunks_exact(2) {
-            let passes = u64::from(entry[0] as u32 & sieve.mask == sieve.want);
-            let second = entry[1] & passes.wrapping_neg();
-            let contracts = second & CONTRACTS;
-            self.notional += u64::from((second >> 20) as u32) * contracts;
-            self.volume += contracts;
-            self.count += passes;
+            let amount = sieve.amount(entry);
+            self.notional += notional(amount);
+            self.volume += amount & CONTRACTS;
+            self.count += u64::from(entry[0] as u32 & sieve.mask == sieve.want);
         }
     }
 
@@ -89,9 +110,7 @@ pub fn counted_by(m: &State, rule: &Rule, time: u64) -> u64 {
     }
     let log = entries_of(m);
     let sieve = Sieve::new(rule.second >> 8 & 3, rule.second >> 2 & 63, rule.second & 3);
-    let mut sums = Sums::default();
-    sums.add(&log[2 * start_of(log, rule, time)..], sieve);
-    sums.of(rule.measure())
+    sieve.sum(&log[2 * start_of(log, rule, time)..], rule.measure())
 }
 
 /// The rules that cover an offer, at most 6 of its root and 10 of the firm, by line.
@@ -102,7 +121,7 @@ pub struct Covering {
 
 impl Covering {
     /// The rules of a sound state that cover an offer.
-    fn new(m: &State, o: &Offer) -> Covering {
+    pub fn new(m: &State, o: &Offer) -> Covering {
         let (whole, one) = (1 << 8 | o.root << 2, 2 << 8 | o.root << 2 | o.unit);
         let mut covering = Covering { rules: [Rule::default(); 16], length: 0 };
         let rules = &m[RULES..][..2 * m[RULE_COUNT] as usize];
@@ -119,6 +138,16 @@ impl Covering {
     /// The rules.
     fn rules(&self) -> &[Rule] {
         &self.rules[..self.length]
+    }
+
+    /// The least that the rules of each level allow.
+    pub fn cuts(&self, m: &State, o: &Offer) -> Cuts {
+        let mut cuts = Cuts { root: o.contracts, firm: o.contracts };
+        for (rule, counted) in self.rules().iter().zip(self.counted(m, o)) {
+            let cut = if rule.is_firm() { &mut cuts.firm } else { &mut cuts.root };
+            *cut = (*cut).min(allowance(rule, counted, o));
+        }
+        cuts
     }
 
     /// The totals of covering absolute rules rise; which levels have a rule at its limit then.
@@ -155,13 +184,18 @@ impl Covering {
 
     /// Counts rate rules in the order of their keys: scope, how far back their windows go, place.
     fn count_by(&self, log: &[u64], o: &Offer, keys: &[u64], counted: &mut [u64; 16]) {
+        if let [key] = keys {
+            let place = (key & 15) as usize;
+            counted[place] = Sieve::new(key >> 16, o.root, o.unit).sum(&log[start_in(*key)..], self.rules[place].measure());
+            return;
+        }
         let (mut scope, mut end, mut sums) = (u64::MAX, 0, Sums::default());
         for key in keys {
             let place = (key & 15) as usize;
             if key >> 16 != scope {
                 (scope, end, sums) = (key >> 16, log.len(), Sums::default());
             }
-            let start = 2 * (PLACES - (key >> 4 & 0xFFF)) as usize;
+            let start = start_in(*key);
             if start < end {
                 sums.add(&log[start..end], Sieve::new(scope, o.root, o.unit));
                 end = start;
@@ -169,6 +203,11 @@ impl Covering {
             counted[place] = sums.of(self.rules[place].measure());
         }
     }
+}
+
+/// The number of the log at which a key's window begins.
+fn start_in(key: u64) -> usize {
+    2 * (PLACES - (key >> 4 & 0xFFF)) as usize
 }
 
 /// How much of an offer a rule allows that has counted so much.
@@ -180,16 +219,4 @@ fn allowance(rule: &Rule, counted: u64, o: &Offer) -> u64 {
         1 => left.min(o.contracts),
         _ => if left == 0 { 0 } else { o.contracts },
     }
-}
-
-/// The rules that cover an offer, and the least that each level allows.
-pub fn allowances(m: &State, o: &Offer) -> (Covering, Cuts) {
-    let covering = Covering::new(m, o);
-    let counted = covering.counted(m, o);
-    let mut cuts = Cuts { root: o.contracts, firm: o.contracts };
-    for (rule, counted) in covering.rules().iter().zip(counted) {
-        let cut = if rule.is_firm() { &mut cuts.firm } else { &mut cuts.root };
-        *cut = (*cut).min(allowance(rule, counted, o));
-    }
-    (covering, cuts)
 }

@@ -222,10 +222,18 @@ impl Profile {
         (self.firms <= 10).then_some(0)
     }
 
+    /// The number of a root: most often that of the newest.
+    fn root_number(&self, name: u64) -> usize {
+        match self.names[..self.roots].split_last() {
+            Some((newest, _)) if *newest == name => self.roots - 1,
+            Some((_, others)) => others.iter().position(|other| *other == name).unwrap_or(self.roots),
+            None => 0,
+        }
+    }
+
     /// Counts a rule of a root, and gives the root's number.
     fn admit_root(&mut self, line: &Line) -> Option<usize> {
-        let known = &self.names[..self.roots];
-        let root = known.iter().position(|name| *name == line.root).unwrap_or(self.roots);
+        let root = self.root_number(line.root);
         let units = self.units.get_mut(root)?;
         match line.side {
             0 => units.iter_mut().for_each(|count| *count += 1),
