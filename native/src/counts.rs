@@ -47,8 +47,8 @@ pub extern "C" fn mbrumzheg_counted_all(who: usize) {
 
 /// What runs under callgrind: every call of every line.
 pub fn run_counted() {
-    for line in lines().into_iter().filter(|line| std::env::var("ONLY").map_or(true, |only| line.name.contains(&only))) {
-        for who in (0..WHO.len()).filter(|who| std::env::var("WHO").map_or(true, |w| w == who.to_string())) {
+    for line in lines() {
+        for who in 0..WHO.len() {
             let mut m = line.state.clone();
             for _ in 0..CALLS {
                 m.copy_from_slice(&line.state);

@@ -8,6 +8,8 @@ pub mod lines;
 pub mod measure;
 pub mod pair;
 pub mod profiles;
+pub mod program;
+pub mod rates;
 pub mod records;
 pub mod run;
 pub mod scripts;

@@ -69,7 +69,7 @@ const TYPES: [&str; 6] = ["rate_vol", "abs_ntnl", "rate_ntnl", "abs_count", "rat
 const WIDE: u64 = 1_000_000_000;
 
 /// A profile: rate rules alone that cover unit 1 of the one root, `root` of it and `firm` of the firm.
-fn rates(root: usize, firm: usize) -> Vec<u8> {
+pub fn rates(root: usize, firm: usize) -> Vec<u8> {
     let types = ["rate_vol", "rate_ntnl", "rate_count"];
     let line = |place: usize, rest: &str| format!("ABCD,{},{rest}\n", types[place % 3]);
     let roots = (0..root).map(|place| line(place, &format!("XYZ,{WIDE},60000")));
