@@ -9,12 +9,13 @@ use std::time::Duration;
 use native::beside::{days, no_slip};
 use native::counts::{counts, run_counted};
 use native::lines::{lines, rates, Line};
-use native::measure::{measure, Times, CALLS, ROUNDS};
+use native::measure::{Least, Times, CALLS, ROUNDS};
 use native::program;
 use native::rates::{program_rates, record_times, Program};
 
-/// How long a line is measured.
-const LINE: Duration = Duration::from_millis(350);
+/// How often all lines are gone through, and how long a line is measured each time.
+const TURNS: u32 = 6;
+const LINE: Duration = Duration::from_millis(60);
 /// How wide a line's name is printed.
 const WIDE: usize = 82;
 
@@ -55,13 +56,18 @@ fn print_times() {
     checked();
     println!(
         "States are warm: each is copied into place before each call, outside the time. A round is {CALLS} calls, and its time their average without\n\
-         the clock's own; rounds take turns for {} ms a line, at least {ROUNDS}; the least round counts. Ratios are the proved library's time to that of\n\
-         a plain pass over the state's 1,866 numbers, of the second program on its own state, and of the hand-written call on the same memory. A call\n\
-         is within its bound if it takes at most two plain passes and what the hand-written call takes beyond the hand-written test of that state.",
+         the clock's own. Rounds take turns for {} ms a line, at least {ROUNDS}, and all lines are gone through {TURNS} times; the least round counts.\n\
+         Ratios are the proved library's time to that of a plain pass over the state's 1,866 numbers, of the second program on its own state, and of\n\
+         the hand-written call on the same memory. A call is within its bound if it takes at most two plain passes and what the hand-written call\n\
+         takes beyond the hand-written test of that state.",
         LINE.as_millis()
     );
     println!("{:WIDE$}{:>8}{:>10}{:>8}{:>10}{:>8}{:>7}{:>12}", "", "pass ns", "proved ns", "to pass", "to second", "to hand", "bound", "a second");
-    lines().iter().for_each(|line| print_line(line, measure(line, LINE)));
+    let mut measured: Vec<(Line, Least)> = lines().into_iter().map(|line| (line, Least::new())).collect();
+    for _ in 0..TURNS {
+        measured.iter_mut().for_each(|(line, least)| least.measure(line, LINE));
+    }
+    measured.iter().for_each(|(line, least)| print_line(line, least.times()));
     print_records();
     print_programs();
 }
