@@ -169,7 +169,8 @@ fn small() -> Vec<Line> {
 
 /// Arm, by lines, and Clear.
 fn arms() -> Vec<Line> {
-    let arm = |lines: usize| Line::new(format!("Arm, {lines} lines, {} roots", lines.div_ceil(4)), &[], Step::arm(long(lines)));
+    let words = |lines: usize| if lines == 1 { "Arm, 1 line, 1 root".into() } else { format!("Arm, {lines} lines, {} roots", lines / 4) };
+    let arm = |lines: usize| Line::new(words(lines), &[], Step::arm(long(lines)));
     let clear = Line::new("Clear, 256 rules".into(), &[Step::arm(long(256))], Step::new(Kind::Clear, &[]));
     [1, 32, 256].map(arm).into_iter().chain([clear]).collect()
 }
