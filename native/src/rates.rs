@@ -65,7 +65,7 @@ fn timed(round: impl FnOnce()) -> f64 {
 
 /// How many records the programs are given, and how many runs each has.
 const GIVEN: u64 = 100_000;
-const RUNS: usize = 8;
+const RUNS: usize = 15;
 
 /// Orders and offers in turn, 600 ms apart: with windows of a minute the log holds 50 entries.
 fn given() -> Vec<u8> {
@@ -86,28 +86,38 @@ pub struct Program {
     pub words: &'static [&'static str],
 }
 
-/// The records a second of each program that is there, the most of its runs, which take turns; all have to print the same.
+/// The records a second of processor time of each program that is there, over runs that take turns; all have to print the same.
 pub fn program_rates(programs: &[Program], profile: &[u8], folder: &Path) -> Vec<(&'static str, f64)> {
     fs::write(folder.join("profile"), profile).expect("a profile");
     fs::write(folder.join("records"), given()).expect("records");
     let there: Vec<&Program> = programs.iter().filter(|program| program.path.exists()).collect();
-    let mut least = vec![f64::MAX; there.len()];
+    let mut spent = vec![0; there.len()];
     let mut said: Option<Vec<u8>> = None;
     for place in (0..there.len()).cycle().take(RUNS * there.len()) {
-        least[place] = least[place].min(run(there[place], folder));
+        spent[place] += run(there[place], folder);
         let lines = fs::read(folder.join("lines")).expect("lines");
         assert_eq!(lines.iter().filter(|byte| **byte == b'\n').count() as u64, GIVEN + 1, "{}", there[place].name);
         assert!(said.get_or_insert_with(|| lines.clone()) == &lines, "{} prints something else", there[place].name);
     }
-    there.iter().zip(least).map(|(program, least)| (program.name, GIVEN as f64 / least)).collect()
+    let rate = |spent: u64| GIVEN as f64 * RUNS as f64 * TICKS / spent as f64;
+    there.iter().zip(spent).map(|(program, spent)| (program.name, rate(spent))).collect()
 }
 
-/// The seconds of one run.
-fn run(program: &Program, folder: &Path) -> f64 {
+/// The processor time of one run, in ticks.
+fn run(program: &Program, folder: &Path) -> u64 {
     let (input, output) = (File::open(folder.join("records")).expect("records"), File::create(folder.join("lines")).expect("lines"));
-    let start = Instant::now();
+    let before = children_ticks();
     let status = Command::new(&program.path).args(program.words).current_dir(folder).stdin(input).stdout(output).status();
-    let spent = start.elapsed().as_secs_f64();
     assert!(status.is_ok_and(|status| status.success()), "{} runs", program.name);
-    spent
+    children_ticks() - before
+}
+
+/// Ticks of processor time in a second.
+const TICKS: f64 = 100.0;
+
+/// The processor time of the programs that this one has run so far, its own and the system's on its behalf: what Linux tells as fields 16 and 17.
+fn children_ticks() -> u64 {
+    let stat = fs::read_to_string("/proc/self/stat").expect("what Linux tells of this process");
+    let after_name = stat.rsplit(')').next().unwrap_or("");
+    after_name.split_whitespace().skip(13).take(2).map(|ticks| ticks.parse::<u64>().expect("ticks")).sum()
 }

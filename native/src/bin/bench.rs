@@ -114,7 +114,7 @@ fn print_programs() {
     ];
     let folder = folder();
     for (name, rate) in program_rates(&programs, &rates(3, 3), &folder) {
-        println!("The program, 6 rate rules, 50 entries, orders and offers in turn, {name}: {rate:.0} records a second");
+        println!("The program, 6 rate rules, 50 entries, orders and offers in turn, {name}: {rate:.0} records a second of processor time");
     }
     std::fs::remove_dir_all(&folder).expect("the folder goes");
 }
