@@ -15,7 +15,7 @@ use native::rates::{program_rates, record_times, Program};
 
 /// How often all lines are gone through, and how long a line is measured each time.
 const TURNS: u32 = 6;
-const LINE: Duration = Duration::from_millis(60);
+const LINE: Duration = Duration::from_millis(50);
 /// How wide a line's name is printed.
 const WIDE: usize = 82;
 
