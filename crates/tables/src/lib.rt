@@ -2,7 +2,9 @@
 ghost use mathlib.Core.Path.{_≡_};
 ghost use mathlib.Core.Bool.{true, cond, _&&_};
 ghost use mathlib.Core.List.{[], _∷_};
+ghost use Prim.Native.Nat.{_%_};
 ghost use lib.Dec.{ltb};
+ghost use lib.ListN.{length};
 ghost use Rattle.measures.specs.Ranges.{isIn, times, premiums, offers};
 ghost use Rattle.bits.specs.Fields.{packed};
 ghost use Rattle.tables.specs.Tables.{allZero};
@@ -325,8 +327,24 @@ pub fn entry_place(e: Entry) -> Place
     }
 }
 
-// Whether every number is 0.
-pub fn is_zero(s: &[u64]) -> bool
+// Whether every number is 0, of whole eights of them: eight at a step, those at even and at odd places joined apart.
+fn zero_in_eights(s: &[u64]) -> bool
+    requires { ⌜ length (now s) % 8 ≡ 0 ⌝ }
+    ensures { λ r. ⌜ r ≡ allZero (now (s .entry)) ⌝ }
+{
+    let mut a: u64 = 0;
+    let mut b: u64 = 0;
+    let mut i: usize = 0;
+    while i < s.len() {
+        a = a | s[i] | s[i + 2] | s[i + 4] | s[i + 6];
+        b = b | s[i + 1] | s[i + 3] | s[i + 5] | s[i + 7];
+        i += 8;
+    }
+    a | b == 0
+}
+
+// Whether every number is 0, one at a step.
+fn zero_in_ones(s: &[u64]) -> bool
     ensures { λ r. ⌜ r ≡ allZero (now (s .entry)) ⌝ }
 {
     let mut any: u64 = 0;
@@ -336,4 +354,12 @@ pub fn is_zero(s: &[u64]) -> bool
         i += 1;
     }
     any == 0
+}
+
+// Whether every number is 0.
+pub fn is_zero(s: &[u64]) -> bool
+    ensures { λ r. ⌜ r ≡ allZero (now (s .entry)) ⌝ }
+{
+    let n = s.len() / 8 * 8;
+    zero_in_eights(&s[..n]) & zero_in_ones(&s[n..])
 }
