@@ -29,15 +29,15 @@ pub fn is_log(log: &[u64], k: usize, roots: u64, clock: u64) -> bool
         let at = i * 2;
         let first = log[at];
         let second = log[at + 1];
-        let e = tables::entry_of(first, second);
-        let time = e.time;
-        if !(tables::is_entry(first, second, roots) & (from <= time) & (time <= clock)) {
+        let time = first / 1024;
+        if !(tables::is_entry_but_time(first, second, roots) & (from <= time)) {
             return false;
         }
         from = time;
         i += 1;
     }
-    tables::is_zero(&log[k * 2..])
+    // No time is above the last one, and a time in range has nothing above it.
+    (from <= 86_399_999) & (from <= clock) & tables::is_zero(&log[k * 2..])
 }
 
 // The entry at place i of a log.

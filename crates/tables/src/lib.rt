@@ -5,11 +5,11 @@ ghost use mathlib.Core.List.{[], _∷_};
 ghost use Prim.Native.Nat.{_%_};
 ghost use lib.Dec.{ltb};
 ghost use lib.ListN.{length};
-ghost use Rattle.measures.specs.Ranges.{isIn, times, premiums, offers};
+ghost use Rattle.measures.specs.Ranges.{isIn, premiums, offers};
 ghost use Rattle.bits.specs.Fields.{packed};
 ghost use Rattle.tables.specs.Tables.{allZero};
 ghost use Rattle.tables.specs.RulePlace.{limitNumber, measureNumber, windowNumber, kindNumber, scopeNumber, rootNumber, unitNumber, limitWidths, scopeWidths, limitValues, scopeValues, limitOf, kindOf, scopeOf, ruleAt, isLimitPlace, isKindPlace, isScopePlace, isRule, isRulePlace, rulePlace};
-ghost use Rattle.tables.specs.EntryPlace.{fillWidths, amountWidths, fillValues, amountValues, entryAt, isEntry, isEntryPlace, entryPlace};
+ghost use Rattle.tables.specs.EntryPlace.{fillWidths, amountWidths, fillValues, amountValues, entryAt, isEntry, isEntryButTime, entryPlace};
 use measures::Contracts;
 use measures::Dollars;
 use measures::Executions;
@@ -288,35 +288,31 @@ pub fn entry_of(first: u64, second: u64) -> Entry
     }
 }
 
-// Whether the numbers of an entry other than its unit are in their ranges, with so many roots.
-fn are_ranged(roots: u64, time: u64, root: u64, premium: u64, contracts: u64) -> bool
-    ensures { λ r. ⌜ r ≡ (isIn times time && ltb root roots && isIn premiums premium && isIn offers contracts) ⌝ }
+// Whether the numbers of an entry other than its time and its unit are in their ranges, with so many roots.
+fn are_ranged(roots: u64, root: u64, premium: u64, contracts: u64) -> bool
+    ensures { λ r. ⌜ r ≡ (ltb root roots && isIn premiums premium && isIn offers contracts) ⌝ }
 {
-    measures::is_in(time, 0, 86_399_999)
-        & (root < roots)
+    (root < roots)
         & measures::is_in(premium, 1, 100_000_000)
         & measures::is_in(contracts, 1, 1_000_000)
 }
 
-// Whether two numbers are those of an entry with every number in its range, and nothing else.
-pub fn is_entry(first: u64, second: u64, roots: u64) -> bool
-    ensures { λ r. ⌜ r ≡ isEntryPlace roots (first ∷ second ∷ []) ⌝ }
+// Whether two numbers are those of an entry as far as its time does not tell: every other number is in its range.
+pub fn is_entry_but_time(first: u64, second: u64, roots: u64) -> bool
+    ensures { λ r. ⌜ r ≡ isEntryButTime roots first second ⌝ }
 {
-    // A time or a premium in range has nothing above it.
-    are_ranged(
-        roots,
-        first / 1024,
-        first / 16 % 64,
-        second / TWO_20,
-        second % TWO_20,
-    )
+    // A premium in range has nothing above it.
+    are_ranged(roots, first / 16 % 64, second / TWO_20, second % TWO_20)
 }
 
 // The two numbers of an entry, 0 and 0 for one with a number out of its range, with 64 roots.
 pub fn entry_place(e: Entry) -> Place
     ensures { λ r. ⌜ r ≡ entryPlace e ⌝ }
 {
-    if are_ranged(64, e.time, e.root, e.premium.0, e.contracts.0) & measures::is_in(e.unit, 0, 3) {
+    if measures::is_in(e.time, 0, 86_399_999)
+        & are_ranged(64, e.root, e.premium.0, e.contracts.0)
+        & measures::is_in(e.unit, 0, 3)
+    {
         let first = fill_word(e);
         let second = amount_word(e);
         return Place { first, second };
