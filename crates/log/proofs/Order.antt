@@ -21,7 +21,7 @@ unfoldable pub leftHolds : ℕ → ℕ → ℕ → List ℕ → ℕ → ℕ → 
 leftHolds n clock k xs from i =
     placesPass 2 (isEntryPlace n) (k - i) (drop (i * 2) xs) && areOrdered from clock (places 2 entryAt (k - i) (drop (i * 2) xs))
 
--- the same where a time up to which all is seen is in range, and not after the clock
+-- the same, and `from` itself is in range and not later than the clock
 abbrev pub fromHolds : ℕ → ℕ → ℕ → List ℕ → ℕ → ℕ → Bool
 fromHolds n clock k xs from i = leb from 86_399_999 && leb from clock && leftHolds n clock k xs from i
 
@@ -38,27 +38,26 @@ none false b = refl
 
 module _ (n clock k : ℕ) (xs : List ℕ) (from i time : ℕ) (rest : Bool) (is : entryAt (drop (i * 2) xs) .time ≡ time % 134_217_728)
     (test : isEntryPlace n (drop (i * 2) xs) ≡ (isIn times time && rest)) (more : i < k) where
-  next : leftHolds n clock k xs from i
-      ≡ (isIn times time && rest && placesPass 2 (isEntryPlace n) (k - (i + 1)) (drop ((i + 1) * 2) xs)
-      && (leb from (time % 134_217_728) && leb (time % 134_217_728) clock
-      && areOrdered (time % 134_217_728) clock (places 2 entryAt (k - (i + 1)) (drop ((i + 1) * 2) xs))))
-  unfolding leftHolds areOrdered
-  next = rw (pass-on 2 k i xs more, places-on 2 k i xs more entryAt, is, test)
-
+  -- the places after this one hold entries, in order from a time on
   abbrev passed : Bool
   passed = placesPass 2 (isEntryPlace n) (k - (i + 1)) (drop ((i + 1) * 2) xs)
 
-  abbrev ordered : Bool
-  ordered = areOrdered time clock (places 2 entryAt (k - (i + 1)) (drop ((i + 1) * 2) xs))
+  abbrev ordered : ℕ → Bool
+  ordered t = areOrdered t clock (places 2 entryAt (k - (i + 1)) (drop ((i + 1) * 2) xs))
 
-  then : leftHolds n clock k xs time (i + 1) ≡ (passed && ordered)
+  next : leftHolds n clock k xs from i
+      ≡ (isIn times time && rest && passed
+      && (leb from (time % 134_217_728) && leb (time % 134_217_728) clock && ordered (time % 134_217_728)))
+  unfolding leftHolds areOrdered
+  next = rw (pass-on 2 k i xs more, places-on 2 k i xs more entryAt, is, test)
+
+  then : leftHolds n clock k xs time (i + 1) ≡ (passed && ordered time)
   unfolding leftHolds
   then = refl
 
   -- a time in range is what its entry tells
-  module _ (low : time ≤ 86_399_999) where
-    kept : time % 134_217_728 ≡ time
-    kept = omega arith
+  kept : time ≤ 86_399_999 → time % 134_217_728 ≡ time
+  kept low = omega arith
 
   pub left-on : (rest && leb from time) ≡ true → fromHolds n clock k xs from i ≡ fromHolds n clock k xs time (i + 1)
   left-on h = go (leb time 86_399_999) refl
@@ -79,7 +78,7 @@ module _ (n clock k : ℕ) (xs : List ℕ) (from i time : ℕ) (rest : Bool) (is
             le-leb from time after,
             le-leb from 86_399_999 (le-trans after low),
           )
-          (on (leb from clock) passed (leb time clock) ordered (λ l. le-leb from clock (le-trans after (leb-true time clock l))))
+          (on (leb from clock) passed (leb time clock) (ordered time) (λ l. le-leb from clock (le-trans after (leb-true time clock l))))
       go false e = rw (next, e, le-leb 0 time zero-le) (none (leb from 86_399_999) (leb from clock))
 
   pub left-off : (rest && leb from time) ≡ false → fromHolds n clock k xs from i ≡ false
