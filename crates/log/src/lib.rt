@@ -2,16 +2,16 @@
 ghost use mathlib.Core.Path.{_≡_};
 ghost use mathlib.Core.Bool.{true, cond};
 ghost use mathlib.Core.List.{map};
-ghost use Prim.Native.Nat.{_*_, _≤_, _<_};
+ghost use Prim.Native.Nat.{_+_, _*_, _≤_, _<_};
 ghost use lib.ListN.{length, drop};
 ghost use lib.Seq.{sets};
 ghost use Rattle.rules.specs.Rules.{added};
 ghost use Rattle.rules.specs.Resets.{zeroing};
 ghost use Rattle.tables.specs.Tables.{zeros};
 ghost use Rattle.tables.specs.RulePlace.{isRule};
-ghost use Rattle.tables.specs.EntryPlace.{entryNumbers, entryAt, isEntry, logTable};
+ghost use Rattle.tables.specs.EntryPlace.{flagNumber, entryNumbers, entryAt, isEntry, logTable};
 ghost use Rattle.log.specs.Log.{logHolds, Held, entriesOf, unflagged, entryShare, sumOf, isRecent, recent, OneKept, Kept, Joined};
-ghost use Rattle.log.specs.Sieve.{firstTime, sieveOf, passes, sifted};
+ghost use Rattle.log.specs.Sieve.{firstTime, sieveOf, passes, sifted, withoutFlags};
 use rules::Kind;
 use rules::Limit;
 use rules::Rule;
@@ -166,21 +166,26 @@ pub fn counted(log: &[u64], k: usize, rule: Rule, time: u64) -> u64
     summed_in(log, k, limit, sieve_of(rule, time))
 }
 
-// An entry without the flags that a reset of an order for a root clears.
-fn cleared(e: Entry, root: u64, reset: u64) -> Entry
-    ensures { λ r. ⌜ r ≡ unflagged (zeroing reset root) e ⌝ }
+// The digits of two flags, as they stand in an entry's first number.
+fn flag_digits(forroot: bool, forfirm: bool) -> u64
+    ensures { λ r. ⌜ r ≡ flagNumber forroot * 2 + flagNumber forfirm ⌝ }
 {
-    let premium = e.premium;
-    let contracts = e.contracts;
-    Entry {
-        time: e.time,
-        root: e.root,
-        unit: e.unit,
-        premium,
-        contracts,
-        forroot: !((e.root == root) & ((reset == 1) | (reset == 3))) & e.forroot,
-        forfirm: !((reset == 2) | (reset == 3)) & e.forfirm,
+    if forroot {
+        if forfirm { 3 } else { 2 }
+    } else if forfirm {
+        1
+    } else {
+        0
     }
+}
+
+// The first number of an entry without the flags that a reset of an order for a root clears.
+fn cleared(fill: u64, root: u64, reset: u64) -> u64
+    ensures { λ r. ⌜ r ≡ withoutFlags (zeroing reset root) fill ⌝ }
+{
+    let forroot = (fill / 16 % 64 == root) & ((reset == 1) | (reset == 3));
+    let forfirm = (reset == 2) | (reset == 3);
+    fill - (fill & flag_digits(forroot, forfirm))
 }
 
 // Clears the flags of the log's k entries that a reset of an order for a root clears.
@@ -190,8 +195,9 @@ pub fn unflag(log: &mut [u64], k: usize, root: u64, reset: u64)
 {
     let mut i: usize = 0;
     while i < k {
-        let e = entry_at(log, i);
-        put_entry(log, i, cleared(e, root, reset));
+        let at = i * 2;
+        let fill = log[at];
+        log[at] = cleared(fill, root, reset);
         i += 1;
     }
 }
