@@ -19,7 +19,7 @@ use Rattle.log.specs.Log.{areOrdered, logHolds, Held, entriesOf}
 pub codec : Codec 2 (isEntry 64) entryAt entryNumbers
 codec = entry-codec 64 (omega arith)
 
-place-valid : (n : ℕ) (xs : List ℕ) → isEntryPlace n xs ≡ true → isEntry n (entryAt xs) ≡ true
+pub place-valid : (n : ℕ) (xs : List ℕ) → isEntryPlace n xs ≡ true → isEntry n (entryAt xs) ≡ true
 unfolding isPlace
 place-valid n xs h = and-r (same (take 2 xs) (entryNumbers (entryAt xs))) (isEntry n (entryAt xs)) h
 

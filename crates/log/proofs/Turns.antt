@@ -1,21 +1,23 @@
 -- The log's entries rewritten in their places, one after the other, and the places after them set to 0. Assumes nothing.
 use Prim.Native.Nat.{ℕ, zero, suc, _+_, _*_, _-_, _≤_, _<_, zero-le}
-use mathlib.Core.Path.{_≡_, refl, sym, ap, _∙_}
+use mathlib.Core.Path.{_≡_, refl, sym, ap, _∙_, subst}
 use mathlib.Core.Logic.{_≢_}
-use mathlib.Core.Bool.{Bool, true, false, cond}
+use mathlib.Core.Bool.{Bool, true, false, cond, _&&_}
 use mathlib.Core.List.{List, [], _∷_, _++_, append-assoc, append-nil, map}
 use native.Mathlib.Numerals.{add-one}
 use native.Mathlib.Omega.{arith}
 use lib.ListN.{length, getD, take, drop, set, length-append, length-drop, drop-of-length-le}
 use lib.Seq.{sets, drop-cons, getD-append-add, getD-drop, set-at, set-comm, set-getD, append-snoc, take-at, drop-at, length-take-le}
+use lib.Dec.{leb, ltb}
+use borrow.Author.Tests.{leb-true, ltb-true, lt-ltb}
 use Rattle.laws.specs.Tests.{and-l, and-r}
 use Rattle.rules.specs.declared.Level.{Level}
-use Rattle.tables.specs.Tables.{zeros, flat, table, every}
+use Rattle.tables.specs.Tables.{zeros, flat, table, places, every}
 use Rattle.tables.specs.EntryPlace.{amountValues, entryAt, entryNumbers, isEntry, isEntryPlace, logTable}
 use Rattle.tables.specs.declared.Entry.{Entry}
 use Rattle.tables.proofs.Parts.{and-i}
 use Rattle.tables.proofs.Tables.{zeros-add, length-zeros, length-flat, length-places, length-table, place-table, read-table, put-at, put-next}
-use Rattle.log.specs.Log.{Held, entriesOf, unflagged, keep, isRecent, recent, joined, OneKept, Kept}
+use Rattle.log.specs.Log.{areOrdered, Held, entriesOf, unflagged, keep, isRecent, recent, joined, OneKept, Kept}
 use Rattle.log.specs.Sieve.{fillNumber, withoutFlags}
 use Rattle.log.proofs.Logs.{codec, place-numbers, held-valid, held-table}
 use Rattle.log.proofs.Flags.{unflagged-entry, unflagged-fill}
@@ -78,7 +80,7 @@ module _ {out : List Entry → List Entry} {k : ℕ} {xs : List ℕ} {i j : ℕ}
       omega (arith, overlaid (entryAt []) (t .made) (entriesOf k xs) j (t .count) (omega (arith, t .within)))
 
   -- the next place still holds its entry, which is the next of all
-  turned-place : i < k → isEntryPlace 64 (drop (i * 2) ys) ≡ true
+  pub turned-place : i < k → isEntryPlace 64 (drop (i * 2) ys) ≡ true
   turned-place l = ap (λ (l : List ℕ). isEntryPlace 64 (drop (i * 2) l)) (t .log) ∙ place-table codec 512 stands i (entryAt []) stands-valid (stands-long l)
 
   turned-next : {e : Entry} → i < k → e ≡ entryAt (drop (i * 2) ys) → drop i (entriesOf k xs) ≡ e ∷ drop (i + 1) (entriesOf k xs)
@@ -205,28 +207,48 @@ module _ {A : Type 0} (test : A → Bool) where
       go true l = omega arith
       go false l = omega arith
 
-  keep-all : (xs : List A) → length (keep test xs) ≡ length xs → keep test xs ≡ xs
-  unfolding keep
-  keep-all [] e = refl
-  keep-all (x ∷ xs) e = go (test x) (keep-all xs) e
-    where
-      go : (b : Bool) → (length (keep test xs) ≡ length xs → keep test xs ≡ xs) → length (cond b (x ∷ keep test xs) (keep test xs)) ≡ suc (length xs) → cond b (x ∷ keep test xs) (keep test xs) ≡ x ∷ xs
-      go true rest e = ap (λ (l : List A). x ∷ l) (rest (omega arith))
-      go false rest e = absurd (omega (arith, keep-most xs))
-
 -- where all entries are inside the window nothing moves
-pub all-kept : {window time k n : ℕ} {xs : List ℕ} → Held k xs → n ≡ length (recent window time (entriesOf k xs)) → n ≡ k → Kept window time k xs xs k
-unfolding recent
-all-kept {window = window} {time = time} {k = k} {xs = xs} h count all =
+all-kept : {window time k : ℕ} {xs : List ℕ} → Held k xs → recent window time (entriesOf k xs) ≡ entriesOf k xs → Kept window time k xs xs k
+all-kept {k = k} {xs = xs} h same =
     let es = entriesOf k xs in
     let long = length-places codec k xs in
-    let same : recent window time es ≡ es = keep-all (isRecent window time) es (sym count ∙ (all ∙ sym long)) in
     let end : length es ≤ k = omega arith in
     record {
-      count = sym all ∙ count;
+      count = sym (ap length same ∙ long);
       most = omega arith;
       log = held-table h ∙ ap logTable (sym (rw (same, drop-of-length-le es end) (append-nil es)));
     }
+
+pub none-kept : {window time k : ℕ} {xs : List ℕ} → Held k xs → k ≡ 0 → Kept window time k xs xs 0
+unfolding recent keep places
+none-kept {window = window} {time = time} {k = k} {xs = xs} h none =
+    subst (λ (n : ℕ). Kept window time k xs xs n) none (all-kept h (rw none))
+
+-- in order of time, all are inside the window where the first time is
+ordered-kept : (window time from clock : ℕ) (es : List Entry) → time < from + window → areOrdered from clock es ≡ true → recent window time es ≡ es
+unfolding recent keep areOrdered
+ordered-kept window time from clock [] l o = refl
+ordered-kept window time from clock (e ∷ es) l o =
+    let both = and-l (leb from (e .time) && leb (e .time) clock) (areOrdered (e .time) clock es) o in
+    let later = leb-true from (e .time) (and-l (leb from (e .time)) (leb (e .time) clock) both) in
+    let inside : time < e .time + window = omega arith in
+    rw (lt-ltb time (e .time + window) inside)
+    (ap (λ (l : List Entry). e ∷ l) (ordered-kept window time (e .time) clock es inside (and-r (leb from (e .time) && leb (e .time) clock) (areOrdered (e .time) clock es) o)))
+
+-- so they are where the oldest is
+pub oldest-kept : {window time k : ℕ} {xs : List ℕ} {e : Entry} → Held k xs → areOrdered 0 time (entriesOf k xs) ≡ true → e ≡ entryAt (drop 0 xs)
+    → isRecent window time e ≡ true → Kept window time k xs xs k
+unfolding recent keep areOrdered places
+oldest-kept {window = window} {time = time} {k = k} {xs = xs} {e = e} h o is test = all-kept h (go k o)
+  where
+    go : (n : ℕ) → areOrdered 0 time (entriesOf n xs) ≡ true → recent window time (entriesOf n xs) ≡ entriesOf n xs
+    go zero p = refl
+    go (suc n) p =
+        let a = entryAt xs in
+        let rest = entriesOf n (drop 2 xs) in
+        let inside : ltb time (a .time + window) ≡ true = ap (isRecent window time) (sym is) ∙ test in
+        rw inside
+        (ap (λ (l : List Entry). a ∷ l) (ordered-kept window time (a .time) time rest (ltb-true time (a .time + window) inside) (and-r (leb 0 (a .time) && leb (a .time) time) (areOrdered (a .time) time rest) p)))
 
 flat-append : (p q : List Entry) → flat entryNumbers (p ++ q) ≡ flat entryNumbers p ++ flat entryNumbers q
 unfolding flat

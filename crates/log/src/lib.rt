@@ -1,16 +1,16 @@
 // The log: its entries in their places, in order of time.
 ghost use mathlib.Core.Path.{_≡_};
 ghost use mathlib.Core.Bool.{true, cond};
-ghost use mathlib.Core.List.{map};
+ghost use mathlib.Core.List.{[], _∷_, map};
 ghost use Prim.Native.Nat.{_+_, _*_, _≤_, _<_};
-ghost use lib.ListN.{length, drop};
+ghost use lib.ListN.{length, getD, drop};
 ghost use lib.Seq.{sets};
 ghost use Rattle.rules.specs.Rules.{added};
 ghost use Rattle.rules.specs.Resets.{zeroing};
 ghost use Rattle.tables.specs.Tables.{zeros};
 ghost use Rattle.tables.specs.RulePlace.{isRule};
-ghost use Rattle.tables.specs.EntryPlace.{flagNumber, entryNumbers, entryAt, isEntry, logTable};
-ghost use Rattle.log.specs.Log.{logHolds, Held, entriesOf, unflagged, entryShare, sumOf, isRecent, recent, OneKept, Kept, Joined};
+ghost use Rattle.tables.specs.EntryPlace.{flagNumber, entryNumbers, entryAt, isEntry, isEntryPlace, logTable};
+ghost use Rattle.log.specs.Log.{areOrdered, logHolds, Held, entriesOf, unflagged, entryShare, sumOf, isRecent, recent, OneKept, Kept, Joined};
 ghost use Rattle.log.specs.Sieve.{firstTime, sieveOf, passes, sifted, withoutFlags};
 use rules::Kind;
 use rules::Limit;
@@ -228,25 +228,42 @@ pub fn recent_entries(log: &[u64], k: usize, window: u64, time: u64) -> usize
     n
 }
 
+// The two numbers of place i go to place j.
+fn copy_place(log: &mut [u64], i: usize, j: usize)
+    requires { ⌜ (length (now log) ≡ 1024) × (i < 512) × (j < 512) ⌝ }
+    ensures { λ _. ⌜ now (log .exit) ≡ sets (now (log .entry)) (j * 2) (getD (now (log .entry)) (i * 2) 0 ∷ getD (now (log .entry)) (i * 2 + 1) 0 ∷ []) ⌝ }
+{
+    let from = i * 2;
+    let first = log[from];
+    let second = log[from + 1];
+    let to = j * 2;
+    log[to] = first;
+    log[to + 1] = second;
+}
+
 // The entry at place i goes to place j if it is inside a window at a time. Returns the place after the last that stays.
 fn keep_one(log: &mut [u64], i: usize, j: usize, window: u64, time: u64) -> usize
-    requires { ⌜ (length (now log) ≡ 1024) × (i < 512) × (j ≤ i) × (window ≤ 86_400_000) × (isEntry 64 (entryAt (drop (i * 2) (now log))) ≡ true) ⌝ }
+    requires { ⌜ (length (now log) ≡ 1024) × (i < 512) × (j ≤ i) × (window ≤ 86_400_000) × (isEntryPlace 64 (drop (i * 2) (now log)) ≡ true) ⌝ }
     ensures { λ r. ⌜ OneKept window time i j (now (log .entry)) (now (log .exit)) r ⌝ }
 {
     let e = entry_at(log, i);
     if is_recent(e, window, time) {
-        put_entry(log, j, e);
+        copy_place(log, i, j);
         return j + 1;
     }
     j
 }
 
-// The entries inside a window at a time move down, in their order. Returns how many they are.
+// The entries inside a window at a time move down, in their order. Returns how many they are. Where the oldest is inside, all are.
 fn keep(log: &mut [u64], k: usize, window: u64, time: u64) -> usize
-    requires { ⌜ Held k (now log) × (window ≤ 86_400_000) ⌝ }
+    requires { ⌜ Held k (now log) × (window ≤ 86_400_000) × (areOrdered 0 time (entriesOf k (now log)) ≡ true) ⌝ }
     ensures { λ r. ⌜ Kept window time k (now (log .entry)) (now (log .exit)) r ⌝ }
 {
-    if recent_entries(log, k, window, time) == k {
+    if k == 0 {
+        return 0;
+    }
+    let oldest = entry_at(log, 0);
+    if is_recent(oldest, window, time) {
         return k;
     }
     let mut j: usize = 0;
@@ -271,7 +288,7 @@ pub fn blank(s: &mut [u64])
 
 // The entries that are no longer inside a window at a time leave, and e joins. Returns how many there are then.
 pub fn join(log: &mut [u64], k: usize, window: u64, time: u64, e: Entry) -> usize
-    requires { ⌜ Held k (now log) × (window ≤ 86_400_000) × (isEntry 64 e ≡ true) × (length (recent window time (entriesOf k (now log))) < 512) ⌝ }
+    requires { ⌜ Held k (now log) × (window ≤ 86_400_000) × (areOrdered 0 time (entriesOf k (now log)) ≡ true) × (isEntry 64 e ≡ true) × (length (recent window time (entriesOf k (now log))) < 512) ⌝ }
     ensures { λ r. ⌜ Joined window time k e (now (log .entry)) (now (log .exit)) r ⌝ }
 {
     let kept = keep(log, k, window, time);
