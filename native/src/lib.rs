@@ -1,8 +1,15 @@
 //! The proved library linked into a native program: its exported functions behind safe ones, and its comparison with the second program.
 
+pub mod beside;
+pub mod counts;
 pub mod damage;
+pub mod hand;
+pub mod lines;
+pub mod measure;
 pub mod pair;
 pub mod profiles;
+pub mod program;
+pub mod rates;
 pub mod records;
 pub mod run;
 pub mod scripts;

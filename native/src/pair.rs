@@ -120,7 +120,7 @@ impl Pair {
 }
 
 /// Runs a call on the library.
-fn run_library(step: &Step, m: &mut [u64], room: &mut [u8]) -> Row {
+pub fn run_library(step: &Step, m: &mut [u64], room: &mut [u8]) -> Row {
     let [a, b, c, d, e] = step.numbers;
     match step.kind {
         Kind::Arm => crate::arm(m, &step.profile),

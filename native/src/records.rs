@@ -50,7 +50,7 @@ fn record([kind, time, root, unit, premium, contracts, reset, level]: [u64; 8]) 
 }
 
 /// The numbers of a valid event, at the ends of their ranges at times.
-fn valid_numbers(random: &mut Random) -> [u64; 8] {
+pub fn valid_numbers(random: &mut Random) -> [u64; 8] {
     let mut upto = |least: u64, most: u64| {
         let any = random.between(least, most);
         random.pick(&[any, any, least, most])

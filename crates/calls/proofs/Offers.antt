@@ -1,18 +1,18 @@
 -- An offer on sound memory: refused, locked out, or granted. Assumes nothing.
-use Prim.Native.Nat.{ℕ, zero, suc, _≤_, _<_, min}
+use Prim.Native.Nat.{ℕ, zero, suc, _≤_, _<_, min, zero-le}
 use native.Mathlib.Omega.{arith}
 use mathlib.Core.Path.{_≡_, refl, sym, ap, _∙_}
 use mathlib.Core.Bool.{Bool, true, false, not, cond, _&&_, and-assoc, and-false}
 use mathlib.Core.List.{List}
 use lib.ListN.{length, getD, set}
 use lib.Dec.{eqb, leb, ltb}
-use borrow.Author.Tests.{ne-eqb, lt-leb, lt-ltb, leb-false, ltb-true, not-false}
+use borrow.Author.Tests.{ne-eqb, lt-leb, lt-ltb, leb-true, leb-false, ltb-true, not-false}
 use Rattle.laws.specs.Tests.{and-l, and-r}
 use Rattle.measures.specs.Ranges.{isIn, times, units, premiums, offers}
 use Rattle.measures.proofs.Determined.{test-in}
 use Rattle.rules.specs.declared.Level.the-variants.{Firm, Root}
 use Rattle.tables.proofs.Tables.{length-places}
-use Rattle.log.specs.Log.{entriesOf, isRecent}
+use Rattle.log.specs.Log.{areOrdered, entriesOf, isRecent}
 use Rattle.log.proofs.Logs.{codec}
 use Rattle.log.proofs.Turns.{keep-most}
 use Rattle.state.specs.State.{profileIn, decode, encode, stored, logPart}
@@ -23,6 +23,7 @@ use Rattle.machine.specs.declared.Offer.{Offer}
 use Rattle.machine.specs.declared.Answer.the-variants.{Judged}
 use Rattle.machine.specs.Machine.{offer, firstOf, badTime, isRoot, verdictOf, grantOf, levelTrips, longest, keep, recent, logPlaces, logFull, filled, ticked, refusalOf, judged, acted}
 use Rattle.reset.proofs.None.{ticked-stored}
+use Rattle.machine.proofs.Lists.{ordered-wider}
 use Rattle.grant.specs.Grant.{Asked, AreCuts, Ready, HasRoom}
 use Rattle.grant.specs.declared.Cuts.{Cuts}
 use Rattle.grant.proofs.Trip.{grant-cuts}
@@ -82,6 +83,13 @@ module _ (xs : List ℕ) (o : Offer) (g : Granting xs o) (grant : ℕ) (is : gra
       let d = acts xs (g .ready) (offer o) (refusal-is false t) (rw (g .free)) in
       (rw (p, q, is) (rw (g .free) at (d .0)), rw is (rw (g .free) at (d .1)))
 
+  in-order : areOrdered 0 (o .time) (decode xs .log) ≡ true
+  unfolding badTime
+  in-order =
+      let s = decode xs in
+      let timely = and-r (isIn times (o .time)) (leb (s .clock) (o .time)) (not-false (isIn times (o .time) && leb (s .clock) (o .time)) (g .timely)) in
+      ordered-wider 0 0 (s .clock) (o .time) zero-le (leb-true (s .clock) (o .time) timely) (s .log) (sound-decode xs (sound-memory xs (g .ready)) .ordered)
+
   pub ready-is : (cuts : Cuts) → AreCuts xs o cuts → (ltb 0 grant && isFull (decode xs) o) ≡ false → Ready xs o grant cuts
   ready-is cuts k t = record {
     asked = g .asked;
@@ -89,6 +97,7 @@ module _ (xs : List ℕ) (o : Offer) (g : Granting xs o) (grant : ℕ) (is : gra
     levels = k;
     least = is;
     room = has-room t;
+    ordered = in-order;
   }
 
 pub least-is : (xs : List ℕ) (o : Offer) (cuts : Cuts) → AreCuts xs o cuts → (n : ℕ) → n ≡ min (cuts .root) (cuts .firm) → n ≡ grantOf (decode xs .log) o (decode xs .accounts)

@@ -12,6 +12,7 @@ use Rattle.rules.specs.declared.Level.{Level}
 use Rattle.rules.specs.declared.Level.the-variants.{Firm, Root}
 use Rattle.rules.specs.declared.Rule.{Rule}
 use Rattle.rules.specs.declared.Account.{Account}
+use Rattle.log.specs.Log.{areOrdered}
 use Rattle.state.specs.State.{State, profileIn, stored, decode}
 use Rattle.state.specs.Sound.{hasRate}
 use Rattle.state.specs.Laid.{Fits, withLog, withAccounts}
@@ -76,6 +77,9 @@ module _ {xs : List ℕ} {o : Offer} {grant : ℕ} {cuts : Cuts} (r : Ready xs o
 
     pub paid-has-room : HasRoom (decode ys) o grant
     paid-has-room = subst (λ (s : State). HasRoom s o grant) (sym (held-state h)) paid-room
+
+    pub paid-ordered : areOrdered 0 (o .time) (decode ys .log) ≡ true
+    paid-ordered = subst (λ (s : State). areOrdered 0 (o .time) (s .log) ≡ true) (sym (held-state h)) (r .ordered)
 
     -- the log
     pub logged-holds : {zs : List ℕ} → zs ≡ stored (logged o grant (decode ys)) ys → Holds (logged o grant (paid o grant (decode xs))) xs zs

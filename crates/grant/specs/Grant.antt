@@ -15,6 +15,7 @@ use Rattle.rules.specs.declared.Account.{Account}
 use Rattle.tables.specs.Tables.{every}
 use Rattle.tables.specs.declared.Entry.{Entry}
 use Rattle.made.specs.Parts.{isTotal}
+use Rattle.log.specs.Log.{areOrdered}
 use Rattle.state.specs.State.{State, profileIn, stored, decode}
 use Rattle.state.specs.Sound.{hasRate}
 use Rattle.state.specs.Laid.{Laid, withAccounts}
@@ -107,13 +108,14 @@ marked s o trips = record {
   log = s .log;
 }
 
--- an offer with its cuts and its grant, for which the log has a place
+-- an offer with its cuts and its grant, for which the log, in order of time and with no entry later than the offer, has a place
 pub record Ready (xs : List ℕ) (o : Offer) (grant : ℕ) (cuts : Cuts) : Type 0 where
   pub asked : Asked xs o
   pub totals : areTotals (decode xs) ≡ true
   pub levels : AreCuts xs o cuts
   pub least : grant ≡ grantOf (decode xs .log) o (decode xs .accounts)
   pub room : HasRoom (decode xs) o grant
+  pub ordered : areOrdered 0 (o .time) (decode xs .log) ≡ true
 
 -- the memory after a grant, and the levels that it trips
 pub record Filled (xs : List ℕ) (o : Offer) (grant : ℕ) (ys : List ℕ) (trips : Trips) : Type 0 where

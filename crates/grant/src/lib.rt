@@ -6,6 +6,7 @@ ghost use lib.ListN.{length, getD};
 ghost use Rattle.measures.specs.Ranges.{In, premiums, offers, totals};
 ghost use Rattle.rules.specs.Rules.{levelOf, isRate};
 ghost use Rattle.rules.specs.declared.Level.the-variants.{Firm, Root};
+ghost use Rattle.log.specs.Log.{areOrdered};
 ghost use Rattle.state.specs.State.{profileIn, stored, decode};
 ghost use Rattle.state.specs.Laid.{Laid, withLog};
 ghost use Rattle.machine.specs.Machine.{counted, sameLevel, windowOf, longest, joinedLog};
@@ -214,7 +215,7 @@ fn credit(m: &mut [u64], o: Offer, grant: u64) -> Reached
 
 // The fill joins the log, if the grant is above 0 and a rule is a rate rule.
 fn join_log(m: &mut [u64], o: Offer, grant: u64)
-    requires { ⌜ Asked (now m) o × (grant ≤ offers .most) × HasRoom (decode (now m)) o grant ⌝ }
+    requires { ⌜ Asked (now m) o × (grant ≤ offers .most) × HasRoom (decode (now m)) o grant × (areOrdered 0 (o .time) (decode (now m) .log) ≡ true) ⌝ }
     ensures { λ _. ⌜ now (m .exit) ≡ stored (withLog (decode (now (m .entry))) (joinedLog (profileIn (decode (now (m .entry))) .rules) (decode (now (m .entry)) .log) o grant)) (now (m .entry)) ⌝ }
 {
     let longest = longest_window(m);

@@ -2,4 +2,5 @@ pub mod Order
 pub mod Logs
 pub mod Sums
 pub mod Sifting
+pub mod Flags
 pub mod Turns

@@ -1,16 +1,16 @@
 -- A log that holds entries: each is in range, and its numbers are the table of them. Assumes nothing.
-use Prim.Native.Nat.{ℕ, _*_, _≤_, _<_}
-use mathlib.Core.Path.{_≡_, ap, _∙_}
+use Prim.Native.Nat.{ℕ, _+_, _*_, _≤_, _<_}
+use mathlib.Core.Path.{_≡_, sym, ap, _∙_}
 use mathlib.Core.Bool.{true, _&&_}
-use mathlib.Core.List.{List, []}
+use mathlib.Core.List.{List, [], _∷_}
 use native.Mathlib.Omega.{arith}
-use lib.ListN.{length, take, drop}
+use lib.ListN.{length, getD, take, drop}
 use Rattle.laws.specs.Tests.{and-l, and-r}
-use Rattle.laws.specs.Lists.{same}
+use Rattle.laws.specs.Lists.{same, same-eq}
 use Rattle.tables.specs.Tables.{allZero, places, isPlace, every, placesPass}
 use Rattle.tables.specs.EntryPlace.{entryAt, entryNumbers, isEntry, isEntryPlace, logTable}
 use Rattle.tables.specs.declared.Entry.{Entry}
-use Rattle.tables.proofs.Parts.{and-i}
+use Rattle.tables.proofs.Parts.{two, and-i}
 use Rattle.tables.proofs.Tables.{Codec, pass-each, each-pass, is-table, valid-places, length-table, place-table, rest-table}
 use Rattle.tables.proofs.EntryPlace.{entry-codec, entry-wider}
 use Rattle.log.specs.Log.{areOrdered, logHolds, Held, entriesOf}
@@ -19,7 +19,7 @@ use Rattle.log.specs.Log.{areOrdered, logHolds, Held, entriesOf}
 pub codec : Codec 2 (isEntry 64) entryAt entryNumbers
 codec = entry-codec 64 (omega arith)
 
-place-valid : (n : ℕ) (xs : List ℕ) → isEntryPlace n xs ≡ true → isEntry n (entryAt xs) ≡ true
+pub place-valid : (n : ℕ) (xs : List ℕ) → isEntryPlace n xs ≡ true → isEntry n (entryAt xs) ≡ true
 unfolding isPlace
 place-valid n xs h = and-r (same (take 2 xs) (entryNumbers (entryAt xs))) (isEntry n (entryAt xs)) h
 
@@ -28,6 +28,15 @@ unfolding isPlace
 place-wider n xs few h =
     let numbers = same (take 2 xs) (entryNumbers (entryAt xs)) in
     and-i numbers (isEntry 64 (entryAt xs)) (and-l numbers (isEntry n (entryAt xs)) h) (entry-wider n 64 (entryAt xs) few (place-valid n xs h))
+
+-- the two numbers of a place are those of its entry
+pub place-numbers : (xs : List ℕ) (at : ℕ) → at + 1 < length xs → isEntryPlace 64 (drop at xs) ≡ true
+    → getD xs at 0 ∷ getD xs (at + 1) 0 ∷ [] ≡ entryNumbers (entryAt (drop at xs))
+unfolding isPlace
+place-numbers xs at h pass =
+    let numbers = entryNumbers (entryAt (drop at xs)) in
+    let first : take 2 (drop at xs) ≡ getD xs at 0 ∷ getD xs (at + 1) 0 ∷ [] = ap (take 2) (two xs at h) in
+    sym first ∙ same-eq (take 2 (drop at xs)) numbers (and-l (same (take 2 (drop at xs)) numbers) (isEntry 64 (entryAt (drop at xs))) pass)
 
 module _ {k : ℕ} {xs : List ℕ} (h : Held k xs) where
   pub held-entry : {i : ℕ} {e : Entry} → i < k → e ≡ entryAt (drop (i * 2) xs) → isEntry 64 e ≡ true

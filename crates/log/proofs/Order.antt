@@ -1,15 +1,18 @@
 -- The test of the log, one place more. Assumes nothing.
-use Prim.Native.Nat.{ℕ, _+_, _*_, _-_, _≤_, _<_}
-use native.Mathlib.Nat.{sub-zero, zero-mul}
+use Prim.Native.Nat.{ℕ, _+_, _*_, _-_, _%_, _≤_, _<_, zero-le}
+use native.Mathlib.Nat.{sub-zero, zero-mul, le-trans}
 use native.Mathlib.Omega.{arith}
 use mathlib.Core.Path.{_≡_, refl, sym, _∙_}
-use mathlib.Core.Bool.{Bool, true, false, _&&_, false≢true}
+use mathlib.Core.Bool.{Bool, true, false, _&&_, and-true, false≢true}
 use mathlib.Core.List.{List}
 use lib.ListN.{drop}
 use lib.Dec.{leb}
+use borrow.Author.Tests.{leb-true, le-leb}
+use Rattle.laws.specs.Tests.{and-l, and-r, tests}
+use Rattle.measures.specs.Ranges.{isIn, times}
 use Rattle.tables.specs.Tables.{allZero, places, placesPass}
 use Rattle.tables.specs.EntryPlace.{entryAt, isEntryPlace}
-use Rattle.tables.specs.declared.Entry.{Entry}
+use Rattle.tables.proofs.Parts.{same-test, and-i}
 use Rattle.tables.proofs.Tables.{pass-on, places-on}
 use Rattle.log.specs.Log.{areOrdered, logHolds}
 
@@ -18,37 +21,83 @@ unfoldable pub leftHolds : ℕ → ℕ → ℕ → List ℕ → ℕ → ℕ → 
 leftHolds n clock k xs from i =
     placesPass 2 (isEntryPlace n) (k - i) (drop (i * 2) xs) && areOrdered from clock (places 2 entryAt (k - i) (drop (i * 2) xs))
 
-on : (t p a b o : Bool) → (t && a && b) ≡ true → (t && p && (a && b && o)) ≡ (p && o)
-on true p true true o h = refl
-on true p true false o h = absurd (false≢true h)
-on true p false b o h = absurd (false≢true h)
-on false p a b o h = absurd (false≢true h)
+-- the same, and `from` itself is in range and not later than the clock
+abbrev pub fromHolds : ℕ → ℕ → ℕ → List ℕ → ℕ → ℕ → Bool
+fromHolds n clock k xs from i = leb from 86_399_999 && leb from clock && leftHolds n clock k xs from i
 
-off : (t p a b o : Bool) → (t && a && b) ≡ false → (t && p && (a && b && o)) ≡ false
-off true true true true o h = absurd (false≢true (sym h))
-off true true true false o h = refl
-off true true false b o h = refl
-off true false a b o h = refl
-off false p a b o h = refl
+on : (f p a o : Bool) → (a ≡ true → f ≡ true) → (f && (p && (a && o))) ≡ (a && (p && o))
+on f p true o h = rw (h refl)
+on true true false o h = refl
+on true false false o h = refl
+on false p false o h = refl
 
-module _ (n clock k : ℕ) (xs : List ℕ) (from i : ℕ) (e : Entry) (is : e ≡ entryAt (drop (i * 2) xs)) (t : Bool) (test : t ≡ isEntryPlace n (drop (i * 2) xs))
-    (more : i < k) where
+none : (a b : Bool) → (a && b && false) ≡ false
+none true true = refl
+none true false = refl
+none false b = refl
+
+module _ (n clock k : ℕ) (xs : List ℕ) (from i time : ℕ) (rest : Bool) (is : entryAt (drop (i * 2) xs) .time ≡ time % 134_217_728)
+    (test : isEntryPlace n (drop (i * 2) xs) ≡ (isIn times time && rest)) (more : i < k) where
+  -- the places after this one hold entries, in order from a time on
+  abbrev passed : Bool
+  passed = placesPass 2 (isEntryPlace n) (k - (i + 1)) (drop ((i + 1) * 2) xs)
+
+  abbrev ordered : ℕ → Bool
+  ordered t = areOrdered t clock (places 2 entryAt (k - (i + 1)) (drop ((i + 1) * 2) xs))
+
   next : leftHolds n clock k xs from i
-      ≡ (t && placesPass 2 (isEntryPlace n) (k - (i + 1)) (drop ((i + 1) * 2) xs)
-      && (leb from (e .time) && leb (e .time) clock && areOrdered (e .time) clock (places 2 entryAt (k - (i + 1)) (drop ((i + 1) * 2) xs))))
+      ≡ (isIn times time && rest && passed
+      && (leb from (time % 134_217_728) && leb (time % 134_217_728) clock && ordered (time % 134_217_728)))
   unfolding leftHolds areOrdered
   next = rw (pass-on 2 k i xs more, places-on 2 k i xs more entryAt, is, test)
 
-  pub left-on : (t && leb from (e .time) && leb (e .time) clock) ≡ true → leftHolds n clock k xs from i ≡ leftHolds n clock k xs (e .time) (i + 1)
+  then : leftHolds n clock k xs time (i + 1) ≡ (passed && ordered time)
   unfolding leftHolds
-  left-on h = next ∙ on t _ (leb from (e .time)) (leb (e .time) clock) _ h
+  then = refl
 
-  pub left-off : (t && leb from (e .time) && leb (e .time) clock) ≡ false → leftHolds n clock k xs from i ≡ false
-  left-off h = next ∙ off t _ (leb from (e .time)) (leb (e .time) clock) _ h
+  -- a time in range is what its entry tells
+  kept : time ≤ 86_399_999 → time % 134_217_728 ≡ time
+  kept low = omega arith
 
-pub left-end : (n clock k : ℕ) (xs : List ℕ) (from i : ℕ) → k ≤ i → leftHolds n clock k xs from i ≡ true
+  pub left-on : (rest && leb from time) ≡ true → fromHolds n clock k xs from i ≡ fromHolds n clock k xs time (i + 1)
+  left-on h = go (leb time 86_399_999) refl
+    where
+      after : from ≤ time
+      after = leb-true from time (and-r rest (leb from time) h)
+
+      go : (b : Bool) → leb time 86_399_999 ≡ b → fromHolds n clock k xs from i ≡ fromHolds n clock k xs time (i + 1)
+      go true e =
+          let low = leb-true time 86_399_999 e in
+          rw (
+            next,
+            then,
+            e,
+            le-leb 0 time zero-le,
+            and-l rest (leb from time) h,
+            kept low,
+            le-leb from time after,
+            le-leb from 86_399_999 (le-trans after low),
+          )
+          (on (leb from clock) passed (leb time clock) (ordered time) (λ l. le-leb from clock (le-trans after (leb-true time clock l))))
+      go false e = rw (next, e, le-leb 0 time zero-le) (none (leb from 86_399_999) (leb from clock))
+
+  pub left-off : (rest && leb from time) ≡ false → fromHolds n clock k xs from i ≡ false
+  left-off h = same-test _ false there (λ e. absurd (false≢true e))
+    where
+      there : fromHolds n clock k xs from i ≡ true → false ≡ true
+      there e =
+          let l = rw next at (and-r (leb from 86_399_999 && leb from clock) (leftHolds n clock k xs from i) e) in
+          let low : time ≤ 86_399_999 = search tests depth 14 in
+          let valid : rest ≡ true = search (and-l, and-r) depth 14 in
+          let after : leb from (time % 134_217_728) ≡ true = search (and-l, and-r) depth 14 in
+          sym h ∙ and-i rest (leb from time) valid (rw (kept low) at after)
+
+pub left-start : (n clock k : ℕ) (xs : List ℕ) → leftHolds n clock k xs 0 0 ≡ fromHolds n clock k xs 0 0
+left-start n clock k xs = rw (le-leb 0 clock zero-le)
+
+pub left-end : (n clock k : ℕ) (xs : List ℕ) (from i : ℕ) → k ≤ i → fromHolds n clock k xs from i ≡ (leb from 86_399_999 && leb from clock)
 unfolding leftHolds placesPass places areOrdered
-left-end n clock k xs from i h = let z : k - i ≡ 0 = omega arith in rw z
+left-end n clock k xs from i h = let z : k - i ≡ 0 = omega arith in rw z (and-true (leb from 86_399_999 && leb from clock))
 
 -- the whole test, from what is left at the start
 pub holds-is : (n clock k : ℕ) (xs : List ℕ) → logHolds n clock k xs ≡ (leftHolds n clock k xs 0 0 && allZero (drop (k * 2) xs))

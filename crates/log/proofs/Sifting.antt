@@ -7,8 +7,7 @@ use native.Mathlib.Omega.{arith}
 use lib.Bits.{bitAnd, and-mask, and-zero-r, and-block}
 use lib.Dec.{eqb, leb, ltb}
 use borrow.Author.Tests.{leb-true, le-leb, ltb-true, lt-ltb, eqb-true, eq-eqb, ne-eqb}
-use lib.ListN.{getD, take, drop}
-use Rattle.laws.specs.Lists.{same, same-eq}
+use lib.ListN.{getD, drop}
 use Rattle.laws.specs.Tests.{and-l, and-r}
 use Rattle.measures.specs.Ranges.{isIn, units}
 use Rattle.rules.specs.Rules.{levelOf, covers, counts, added, share}
@@ -19,18 +18,18 @@ use Rattle.rules.specs.declared.Kind.the-variants.{Rate, Absolute}
 use Rattle.rules.specs.declared.Limit.{Limit}
 use Rattle.rules.specs.declared.Rule.{Rule}
 use Rattle.rules.proofs.Laws.{added-most}
-use Rattle.tables.specs.Tables.{every, isPlace}
+use Rattle.tables.specs.Tables.{every}
 use Rattle.tables.specs.RulePlace.{isLimit, isKind, isScope, isRule}
 use Rattle.bits.specs.Fields.{total, packed}
 use Rattle.tables.specs.EntryPlace.{flagNumber, fillValues, entryAt, entryNumbers, isEntry, isEntryPlace}
 use Rattle.tables.specs.declared.Entry.{Entry}
-use Rattle.tables.proofs.Parts.{two, same-test, and-i}
+use Rattle.tables.proofs.Parts.{same-test, and-i}
 use Rattle.tables.proofs.Tables.{pass-each}
 use Rattle.tables.proofs.EntryPlace.{Ranged, entry-ranged}
 use Rattle.log.specs.Log.{Held, entriesOf, flagOf, entryShare, sumOf}
 use Rattle.log.specs.Sieve.{firstTime, sieveIn, sieveOf, passes, fillNumber, sifted}
 use Rattle.log.specs.declared.Sieve.{Sieve}
-use Rattle.log.proofs.Logs.{held-valid}
+use Rattle.log.proofs.Logs.{place-numbers, held-valid}
 use Rattle.log.proofs.Sums.{picked-most}
 
 -- a time of the day counts exactly if it is not before the first that does
@@ -52,7 +51,7 @@ root-flag true false = refl
 root-flag false true = refl
 root-flag false false = refl
 
-flags-most : (a b : Bool) → flagNumber a * 2 + flagNumber b < 4
+pub flags-most : (a b : Bool) → flagNumber a * 2 + flagNumber b < 4
 flags-most true true = omega arith
 flags-most true false = omega arith
 flags-most false true = omega arith
@@ -98,7 +97,7 @@ module _ (e : Entry) (v : isEntry 64 e ≡ true) where
   few : p < 4
   few = flags-most (e .forroot) (e .forfirm)
 
-  fill-is : fillNumber e ≡ e .time * 1024 + e .root * 16 + e .unit * 4 + p
+  pub fill-is : fillNumber e ≡ e .time * 1024 + e .root * 16 + e .unit * 4 + p
   unfolding fillNumber fillValues packed total
   fill-is = omega arith
 
@@ -193,13 +192,9 @@ first-most Absolute time = zero-le
 
 -- the first number of a place that is used is its entry's
 pub held-fill : {k i : ℕ} {xs : List ℕ} → Held k xs → i < k → getD xs (i * 2) 0 ≡ fillNumber (entryAt (drop (i * 2) xs))
-unfolding isPlace fillNumber entryNumbers
+unfolding fillNumber entryNumbers
 held-fill {k = k} {i = i} {xs = xs} h l =
-    let e = entryAt (drop (i * 2) xs) in
-    let at = pass-each 2 (isEntryPlace 64) k xs (h .entries) i l in
-    let numbers = same-eq (take 2 (drop (i * 2) xs)) (entryNumbers e) (and-l (same (take 2 (drop (i * 2) xs)) (entryNumbers e)) (isEntry 64 e) at) in
-    let first : getD (take 2 (drop (i * 2) xs)) 0 0 ≡ getD xs (i * 2) 0 = rw (two xs (i * 2) (omega (arith, h .size, h .fits))) in
-    sym first ∙ ap (λ (ns : List ℕ). getD ns 0 0) numbers
+    ap (λ (ns : List ℕ). getD ns 0 0) (place-numbers xs (i * 2) (omega (arith, h .size, h .fits)) (pass-each 2 (isEntryPlace 64) k xs (h .entries) i l))
 
 -- what a rule in range says of its root and its unit
 pub whole-below : {scope : Scope} {r : ℕ} → isScope 64 scope ≡ true → scope ≡ WholeRoot r → r < 64

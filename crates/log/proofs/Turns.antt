@@ -1,21 +1,26 @@
 -- The log's entries rewritten in their places, one after the other, and the places after them set to 0. Assumes nothing.
 use Prim.Native.Nat.{ℕ, zero, suc, _+_, _*_, _-_, _≤_, _<_, zero-le}
-use mathlib.Core.Path.{_≡_, refl, sym, ap, _∙_}
-use mathlib.Core.Bool.{Bool, true, false, cond}
+use mathlib.Core.Path.{_≡_, refl, sym, ap, _∙_, subst}
+use mathlib.Core.Logic.{_≢_}
+use mathlib.Core.Bool.{Bool, true, false, cond, _&&_}
 use mathlib.Core.List.{List, [], _∷_, _++_, append-assoc, append-nil, map}
 use native.Mathlib.Numerals.{add-one}
 use native.Mathlib.Omega.{arith}
 use lib.ListN.{length, getD, take, drop, set, length-append, length-drop, drop-of-length-le}
-use lib.Seq.{sets, drop-cons, getD-append-add, getD-drop, set-at, append-snoc, take-at, drop-at, length-take-le}
+use lib.Seq.{sets, drop-cons, getD-append-add, getD-drop, set-at, set-comm, set-getD, append-snoc, take-at, drop-at, length-take-le}
+use lib.Dec.{leb, ltb}
+use borrow.Author.Tests.{leb-true, ltb-true, lt-ltb}
 use Rattle.laws.specs.Tests.{and-l, and-r}
 use Rattle.rules.specs.declared.Level.{Level}
-use Rattle.tables.specs.Tables.{zeros, flat, table, every}
-use Rattle.tables.specs.EntryPlace.{entryAt, entryNumbers, isEntry, logTable}
+use Rattle.tables.specs.Tables.{zeros, flat, table, places, every}
+use Rattle.tables.specs.EntryPlace.{amountValues, entryAt, entryNumbers, isEntry, isEntryPlace, logTable}
 use Rattle.tables.specs.declared.Entry.{Entry}
 use Rattle.tables.proofs.Parts.{and-i}
-use Rattle.tables.proofs.Tables.{zeros-add, length-zeros, length-flat, length-places, length-table, read-table, put-at, put-next}
-use Rattle.log.specs.Log.{Held, entriesOf, unflagged, keep, isRecent, recent, joined, OneKept, Kept}
-use Rattle.log.proofs.Logs.{codec, held-valid, held-table}
+use Rattle.tables.proofs.Tables.{zeros-add, length-zeros, length-flat, length-places, length-table, place-table, read-table, put-at, put-next}
+use Rattle.log.specs.Log.{areOrdered, Held, entriesOf, unflagged, keep, isRecent, recent, joined, OneKept, Kept}
+use Rattle.log.specs.Sieve.{fillNumber, withoutFlags}
+use Rattle.log.proofs.Logs.{codec, place-numbers, held-valid, held-table}
+use Rattle.log.proofs.Flags.{unflagged-entry, unflagged-fill}
 
 -- a list p and then another from p's length on: what stands past p, one more at p's end, and how long they are
 module _ {A : Type 0} (d : A) (p q : List A) (j : ℕ) (l : length p ≡ j) where
@@ -62,18 +67,30 @@ unfolding every
 turned-none out h = record { made = []; count = refl; within = zero-le; valid = refl; whole = refl; log = held-table h }
 
 module _ {out : List Entry → List Entry} {k : ℕ} {xs : List ℕ} {i j : ℕ} {ys : List ℕ} (h : Held k xs) (t : Turned out k xs i j ys) where
-  -- the next entry still stands in its place
+  abbrev stands : List Entry
+  stands = t .made ++ drop j (entriesOf k xs)
+
+  stands-valid : every (isEntry 64) stands ≡ true
+  stands-valid =
+      every-append (isEntry 64) (t .made) (drop j (entriesOf k xs)) (t .valid) (every-drop (isEntry 64) (entriesOf k xs) j (held-valid h))
+
+  stands-long : i < k → i < length stands
+  stands-long l =
+      let long = length-places codec k xs in
+      omega (arith, overlaid (entryAt []) (t .made) (entriesOf k xs) j (t .count) (omega (arith, t .within)))
+
+  -- the next place still holds its entry, which is the next of all
+  pub turned-place : i < k → isEntryPlace 64 (drop (i * 2) ys) ≡ true
+  turned-place l = ap (λ (l : List ℕ). isEntryPlace 64 (drop (i * 2) l)) (t .log) ∙ place-table codec 512 stands i (entryAt []) stands-valid (stands-long l)
+
   turned-next : {e : Entry} → i < k → e ≡ entryAt (drop (i * 2) ys) → drop i (entriesOf k xs) ≡ e ∷ drop (i + 1) (entriesOf k xs)
   turned-next {e = e} l is =
       let d = entryAt [] in
       let es = entriesOf k xs in
-      let rs = t .made ++ drop j es in
       let long : i < length es = rw (length-places codec k xs) l in
-      let inside : j ≤ length es = omega (arith, t .within) in
-      let valid = every-append (isEntry 64) (t .made) (drop j es) (t .valid) (every-drop (isEntry 64) es j (held-valid h)) in
       let at : e ≡ getD es i d =
       is ∙ ap (λ (l : List ℕ). entryAt (drop (i * 2) l)) (t .log)
-      ∙ read-table codec 512 rs i d valid (rw (overlaid d (t .made) es j (t .count) inside) long) ∙ past d (t .made) es j (t .count) i (t .within) in
+      ∙ read-table codec 512 stands i d stands-valid (stands-long l) ∙ past d (t .made) es j (t .count) i (t .within) in
       rw (add-one i, at) (drop-cons es i d long)
 
   pub turned-entry : {e : Entry} → i < k → e ≡ entryAt (drop (i * 2) ys) → isEntry 64 e ≡ true
@@ -121,18 +138,25 @@ module _ {out : List Entry → List Entry} {k : ℕ} {xs : List ℕ} {i j : ℕ}
   turned-made : k ≤ i → out [] ≡ [] → t .made ≡ out (entriesOf k xs)
   turned-made l none = sym (append-nil (t .made)) ∙ ap (λ (l : List Entry). t .made ++ l) (sym (ap out (over l) ∙ none)) ∙ t .whole
 
--- a flag that is cleared leaves an entry in range
-pub unflagged-entry : (zeroes : Level → Bool) (e : Entry) → isEntry 64 e ≡ true → isEntry 64 (unflagged zeroes e) ≡ true
-unfolding isEntry unflagged
-unflagged-entry zeroes e v = v
+-- a number put first in a place is the whole place put, if the second is as it was
+first-put : (ys : List ℕ) (at f s : ℕ) → s ≡ getD ys (at + 1) 0 → set ys at f ≡ sets ys at (f ∷ s ∷ [])
+first-put ys at f s is =
+    let other : at ≢ suc at = λ e. omega arith in
+    sym (set-comm ys at (suc at) f s other ∙ ap (λ (l : List ℕ). set l at f) (ap (set ys (suc at)) (is ∙ rw (add-one at)) ∙ set-getD ys (suc at) 0))
 
 module _ (zeroes : Level → Bool) {k : ℕ} {xs : List ℕ} {i : ℕ} {ys : List ℕ} (h : Held k xs) (t : Turned (map (unflagged zeroes)) k xs i i ys) where
-  pub unflag-turn : {e a : Entry} {zs : List ℕ} → i < k → e ≡ entryAt (drop (i * 2) ys) → a ≡ unflagged zeroes e → zs ≡ sets ys (i * 2) (entryNumbers a)
+  pub unflag-turn : {zs : List ℕ} → i < k → length ys ≡ 1024 → zs ≡ set ys (i * 2) (withoutFlags zeroes (getD ys (i * 2) 0))
       → Turned (map (unflagged zeroes)) k xs (i + 1) (i + 1) zs
-  unflag-turn {e = e} l is cleared put =
-      turned-put h t l (ap (isEntry 64) cleared ∙ unflagged-entry zeroes e (turned-entry h t l is))
-      (ap (map (unflagged zeroes)) (turned-next h t l is) ∙ ap (λ (a : Entry). a ∷ map (unflagged zeroes) (drop (i + 1) (entriesOf k xs))) (sym cleared))
-      put
+  unfolding entryNumbers amountValues unflagged fillNumber
+  unflag-turn l size put =
+      let e = entryAt (drop (i * 2) ys) in
+      let valid = turned-entry h t l refl in
+      let numbers = place-numbers ys (i * 2) (omega (arith, h .fits)) (turned-place h t l) in
+      let fill : getD ys (i * 2) 0 ≡ fillNumber e = ap (λ (ns : List ℕ). getD ns 0 0) numbers in
+      let amount = ap (λ (ns : List ℕ). getD ns 1 0) numbers in
+      let cleared : withoutFlags zeroes (getD ys (i * 2) 0) ≡ fillNumber (unflagged zeroes e) = ap (withoutFlags zeroes) fill ∙ sym (unflagged-fill zeroes e valid) in
+      turned-put h t l (unflagged-entry zeroes e valid) (ap (map (unflagged zeroes)) (turned-next h t l refl))
+      (put ∙ ap (set ys (i * 2)) cleared ∙ first-put ys (i * 2) _ _ (sym amount))
 
   pub unflag-done : k ≤ i → ys ≡ logTable (map (unflagged zeroes) (entriesOf k xs))
   unflag-done l =
@@ -183,28 +207,48 @@ module _ {A : Type 0} (test : A → Bool) where
       go true l = omega arith
       go false l = omega arith
 
-  keep-all : (xs : List A) → length (keep test xs) ≡ length xs → keep test xs ≡ xs
-  unfolding keep
-  keep-all [] e = refl
-  keep-all (x ∷ xs) e = go (test x) (keep-all xs) e
-    where
-      go : (b : Bool) → (length (keep test xs) ≡ length xs → keep test xs ≡ xs) → length (cond b (x ∷ keep test xs) (keep test xs)) ≡ suc (length xs) → cond b (x ∷ keep test xs) (keep test xs) ≡ x ∷ xs
-      go true rest e = ap (λ (l : List A). x ∷ l) (rest (omega arith))
-      go false rest e = absurd (omega (arith, keep-most xs))
-
 -- where all entries are inside the window nothing moves
-pub all-kept : {window time k n : ℕ} {xs : List ℕ} → Held k xs → n ≡ length (recent window time (entriesOf k xs)) → n ≡ k → Kept window time k xs xs k
-unfolding recent
-all-kept {window = window} {time = time} {k = k} {xs = xs} h count all =
+all-kept : {window time k : ℕ} {xs : List ℕ} → Held k xs → recent window time (entriesOf k xs) ≡ entriesOf k xs → Kept window time k xs xs k
+all-kept {k = k} {xs = xs} h same =
     let es = entriesOf k xs in
     let long = length-places codec k xs in
-    let same : recent window time es ≡ es = keep-all (isRecent window time) es (sym count ∙ (all ∙ sym long)) in
     let end : length es ≤ k = omega arith in
     record {
-      count = sym all ∙ count;
+      count = sym (ap length same ∙ long);
       most = omega arith;
       log = held-table h ∙ ap logTable (sym (rw (same, drop-of-length-le es end) (append-nil es)));
     }
+
+pub none-kept : {window time k : ℕ} {xs : List ℕ} → Held k xs → k ≡ 0 → Kept window time k xs xs 0
+unfolding recent keep places
+none-kept {window = window} {time = time} {k = k} {xs = xs} h none =
+    subst (λ (n : ℕ). Kept window time k xs xs n) none (all-kept h (rw none))
+
+-- in order of time, all are inside the window where the first time is
+ordered-kept : (window time from clock : ℕ) (es : List Entry) → time < from + window → areOrdered from clock es ≡ true → recent window time es ≡ es
+unfolding recent keep areOrdered
+ordered-kept window time from clock [] l o = refl
+ordered-kept window time from clock (e ∷ es) l o =
+    let both = and-l (leb from (e .time) && leb (e .time) clock) (areOrdered (e .time) clock es) o in
+    let later = leb-true from (e .time) (and-l (leb from (e .time)) (leb (e .time) clock) both) in
+    let inside : time < e .time + window = omega arith in
+    rw (lt-ltb time (e .time + window) inside)
+    (ap (λ (l : List Entry). e ∷ l) (ordered-kept window time (e .time) clock es inside (and-r (leb from (e .time) && leb (e .time) clock) (areOrdered (e .time) clock es) o)))
+
+-- so they are where the oldest is
+pub oldest-kept : {window time k : ℕ} {xs : List ℕ} {e : Entry} → Held k xs → areOrdered 0 time (entriesOf k xs) ≡ true → e ≡ entryAt (drop 0 xs)
+    → isRecent window time e ≡ true → Kept window time k xs xs k
+unfolding recent keep areOrdered places
+oldest-kept {window = window} {time = time} {k = k} {xs = xs} {e = e} h o is test = all-kept h (go k o)
+  where
+    go : (n : ℕ) → areOrdered 0 time (entriesOf n xs) ≡ true → recent window time (entriesOf n xs) ≡ entriesOf n xs
+    go zero p = refl
+    go (suc n) p =
+        let a = entryAt xs in
+        let rest = entriesOf n (drop 2 xs) in
+        let inside : ltb time (a .time + window) ≡ true = ap (isRecent window time) (sym is) ∙ test in
+        rw inside
+        (ap (λ (l : List Entry). a ∷ l) (ordered-kept window time (a .time) time rest (ltb-true time (a .time + window) inside) (and-r (leb 0 (a .time) && leb (a .time) time) (areOrdered (a .time) time rest) p)))
 
 flat-append : (p q : List Entry) → flat entryNumbers (p ++ q) ≡ flat entryNumbers p ++ flat entryNumbers q
 unfolding flat

@@ -1,17 +1,19 @@
--- What counts for a rule at a time, by the first number of an entry. Assumes nothing.
-use Prim.Native.Nat.{ℕ, _+_, _*_, _-_, min}
+-- What counts for a rule at a time, by the first number of an entry, and this number without flags. Assumes nothing.
+use Prim.Native.Nat.{ℕ, _+_, _*_, _-_, _/_, _%_, min}
 use mathlib.Core.Bool.{Bool, cond, _&&_}
 use lib.Bits.{bitAnd}
 use lib.Dec.{eqb, leb}
 use Rattle.bits.specs.Fields.{packed}
 use Rattle.rules.specs.Rules.{added}
+use Rattle.rules.specs.declared.Level.{Level}
+use Rattle.rules.specs.declared.Level.the-variants.{Firm, Root}
 use Rattle.rules.specs.declared.Scope.{Scope}
 use Rattle.rules.specs.declared.Scope.the-variants.{EveryFill, WholeRoot, OneUnit}
 use Rattle.rules.specs.declared.Kind.{Kind}
 use Rattle.rules.specs.declared.Kind.the-variants.{Rate, Absolute}
 use Rattle.rules.specs.declared.Limit.{Limit}
 use Rattle.rules.specs.declared.Rule.{Rule}
-use Rattle.tables.specs.EntryPlace.{fillWidths, fillValues}
+use Rattle.tables.specs.EntryPlace.{flagNumber, fillWidths, fillValues}
 use Rattle.tables.specs.declared.Entry.{Entry}
 use Rattle.log.specs.declared.Sieve.{Sieve}
 
@@ -40,3 +42,11 @@ fillNumber e = packed fillWidths (fillValues e)
 -- what an entry counts in a limit's measure, if its first number passes
 unfoldable pub sifted : Limit → Sieve → Entry → ℕ
 sifted limit s e = cond (passes s (fillNumber e)) (added limit (e .premium .0) (e .contracts .0)) 0
+
+-- the digits of the flags of these levels in the first number of a root's entry
+unfoldable pub flagDigits : (Level → Bool) → ℕ → ℕ
+flagDigits zeroes root = flagNumber (zeroes (Root root)) * 2 + flagNumber (zeroes Firm)
+
+-- a first number without the flags of these levels
+unfoldable pub withoutFlags : (Level → Bool) → ℕ → ℕ
+withoutFlags zeroes fill = fill - bitAnd fill (flagDigits zeroes (fill / 16 % 64))

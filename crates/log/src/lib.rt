@@ -1,17 +1,17 @@
 // The log: its entries in their places, in order of time.
 ghost use mathlib.Core.Path.{_≡_};
 ghost use mathlib.Core.Bool.{true, cond};
-ghost use mathlib.Core.List.{map};
-ghost use Prim.Native.Nat.{_*_, _≤_, _<_};
-ghost use lib.ListN.{length, drop};
+ghost use mathlib.Core.List.{[], _∷_, map};
+ghost use Prim.Native.Nat.{_+_, _*_, _≤_, _<_};
+ghost use lib.ListN.{length, getD, drop};
 ghost use lib.Seq.{sets};
 ghost use Rattle.rules.specs.Rules.{added};
 ghost use Rattle.rules.specs.Resets.{zeroing};
 ghost use Rattle.tables.specs.Tables.{zeros};
 ghost use Rattle.tables.specs.RulePlace.{isRule};
-ghost use Rattle.tables.specs.EntryPlace.{entryNumbers, entryAt, isEntry, logTable};
-ghost use Rattle.log.specs.Log.{logHolds, Held, entriesOf, unflagged, entryShare, sumOf, isRecent, recent, OneKept, Kept, Joined};
-ghost use Rattle.log.specs.Sieve.{firstTime, sieveOf, passes, sifted};
+ghost use Rattle.tables.specs.EntryPlace.{flagNumber, entryNumbers, entryAt, isEntry, isEntryPlace, logTable};
+ghost use Rattle.log.specs.Log.{areOrdered, logHolds, Held, entriesOf, unflagged, entryShare, sumOf, isRecent, recent, OneKept, Kept, Joined};
+ghost use Rattle.log.specs.Sieve.{firstTime, sieveOf, passes, sifted, withoutFlags};
 use rules::Kind;
 use rules::Limit;
 use rules::Rule;
@@ -29,15 +29,15 @@ pub fn is_log(log: &[u64], k: usize, roots: u64, clock: u64) -> bool
         let at = i * 2;
         let first = log[at];
         let second = log[at + 1];
-        let e = tables::entry_of(first, second);
-        let time = e.time;
-        if !(tables::is_entry(first, second, roots) & (from <= time) & (time <= clock)) {
+        let time = first / 1024;
+        if !(tables::is_entry_but_time(first, second, roots) & (from <= time)) {
             return false;
         }
         from = time;
         i += 1;
     }
-    tables::is_zero(&log[k * 2..])
+    // No time is above the last one, and a time in range has nothing above it.
+    (from <= 86_399_999) & (from <= clock) & tables::is_zero(&log[k * 2..])
 }
 
 // The entry at place i of a log.
@@ -166,21 +166,26 @@ pub fn counted(log: &[u64], k: usize, rule: Rule, time: u64) -> u64
     summed_in(log, k, limit, sieve_of(rule, time))
 }
 
-// An entry without the flags that a reset of an order for a root clears.
-fn cleared(e: Entry, root: u64, reset: u64) -> Entry
-    ensures { λ r. ⌜ r ≡ unflagged (zeroing reset root) e ⌝ }
+// The digits of two flags, as they stand in an entry's first number.
+fn flag_digits(forroot: bool, forfirm: bool) -> u64
+    ensures { λ r. ⌜ r ≡ flagNumber forroot * 2 + flagNumber forfirm ⌝ }
 {
-    let premium = e.premium;
-    let contracts = e.contracts;
-    Entry {
-        time: e.time,
-        root: e.root,
-        unit: e.unit,
-        premium,
-        contracts,
-        forroot: !((e.root == root) & ((reset == 1) | (reset == 3))) & e.forroot,
-        forfirm: !((reset == 2) | (reset == 3)) & e.forfirm,
+    if forroot {
+        if forfirm { 3 } else { 2 }
+    } else if forfirm {
+        1
+    } else {
+        0
     }
+}
+
+// The first number of an entry without the flags that a reset of an order for a root clears.
+fn cleared(fill: u64, root: u64, reset: u64) -> u64
+    ensures { λ r. ⌜ r ≡ withoutFlags (zeroing reset root) fill ⌝ }
+{
+    let forroot = (fill / 16 % 64 == root) & ((reset == 1) | (reset == 3));
+    let forfirm = (reset == 2) | (reset == 3);
+    fill - (fill & flag_digits(forroot, forfirm))
 }
 
 // Clears the flags of the log's k entries that a reset of an order for a root clears.
@@ -190,8 +195,9 @@ pub fn unflag(log: &mut [u64], k: usize, root: u64, reset: u64)
 {
     let mut i: usize = 0;
     while i < k {
-        let e = entry_at(log, i);
-        put_entry(log, i, cleared(e, root, reset));
+        let at = i * 2;
+        let fill = log[at];
+        log[at] = cleared(fill, root, reset);
         i += 1;
     }
 }
@@ -222,25 +228,42 @@ pub fn recent_entries(log: &[u64], k: usize, window: u64, time: u64) -> usize
     n
 }
 
+// The two numbers of place i go to place j.
+fn copy_place(log: &mut [u64], i: usize, j: usize)
+    requires { ⌜ (length (now log) ≡ 1024) × (i < 512) × (j < 512) ⌝ }
+    ensures { λ _. ⌜ now (log .exit) ≡ sets (now (log .entry)) (j * 2) (getD (now (log .entry)) (i * 2) 0 ∷ getD (now (log .entry)) (i * 2 + 1) 0 ∷ []) ⌝ }
+{
+    let from = i * 2;
+    let first = log[from];
+    let second = log[from + 1];
+    let to = j * 2;
+    log[to] = first;
+    log[to + 1] = second;
+}
+
 // The entry at place i goes to place j if it is inside a window at a time. Returns the place after the last that stays.
 fn keep_one(log: &mut [u64], i: usize, j: usize, window: u64, time: u64) -> usize
-    requires { ⌜ (length (now log) ≡ 1024) × (i < 512) × (j ≤ i) × (window ≤ 86_400_000) × (isEntry 64 (entryAt (drop (i * 2) (now log))) ≡ true) ⌝ }
+    requires { ⌜ (length (now log) ≡ 1024) × (i < 512) × (j ≤ i) × (window ≤ 86_400_000) × (isEntryPlace 64 (drop (i * 2) (now log)) ≡ true) ⌝ }
     ensures { λ r. ⌜ OneKept window time i j (now (log .entry)) (now (log .exit)) r ⌝ }
 {
     let e = entry_at(log, i);
     if is_recent(e, window, time) {
-        put_entry(log, j, e);
+        copy_place(log, i, j);
         return j + 1;
     }
     j
 }
 
-// The entries inside a window at a time move down, in their order. Returns how many they are.
+// The entries inside a window at a time move down, in their order. Returns how many they are. Where the oldest is inside, all are.
 fn keep(log: &mut [u64], k: usize, window: u64, time: u64) -> usize
-    requires { ⌜ Held k (now log) × (window ≤ 86_400_000) ⌝ }
+    requires { ⌜ Held k (now log) × (window ≤ 86_400_000) × (areOrdered 0 time (entriesOf k (now log)) ≡ true) ⌝ }
     ensures { λ r. ⌜ Kept window time k (now (log .entry)) (now (log .exit)) r ⌝ }
 {
-    if recent_entries(log, k, window, time) == k {
+    if k == 0 {
+        return 0;
+    }
+    let oldest = entry_at(log, 0);
+    if is_recent(oldest, window, time) {
         return k;
     }
     let mut j: usize = 0;
@@ -265,7 +288,7 @@ pub fn blank(s: &mut [u64])
 
 // The entries that are no longer inside a window at a time leave, and e joins. Returns how many there are then.
 pub fn join(log: &mut [u64], k: usize, window: u64, time: u64, e: Entry) -> usize
-    requires { ⌜ Held k (now log) × (window ≤ 86_400_000) × (isEntry 64 e ≡ true) × (length (recent window time (entriesOf k (now log))) < 512) ⌝ }
+    requires { ⌜ Held k (now log) × (window ≤ 86_400_000) × (areOrdered 0 time (entriesOf k (now log)) ≡ true) × (isEntry 64 e ≡ true) × (length (recent window time (entriesOf k (now log))) < 512) ⌝ }
     ensures { λ r. ⌜ Joined window time k e (now (log .entry)) (now (log .exit)) r ⌝ }
 {
     let kept = keep(log, k, window, time);

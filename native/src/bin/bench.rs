@@ -1,82 +1,119 @@
-//! Prints, from one run, what the proved calls cost against one plain pass over the same numbers.
-use native::{arm, offer, remaining, status, SIZE};
-use std::hint::black_box;
-use std::time::Instant;
+//! bench: prints, from one run, what the proved calls cost against a plain pass, the second program and the hand-written calls.
+//! bench counts: prints instruction counts of the same lines, which valgrind takes and which are the same in every run.
+//! bench program: the program over the hand-written calls.
 
-/// One plain pass that reads the same numbers.
-fn pass(m: &[u64]) -> u64 {
-    m[..SIZE].iter().fold(0, |a, x| a | x)
-}
+use std::io::{stdin, stdout};
+use std::path::PathBuf;
+use std::time::Duration;
 
-/// The nanoseconds of a call, on the average of a hundred, each on the memory as it was.
-fn round(m: &[u64], copy: &mut [u64], call: &mut dyn FnMut(&mut [u64])) -> f64 {
-    let mut spent = 0;
-    for _ in 0..100 {
-        copy.copy_from_slice(m);
-        let start = Instant::now();
-        call(black_box(copy));
-        spent += start.elapsed().as_nanos();
-    }
-    spent as f64 / 100.0
-}
+use native::beside::{days, no_slip};
+use native::counts::{counts, run_counted};
+use native::lines::{lines, rates, Line};
+use native::measure::{Least, Times, CALLS, ROUNDS};
+use native::program;
+use native::rates::{program_rates, record_times, Program};
 
-/// The least of nothing, a plain pass and a call, their rounds taking turns so that what disturbs one disturbs all.
-fn line(name: &str, m: &[u64], mut call: impl FnMut(&mut [u64])) {
-    let (mut none, mut plain, mut proved) = (f64::MAX, f64::MAX, f64::MAX);
-    let mut copy = m.to_vec();
-    for _ in 0..600 {
-        none = none.min(round(m, &mut copy, &mut |_| {}));
-        plain = plain.min(round(m, &mut copy, &mut |m| {
-            black_box(pass(m));
-        }));
-        proved = proved.min(round(m, &mut copy, &mut call));
-    }
-    let (plain, proved) = (plain - none, proved - none);
-    println!("{name}: plain pass {plain:.0} ns, the call {proved:.0} ns, ratio {:.2}", proved / plain);
-}
-
-fn armed(text: &[u8]) -> Vec<u64> {
-    let mut m = vec![0; SIZE];
-    assert_eq!(arm(&mut m, text)[0], 0, "the profile is accepted");
-    m
-}
+/// How often all lines are gone through, and how long a line is measured each time.
+const TURNS: u32 = 6;
+const LINE: Duration = Duration::from_millis(50);
+/// How wide a line's name is printed.
+const WIDE: usize = 82;
 
 fn main() {
-    let few = armed(b"ABCD,abs_vol,XYZ,1000,0\nABCD,rate_vol,XYZ,500,1000\nABCD,rate_ntnl,,100000,60000,T\n");
-    assert_eq!(status(&few), [0, 0, 0, 0, 64], "no root is locked");
-    line("Status, 3 rules, 1 root", &few, |m| {
-        black_box(status(m));
-    });
+    let word = std::env::args().nth(1);
+    match word.as_deref() {
+        None => print_times(),
+        Some("counts") => print_counts(),
+        Some("counted") => run_counted(),
+        // a closed output ends the program without a word
+        Some("program") => drop(program::run(stdin().lock(), stdout().lock())),
+        Some(_) => eprintln!("usage: bench [counts | program]"),
+    }
+}
 
-    let mut many = Vec::new();
-    for n in 0..256 {
-        let (root, unit) = (n / 4, n % 4);
-        let (call, month) = (if unit < 2 { 'C' } else { 'P' }, if unit % 2 == 0 { 'F' } else { 'T' });
-        many.extend(format!("ABCD,rate_vol,R{root},500,1000,,{call},{month}\n").bytes());
-    }
-    line("Status, 256 rules, 64 roots", &armed(&many), |m| {
-        black_box(status(m));
-    });
+/// An empty folder of this run.
+fn folder() -> PathBuf {
+    let folder = std::env::temp_dir().join(format!("mbrumzheg-{}", std::process::id()));
+    std::fs::create_dir_all(&folder).expect("a folder");
+    folder
+}
 
-    let mut six = Vec::new();
-    for kind in ["rate_vol", "rate_ntnl", "rate_count"] {
-        six.extend(format!("ABCD,{kind},XYZ,1000000000,60000\nABCD,{kind},,1000000000,60000,T\n").bytes());
+/// Prints instruction counts of every line.
+fn print_counts() {
+    let folder = folder();
+    let counted = counts(&std::env::current_exe().expect("this program"), &folder);
+    std::fs::remove_dir_all(&folder).expect("the folder goes");
+    println!("Instructions of one call, by callgrind.");
+    println!("{:WIDE$}{:>8}{:>8}{:>8}{:>8}{:>8}", "", "pass", "proved", "hand", "to pass", "to hand");
+    for (line, [pass, library, hand]) in counted {
+        let [to_pass, to_hand] = [pass, hand].map(|count| library as f64 / count as f64);
+        println!("{:WIDE$}{pass:8}{library:8}{hand:8}{to_pass:8.2}{to_hand:8.2}", line.name);
     }
-    let mut busy = armed(&six);
-    for n in 0..50 {
-        assert_eq!(offer(&mut busy, 1000 + n, 0, n % 4, 70_000, 5), [0, 0, 5, 0, 0], "all of it is granted");
+}
+
+/// Prints the table of times.
+fn print_times() {
+    checked();
+    println!(
+        "States are warm: each is copied into place before each call, outside the time. A round is {CALLS} calls, and its time their average without\n\
+         the clock's own. Rounds take turns for {} ms a line, at least {ROUNDS}, and all lines are gone through {TURNS} times; the least round counts.\n\
+         Ratios are the proved library's time to that of a plain pass over the state's 1,866 numbers, of the second program on its own state, and of\n\
+         the hand-written call on the same memory. A call is within its bound if it takes at most two plain passes and what the hand-written call\n\
+         takes beyond the hand-written test of that state.",
+        LINE.as_millis()
+    );
+    println!("{:WIDE$}{:>8}{:>10}{:>8}{:>10}{:>8}{:>7}{:>12}", "", "pass ns", "proved ns", "to pass", "to second", "to hand", "bound", "a second");
+    let mut measured: Vec<(Line, Least)> = lines().into_iter().map(|line| (line, Least::new())).collect();
+    for _ in 0..TURNS {
+        measured.iter_mut().for_each(|(line, least)| least.measure(line, LINE));
     }
-    line("Status, 6 rate rules, 50 entries", &busy, |m| {
-        black_box(status(m));
-    });
-    // Remaining is the test of the state and one pass over the log
-    line("Remaining, 6 rate rules, 50 entries", &busy, |m| {
-        black_box(remaining(m, 2000, 0));
-    });
-    line("Offer, 6 covering rate rules, 50 entries", &busy, |m| {
-        black_box(offer(m, 2000, 0, 1, 70_000, 5));
-    });
-    line("Offer, 6 covering rate rules, no entry", &armed(&six), |m| {
-        black_box(offer(m, 2000, 0, 1, 70_000, 5));
-    });
+    measured.iter().for_each(|(line, least)| print_line(line, least.times()));
+    print_records();
+    print_programs();
+}
+
+/// Before anything is measured: the hand-written calls keep the contract on days of calls in which everything comes up.
+fn checked() {
+    let tally = days(250, 7, no_slip).unwrap_or_else(|difference| panic!("{difference}"));
+    assert!(tally.missing().is_empty(), "never came up: {:?}", tally.missing());
+    println!("The hand-written calls answered as the proved library and left the same memory in {} calls.", tally.calls);
+}
+
+/// Prints one line of the table.
+fn print_line(line: &Line, times: Times) {
+    let Times { pass, library, hand, second, hand_test } = times;
+    let ratios = [library / pass, library / second, library / hand];
+    let bound = 2.0 * pass + (hand - hand_test).max(0.0);
+    let within = match line.tests_state() {
+        true if library <= bound => "within",
+        true => "above",
+        false => "",
+    };
+    let [to_pass, to_second, to_hand] = ratios;
+    println!("{:WIDE$}{pass:8.0}{library:10.0}{to_pass:8.2}{to_second:10.2}{to_hand:8.2}{within:>7}{:12.0}", line.name, 1e9 / library);
+}
+
+/// Prints what a record costs.
+fn print_records() {
+    for (words, [library, second, hand]) in ["Record read", "Record written"].into_iter().zip(record_times()) {
+        println!("{words}: proved {library:.1} ns, second {second:.1} ns, by hand {hand:.1} ns");
+    }
+}
+
+/// Prints the records a second of the programs.
+fn print_programs() {
+    let this = std::env::current_exe().expect("this program");
+    let beside = |name: &str| this.with_file_name(name);
+    // the kit builds programs for x86-64 alone
+    let gateway = if cfg!(target_arch = "x86_64") { this.with_file_name("../../bin/gateway") } else { PathBuf::new() };
+    let programs = [
+        Program { name: "proved", path: gateway, words: &[] },
+        Program { name: "second", path: beside("second"), words: &[] },
+        Program { name: "by hand", path: this.clone(), words: &["program"] },
+    ];
+    let folder = folder();
+    for (name, rate) in program_rates(&programs, &rates(3, 3), &folder) {
+        println!("The program, 6 rate rules, 50 entries, orders and offers in turn, {name}: {rate:.0} records a second of processor time");
+    }
+    std::fs::remove_dir_all(&folder).expect("the folder goes");
 }

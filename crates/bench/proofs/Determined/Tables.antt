@@ -10,8 +10,8 @@ use Rattle.tables.proofs.rule_place.Kinds as rule-place-kinds
 use Rattle.tables.proofs.rule_place.Reads as rule-place-reads
 use Rattle.tables.proofs.entry_of.Kinds as entry-of-kinds
 use Rattle.tables.proofs.entry_of.Reads as entry-of-reads
-use Rattle.tables.proofs.is_entry.Kinds as is-entry-kinds
-use Rattle.tables.proofs.is_entry.Reads as is-entry-reads
+use Rattle.tables.proofs.is_entry_but_time.Kinds as is-entry-but-time-kinds
+use Rattle.tables.proofs.is_entry_but_time.Reads as is-entry-but-time-reads
 use Rattle.tables.proofs.entry_place.Kinds as entry-place-kinds
 use Rattle.tables.proofs.entry_place.Reads as entry-place-reads
 use Rattle.tables.proofs.is_zero.Kinds as is-zero-kinds
@@ -29,8 +29,8 @@ rule-place κs args asked x y u v p q = (one p q, refl)
 pub entry-of : Determines 0 entry-of-kinds.ps entry-of-kinds.r entry-of-reads.Asked entry-of-reads.Learnt
 entry-of κs args asked x y u v p q = (one p q, refl)
 
-pub is-entry : Determines 0 is-entry-kinds.ps is-entry-kinds.r is-entry-reads.Asked is-entry-reads.Learnt
-is-entry κs args asked x y u v p q = (one p q, refl)
+pub is-entry-but-time : Determines 0 is-entry-but-time-kinds.ps is-entry-but-time-kinds.r is-entry-but-time-reads.Asked is-entry-but-time-reads.Learnt
+is-entry-but-time κs args asked x y u v p q = (one p q, refl)
 
 pub entry-place : Determines 0 entry-place-kinds.ps entry-place-kinds.r entry-place-reads.Asked entry-place-reads.Learnt
 entry-place κs args asked x y u v p q = (one p q, refl)

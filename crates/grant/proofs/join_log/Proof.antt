@@ -53,6 +53,7 @@ join-requires c κs =
     let some = at-if .if1 .left in (
       laid-held laid,
       window-day s (laid .fits) is,
+      p .3,
       entry-in 64 (p .0) (omega (arith, p .0 .root, laid .fits .roots)) (grant-some s (laid .fits) is (args .o) (args .grant) some) (p .1),
       room-for s (laid .fits) is (args .o) (args .grant) some (p .2),
     )

@@ -1,28 +1,30 @@
 -- `log::is_log` meets its contract: what is left from place i on decides as the whole does. Assumes nothing.
-use Prim.Native.Nat.{ℕ, _+_, _-_, _*_, _≤_, _<_}
+use Prim.Native.Nat.{ℕ, _+_, _-_, _*_, _/_, _%_, _≤_, _<_}
 use mathlib.Core.Path.{_≡_, refl, sym, ap, _∙_}
 use mathlib.Core.Bool.{Bool, _&&_}
 use mathlib.Core.List.{List}
-use lib.ListN.{length, take, drop, length-drop}
+use lib.ListN.{length, getD, take, drop, length-drop}
 use lib.Seq.{take-all}
+use lib.Dec.{leb}
 use borrow.Author.Needs.{needs}
 use borrow.Author.Tests.{not-true, not-false}
 use native.Mathlib.Omega.{arith}
+use Rattle.measures.specs.Ranges.{isIn, times}
 use Rattle.tables.specs.Tables.{allZero}
 use Rattle.tables.specs.EntryPlace.{entryAt, isEntryPlace}
-use Rattle.tables.proofs.EntryPlace.{entry-here, is-entry-here}
-use Rattle.log.proofs.Order.{leftHolds, left-on, left-off, left-end, holds-is}
+use Rattle.tables.proofs.EntryPlace.{time-here, is-entry-here}
+use Rattle.log.proofs.Order.{leftHolds, fromHolds, left-start, left-on, left-off, left-end, holds-is}
 use Rattle.log.proofs.is_log.Statement.{statement}
 use Rattle.log.proofs.is_log.Tie as tie
 
 abbrev Inv-loop : tie.InvT-loop
-Inv-loop log k roots clock from₀ i₀ from i = (i ≤ k) × (leftHolds roots clock k log 0 0 ≡ leftHolds roots clock k log from i)
+Inv-loop log k roots clock from₀ i₀ from i = (i ≤ k) × (leftHolds roots clock k log 0 0 ≡ fromHolds roots clock k log from i)
 
 abbrev μ-loop : tie.MeasureT-loop
 μ-loop log k roots clock from₀ i₀ from i = k - i
 
 loop-holds : tie.Need-loop-holds Inv-loop μ-loop
-loop-holds c = (omega arith, refl)
+loop-holds c = (omega arith, left-start _ _ _ _)
 
 mul-at : tie.Need-mul-at Inv-loop μ-loop
 mul-at c = search needs
@@ -42,16 +44,13 @@ mul-second c = search needs
 shared-slice-read-second : tie.Need-shared-slice-read-second Inv-loop μ-loop
 shared-slice-read-second c = search needs
 
-entry-of-requires : tie.Need-entry-of-requires Inv-loop μ-loop
-entry-of-requires c κs = search needs
+is-entry-but-time-requires : tie.Need-is-entry-but-time-requires Inv-loop μ-loop
+is-entry-but-time-requires c κs = search needs
 
-is-entry-requires : tie.Need-is-entry-requires Inv-loop μ-loop
-is-entry-requires c κs = search needs
-
--- the entry at place i, and whether it is one, by the numbers read there
-module _ (c : tie.After-is-entry Inv-loop μ-loop) where
+-- the time at place i, and whether an entry stands there, by the numbers read there
+module _ (c : tie.After-is-entry-but-time Inv-loop μ-loop) where
   abbrev at-test : tie.In-loop Inv-loop μ-loop
-  at-test = c .before .before .before .before
+  at-test = c .before .before .before
 
   abbrev numbers : List ℕ
   numbers = at-test .before .before .before .args .log .now
@@ -62,11 +61,11 @@ module _ (c : tie.After-is-entry Inv-loop μ-loop) where
   there : at + 1 < length numbers
   there = omega (arith, at-test .before .before .before .pre, at-test .loop-test .taken)
 
-  read : c .before .entry-of .result ≡ entryAt (drop at numbers)
-  read = c .before .entry-of .ensures ∙ entry-here numbers at there
+  tested : isEntryPlace (at-test .before .before .before .args .roots) (drop at numbers) ≡ (isIn times (getD numbers at 0 / 1024) && c .is-entry-but-time .result)
+  tested = is-entry-here numbers at there _ ∙ ap (λ (b : Bool). isIn times (getD numbers at 0 / 1024) && b) (sym (c .is-entry-but-time .ensures))
 
-  tested : c .is-entry .result ≡ isEntryPlace (at-test .before .before .before .args .roots) (drop at numbers)
-  tested = c .is-entry .ensures ∙ is-entry-here numbers at there _
+  timed : entryAt (drop at numbers) .time ≡ getD numbers at 0 / 1024 % 134_217_728
+  timed = time-here numbers at there
 
 returns : tie.Need-returns Inv-loop μ-loop
 returns c =
@@ -75,7 +74,7 @@ returns c =
     sym (holds-is (a .roots) (a .clock) (a .k) (a .log .now)
     ∙ ap (λ (b : Bool). b && allZero (drop (a .k * 2) (a .log .now)))
     (t .before .loop .inv .1
-    ∙ left-off _ _ _ _ _ _ _ (read (c .before)) _ (tested (c .before)) (t .loop-test .taken) (not-true _ (c .if1 .taken))))
+    ∙ left-off _ _ _ _ _ _ _ _ (timed (c .before)) (tested (c .before)) (t .loop-test .taken) (not-true _ (c .if1 .taken))))
 
 add-i : tie.Need-add-i Inv-loop μ-loop
 add-i c = search needs
@@ -88,7 +87,7 @@ loop-again c =
     let t = at-test (c .before) in (
       omega arith,
       t .before .loop .inv .1
-          ∙ left-on _ _ _ _ _ _ _ (read (c .before)) _ (tested (c .before)) (t .loop-test .taken) (not-false _ (c .if1 .left)),
+          ∙ left-on _ _ _ _ _ _ _ _ (timed (c .before)) (tested (c .before)) (t .loop-test .taken) (not-false _ (c .if1 .left)),
     )
 
 mul-is-zero : tie.Need-mul-is-zero Inv-loop μ-loop
@@ -113,11 +112,12 @@ returns-2 : tie.Need-returns-2 Inv-loop μ-loop
 returns-2 c =
     let a = c .before .before .before .before .before .args in
     let n = length (a .log .now) - a .k * 2 in
+    let from = c .before .before .before .loop .from in
     let e : c .is-zero .result ≡ allZero (take n (drop (a .k * 2) (a .log .now))) = c .is-zero .ensures in
-    e ∙ ap allZero (take-all n (drop (a .k * 2) (a .log .now)) (omega (arith, length-drop (a .k * 2) (a .log .now))))
+    ap (λ (b : Bool). leb from 86_399_999 && leb from (a .clock) && b) (e ∙ ap allZero (take-all n (drop (a .k * 2) (a .log .now)) (omega (arith, length-drop (a .k * 2) (a .log .now)))))
     ∙ sym (holds-is (a .roots) (a .clock) (a .k) (a .log .now)
     ∙ ap (λ (b : Bool). b && allZero (drop (a .k * 2) (a .log .now)))
-    (c .before .before .before .loop .inv .1 ∙ left-end _ _ _ _ _ _ (c .before .before .loop-test .left)))
+    (c .before .before .before .loop .inv .1 ∙ left-end (a .roots) (a .clock) (a .k) (a .log .now) from _ (c .before .before .loop-test .left)))
 
 pub is-log-spec : {M : Type 1} → statement M
 is-log-spec =
@@ -132,8 +132,7 @@ is-log-spec =
     add-second
     mul-second
     shared-slice-read-second
-    entry-of-requires
-    is-entry-requires
+    is-entry-but-time-requires
     returns
     add-i
     loop-less

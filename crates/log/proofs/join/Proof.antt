@@ -51,7 +51,7 @@ returns c =
     let start = at-keep .before .before .before in
     let a = start .args in
     let s = at-keep .keep .ensures in
-    let room : at-keep .keep .result < 512 = omega (arith, s .count, start .pre .3) in
+    let room : at-keep .keep .result < 512 = omega (arith, s .count, start .pre .4) in
     record {
       count =
           ap (λ (n : ℕ). n + 1) (s .count)

@@ -1,10 +1,12 @@
--- `log::keep` meets its contract: after i places the entries inside the window stand first, and from place j on all are as they were. Assumes nothing.
+-- `log::keep` meets its contract: in order of time all entries stay if the oldest does; else, after i places, the entries inside the window stand
+-- first, and from place j on all are as they were. Assumes nothing.
 use Prim.Native.Nat.{_-_, _≤_}
-use mathlib.Core.Path.{_≡_, refl, _∙_}
+use mathlib.Core.Path.{_≡_, sym, _∙_}
 use native.Mathlib.Omega.{arith}
 use lib.ListN.{length}
 use Rattle.log.specs.Log.{Held, recent}
-use Rattle.log.proofs.Turns.{Turned, turned-none, turned-entry, keep-turn, keep-done, all-kept}
+use Rattle.log.proofs.Logs.{held-entry}
+use Rattle.log.proofs.Turns.{Turned, turned-none, turned-place, keep-turn, keep-done, none-kept, oldest-kept}
 use borrow.Author.Needs.{needs}
 use Rattle.log.proofs.keep.Statement.{statement}
 use Rattle.log.proofs.keep.Tie as tie
@@ -16,17 +18,29 @@ abbrev μ-loop : tie.MeasureT-loop
 μ-loop log₀ k window time j₀ i₀ log j i = k - i
 
 -- what is held, from where the loop begins
-begun : (c : tie.Else1 Inv-loop μ-loop) → let a = c .before .before .before .before .args in Held (a .k) (a .log .now)
-begun c = c .before .before .before .before .pre .0
+begun : (c : tie.Else2 Inv-loop μ-loop) → let a = c .before .before .before .before .before .before .args in Held (a .k) (a .log .now)
+begun c = c .before .before .before .before .before .before .pre .0
 
-recent-entries-requires : tie.Need-recent-entries-requires Inv-loop μ-loop
-recent-entries-requires c κs = search needs
+returns : tie.Need-returns Inv-loop μ-loop
+returns c = none-kept (c .before .before .pre .0) (c .if1 .taken)
+
+entry-at-requires : tie.Need-entry-at-requires Inv-loop μ-loop
+entry-at-requires c κs = search needs
+
+is-recent-requires : tie.Need-is-recent-requires Inv-loop μ-loop
+is-recent-requires c κs =
+    let at-some = c .before .before in
+    let start = at-some .before .before in
+    (search needs, held-entry (start .pre .0) {i = 0} (omega (arith, at-some .if1 .left)) (c .entry-at .ensures))
 
 same-length : tie.Need-same-length Inv-loop μ-loop
 same-length c = search needs
 
-returns : tie.Need-returns Inv-loop μ-loop
-returns c = all-kept (c .before .before .before .before .pre .0) (c .before .recent-entries .ensures) (c .if1 .taken)
+returns-2 : tie.Need-returns-2 Inv-loop μ-loop
+returns-2 c =
+    let at-read = c .before .before in
+    let start = at-read .before .before .before .before in
+    oldest-kept (start .pre .0) (start .pre .2) (at-read .entry-at .ensures) (sym (c .before .is-recent .ensures) ∙ c .if2 .taken)
 
 loop-holds : tie.Need-loop-holds Inv-loop μ-loop
 loop-holds c = (search needs, begun c .size, turned-none _ (begun c))
@@ -35,7 +49,7 @@ keep-one-requires : tie.Need-keep-one-requires Inv-loop μ-loop
 keep-one-requires c κs =
     let t = c .before .before .loop .inv .2 in
     let held = begun (c .before .before .before) in
-    (search needs, search needs, t .within, search needs, turned-entry held t (c .before .loop-test .taken) refl)
+    (search needs, search needs, t .within, search needs, turned-place held t (c .before .loop-test .taken))
 
 add-i : tie.Need-add-i Inv-loop μ-loop
 add-i c = search needs
@@ -57,8 +71,8 @@ loop-again c =
 same-length-2 : tie.Need-same-length-2 Inv-loop μ-loop
 same-length-2 c = search needs
 
-returns-2 : tie.Need-returns-2 Inv-loop μ-loop
-returns-2 c =
+returns-3 : tie.Need-returns-3 Inv-loop μ-loop
+returns-3 c =
     let l = c .before .loop in
     keep-done (begun (c .before .before)) (l .inv .2) (c .loop-test .left) (omega (arith, l .inv .2 .within))
 
@@ -68,13 +82,15 @@ keep-spec =
     (tie.spec
     Inv-loop
     μ-loop
-    recent-entries-requires
-    same-length
     returns
+    entry-at-requires
+    is-recent-requires
+    same-length
+    returns-2
     loop-holds
     keep-one-requires
     add-i
     loop-less
     loop-again
     same-length-2
-    returns-2)
+    returns-3)

@@ -1,13 +1,12 @@
 -- `log::unflag` meets its contract: the first i entries have their flags cleared, and the others stand as they were. Assumes nothing.
-use Prim.Native.Nat.{_-_, _≤_}
+use Prim.Native.Nat.{_*_, _-_, _≤_}
 use mathlib.Core.Path.{_≡_, ap, _∙_}
 use mathlib.Core.List.{map}
 use native.Mathlib.Omega.{arith}
-use lib.ListN.{length}
+use lib.ListN.{length, set, length-set}
 use Rattle.rules.specs.Resets.{zeroing}
-use Rattle.tables.specs.EntryPlace.{isEntry}
 use Rattle.log.specs.Log.{unflagged}
-use Rattle.log.proofs.Turns.{Turned, turned-none, turned-entry, unflagged-entry, unflag-turn, unflag-done}
+use Rattle.log.proofs.Turns.{Turned, turned-none, unflag-turn, unflag-done}
 use borrow.Author.Needs.{needs}
 use Rattle.log.proofs.unflag.Statement.{statement}
 use Rattle.log.proofs.unflag.Tie as tie
@@ -21,20 +20,23 @@ abbrev μ-loop : tie.MeasureT-loop
 loop-holds : tie.Need-loop-holds Inv-loop μ-loop
 loop-holds c = (search needs, c .before .pre .size, turned-none _ (c .before .pre))
 
-entry-at-requires : tie.Need-entry-at-requires Inv-loop μ-loop
-entry-at-requires c κs = search needs
+mul-at : tie.Need-mul-at Inv-loop μ-loop
+mul-at c = search needs
+
+mul-fill : tie.Need-mul-fill Inv-loop μ-loop
+mul-fill c = search needs
+
+slice-read-fill : tie.Need-slice-read-fill Inv-loop μ-loop
+slice-read-fill c = search needs
 
 cleared-requires : tie.Need-cleared-requires Inv-loop μ-loop
 cleared-requires c κs = search needs
 
-put-entry-requires : tie.Need-put-entry-requires Inv-loop μ-loop
-put-entry-requires c κs =
-    let at-read = c .before .before in
-    let at-test = at-read .before .before in
-    let at-loop = at-test .before in
-    let held = at-loop .before .before .pre in
-    let valid = turned-entry held (at-loop .loop .inv .2) (at-test .loop-test .taken) (at-read .entry-at .ensures) in
-    (search needs, search needs, ap (isEntry 64) (c .cleared .ensures) ∙ unflagged-entry _ _ valid)
+mul-log : tie.Need-mul-log Inv-loop μ-loop
+mul-log c = search needs
+
+slice-write-log : tie.Need-slice-write-log Inv-loop μ-loop
+slice-write-log c = search needs
 
 add-i : tie.Need-add-i Inv-loop μ-loop
 add-i c = search needs
@@ -44,15 +46,13 @@ loop-less c = search needs
 
 loop-again : tie.Need-loop-again Inv-loop μ-loop
 loop-again c =
-    let at-put = c .before .before in
-    let at-read = at-put .before .before .before in
-    let at-test = at-read .before .before in
+    let at-test = c .before .before in
     let at-loop = at-test .before in
+    let l = at-loop .loop in
     let held = at-loop .before .before .pre in (
       omega arith,
-      at-put .put-entry .kept .0 ∙ at-loop .loop .inv .1,
-      unflag-turn _ held (at-loop .loop .inv .2) (at-test .loop-test .taken) (at-read .entry-at .ensures) (at-put .before .cleared .ensures)
-          (at-put .put-entry .ensures),
+      length-set (l .log) (l .i * 2) (c .cleared .result) ∙ l .inv .1,
+      unflag-turn _ held (l .inv .2) (at-test .loop-test .taken) (l .inv .1) (ap (set (l .log) (l .i * 2)) (c .cleared .ensures)),
     )
 
 same-length : tie.Need-same-length Inv-loop μ-loop
@@ -68,9 +68,12 @@ unflag-spec =
     Inv-loop
     μ-loop
     loop-holds
-    entry-at-requires
+    mul-at
+    mul-fill
+    slice-read-fill
     cleared-requires
-    put-entry-requires
+    mul-log
+    slice-write-log
     add-i
     loop-less
     loop-again

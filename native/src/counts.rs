@@ -1,0 +1,81 @@
+//! Instruction counts by valgrind's callgrind, which are the same in every run.
+
+use std::fs;
+use std::hint::black_box;
+use std::path::Path;
+use std::process::Command;
+
+use crate::beside::run_hand;
+use crate::lines::{lines, Line};
+use crate::measure::pass;
+use crate::pair::run_library;
+
+/// What is counted on each line.
+const WHO: [fn(&Line, &mut [u64]); 4] = [nothing, plain_pass, library, hand];
+/// How many calls are counted for each.
+const CALLS: u64 = 20;
+
+fn nothing(line: &Line, _: &mut [u64]) {
+    black_box(&line.call);
+}
+
+fn plain_pass(_: &Line, m: &mut [u64]) {
+    black_box(pass(m));
+}
+
+fn library(line: &Line, m: &mut [u64]) {
+    black_box(run_library(black_box(&line.call), m, &mut []));
+}
+
+fn hand(line: &Line, m: &mut [u64]) {
+    black_box(run_hand(black_box(&line.call), m, &mut []));
+}
+
+/// The function whose instructions are counted.
+#[no_mangle]
+#[inline(never)]
+pub extern "C" fn mbrumzheg_counted(who: usize, line: &Line, m: &mut Vec<u64>) {
+    WHO[who](line, m);
+}
+
+/// The function after which the count so far is written down.
+#[no_mangle]
+#[inline(never)]
+pub extern "C" fn mbrumzheg_counted_all(who: usize) {
+    black_box(who);
+}
+
+/// What runs under callgrind: every call of every line.
+pub fn run_counted() {
+    for line in lines() {
+        for who in 0..WHO.len() {
+            let mut m = line.state.clone();
+            for _ in 0..CALLS {
+                m.copy_from_slice(&line.state);
+                mbrumzheg_counted(black_box(who), &line, black_box(&mut m));
+            }
+            mbrumzheg_counted_all(black_box(who));
+        }
+    }
+}
+
+/// Instructions of a plain pass, of the library and of the hand-written call for each line, by a program that runs them all.
+pub fn counts(program: &Path, folder: &Path) -> Vec<(Line, [u64; 3])> {
+    let out = folder.join("counts");
+    let options = ["--tool=callgrind", "--collect-atstart=no", "--toggle-collect=mbrumzheg_counted", "--dump-after=mbrumzheg_counted_all"];
+    let status = Command::new("valgrind").args(options).arg(format!("--callgrind-out-file={}", out.display())).arg(program).arg("counted").output();
+    assert!(status.is_ok_and(|output| output.status.success()), "valgrind runs {}", program.display());
+    let part = |number: usize| total(&fs::read_to_string(format!("{}.{number}", out.display())).expect("a count"));
+    let mut counted = Vec::new();
+    for (place, line) in lines().into_iter().enumerate() {
+        let [none, counts @ ..] = [1, 2, 3, 4].map(|who| part(WHO.len() * place + who));
+        counted.push((line, counts.map(|count: u64| (count - none) / CALLS)));
+    }
+    counted
+}
+
+/// The instructions of a part's file.
+fn total(file: &str) -> u64 {
+    let line = file.lines().find_map(|line| line.strip_prefix("totals:").or_else(|| line.strip_prefix("summary:")));
+    line.and_then(|count| count.trim().parse().ok()).expect("a total")
+}

@@ -1,0 +1,242 @@
+//! The same calls on the same memory, written by hand for speed: what the proved library is measured against.
+//! It keeps the whole contract: the refusals in their order, the test of soundness, and every number of the memory after.
+
+mod counted;
+mod map;
+mod profile;
+mod records;
+mod sound;
+
+pub use records::{read_record, write_record};
+
+use counted::{counted_by, Covering, Cuts, Offer};
+use map::*;
+use sound::{longest_if_sound, Longest};
+
+use crate::Row;
+
+/// The row of an answer or of a refusal.
+fn row(answer: Result<[u64; 4], u64>) -> Row {
+    match answer {
+        Ok([a, b, c, d]) => [0, a, b, c, d],
+        Err(refusal) => [refusal, 0, 0, 0, 0],
+    }
+}
+
+/// The state, if enough is lent.
+fn state(m: &[u64]) -> Result<&State, u64> {
+    m.first_chunk().ok_or(1)
+}
+
+/// The state, if enough is lent.
+fn state_mut(m: &mut [u64]) -> Result<&mut State, u64> {
+    m.first_chunk_mut().ok_or(1)
+}
+
+/// The longest window of an armed and sound state.
+fn armed(m: &State) -> Result<Longest, u64> {
+    if m[MARK] == 0 {
+        return Err(4);
+    }
+    longest_if_sound(m).ok_or(2)
+}
+
+/// The same at a time that is not below the clock.
+fn armed_at(m: &State, time: u64) -> Result<Longest, u64> {
+    let longest = armed(m)?;
+    if time > LAST_TIME || time < m[CLOCK] {
+        return Err(12);
+    }
+    Ok(longest)
+}
+
+/// 1 if the firm is locked, else 2 if the root is, else 0.
+fn verdict(m: &State, root: u64) -> u64 {
+    if m[FIRM_TRIPPED] | m[FIRM_LOCKED] != 0 {
+        1
+    } else {
+        ((m[TRIPPED] | m[LOCKED]) >> root & 1) * 2
+    }
+}
+
+pub fn arm(m: &mut [u64], text: &[u8]) -> Row {
+    let Ok(m) = state_mut(m) else { return row(Err(1)) };
+    if m[MARK] != 0 {
+        return row(Err(3));
+    }
+    match profile::read(text) {
+        Ok(profile) => {
+            profile.write(m);
+            row(Ok([0, profile.firm, profile.rules as u64, profile.roots as u64]))
+        }
+        Err((refusal, line)) => [refusal, line, 0, 0, 0],
+    }
+}
+
+pub fn clear(m: &mut [u64]) -> Row {
+    row(state_mut(m).map(|m| {
+        m.fill(0);
+        [0; 4]
+    }))
+}
+
+pub fn text(verdict: u64, room: &mut [u8]) -> Row {
+    let words: &[u8] = match verdict {
+        1 => b"f: RiskMgmtFirmLevel",
+        2 => b"s: RiskMgmtSymLevel",
+        _ => return row(Err(13)),
+    };
+    if room.len() < 20 {
+        return row(Err(1));
+    }
+    room[..words.len()].copy_from_slice(words);
+    row(Ok([words.len() as u64, 0, 0, 0]))
+}
+
+pub fn status(m: &[u64]) -> Row {
+    row(state(m).and_then(|m| {
+        armed(m)?;
+        let all = m[TRIPPED] | m[LOCKED];
+        Ok([m[TRIPPED].count_ones(), m[LOCKED].count_ones(), all.count_ones(), all.trailing_zeros()].map(u64::from))
+    }))
+}
+
+pub fn remaining(m: &[u64], time: u64, rule: u64) -> Row {
+    row(state(m).and_then(|m| {
+        armed_at(m, time)?;
+        if rule >= m[RULE_COUNT] {
+            return Err(13);
+        }
+        let rule = Rule::at(m, rule as usize);
+        Ok([rule.ceiling().saturating_sub(counted_by(m, &rule, time)), 0, 0, 0])
+    }))
+}
+
+pub fn lockout(m: &mut [u64], time: u64, level: u64, root: u64) -> Row {
+    row(state_mut(m).and_then(|m| {
+        armed_at(m, time)?;
+        match level {
+            0 if root < m[ROOT_COUNT] => m[LOCKED] |= 1 << root,
+            1 if root == 0 => m[FIRM_LOCKED] = 1,
+            _ => return Err(13),
+        }
+        m[CLOCK] = time;
+        Ok([0; 4])
+    }))
+}
+
+pub fn order(m: &mut [u64], time: u64, root: u64, reset: u64) -> Row {
+    row(state_mut(m).and_then(|m| {
+        armed_at(m, time)?;
+        if root >= m[ROOT_COUNT] || reset > 3 {
+            return Err(13);
+        }
+        m[CLOCK] = time;
+        if reset != 0 {
+            carry_out(m, root, reset & 1 != 0, reset & 2 != 0);
+        }
+        Ok([verdict(m, root), 0, 0, 0])
+    }))
+}
+
+/// Carries out a reset of a root, of the firm or of both.
+fn carry_out(m: &mut State, root: u64, of_root: bool, of_firm: bool) {
+    if of_root {
+        m[TRIPPED] &= !(1 << root);
+        m[LOCKED] &= !(1 << root);
+    }
+    if of_firm {
+        m[FIRM_TRIPPED] = 0;
+        m[FIRM_LOCKED] = 0;
+    }
+    zero_totals(m, root, of_root, of_firm);
+    clear_flags(m, root, of_root, of_firm);
+}
+
+/// Zeroes the totals of the root's rules, of firm rules, or of both.
+fn zero_totals(m: &mut State, root: u64, of_root: bool, of_firm: bool) {
+    let count = m[RULE_COUNT] as usize;
+    let (rules, totals) = m[RULES..LOG].split_at_mut(TOTALS - RULES);
+    for (rule, total) in rules.chunks_exact(2).zip(&mut totals[..count]) {
+        let is_firm = rule[1] & SCOPE == 0;
+        let is_hit = if is_firm { of_firm } else { of_root && rule[1] >> 2 & 63 == root };
+        *total = if is_hit { 0 } else { *total };
+    }
+}
+
+/// Clears the root flag in the root's entries, the firm flag in all, or both.
+fn clear_flags(m: &mut State, root: u64, of_root: bool, of_firm: bool) {
+    let entries = m[ENTRY_COUNT] as usize;
+    let log = &mut m[LOG..][..2 * entries];
+    let firm = u64::from(of_firm);
+    for entry in log.chunks_exact_mut(2) {
+        let hit = u64::from(of_root && entry[0] & ENTRY_ROOT == root << 4) << 1;
+        entry[0] &= !(firm | hit);
+    }
+}
+
+pub fn offer(m: &mut [u64], time: u64, root: u64, unit: u64, premium: u64, contracts: u64) -> Row {
+    let offer = Offer { time, root, unit, premium, contracts };
+    row(state_mut(m).and_then(|m| offered(m, &offer)))
+}
+
+/// An offer on lent memory.
+fn offered(m: &mut State, o: &Offer) -> Result<[u64; 4], u64> {
+    let longest = armed_at(m, o.time)?;
+    if o.root >= m[ROOT_COUNT] || o.unit > 3 {
+        return Err(13);
+    }
+    if o.premium.wrapping_sub(1) >= MOST_PREMIUM || o.contracts.wrapping_sub(1) >= MOST_CONTRACTS {
+        return Err(14);
+    }
+    let verdict = verdict(m, o.root);
+    if verdict != 0 {
+        m[CLOCK] = o.time;
+        return Ok([verdict, 0, 0, 0]);
+    }
+    let covering = Covering::new(m, o);
+    let cuts = covering.cuts(m, o);
+    let grant = cuts.root.min(cuts.firm);
+    if grant > 0 && m[ENTRY_COUNT] == PLACES && entry_time(m[LOG]) + longest > o.time {
+        return Err(15);
+    }
+    m[CLOCK] = o.time;
+    let mut trips = covering.credit(m, o, grant);
+    if grant > 0 && longest > 0 {
+        join(m, o, grant, longest);
+    }
+    trips.cut(&cuts, grant, o.contracts);
+    m[TRIPPED] |= u64::from(trips.root) << o.root;
+    m[FIRM_TRIPPED] |= u64::from(trips.firm);
+    Ok([0, grant, trips.root.into(), trips.firm.into()])
+}
+
+/// A fill joins the log, after the entries that are no longer inside the longest window have left.
+fn join(m: &mut State, o: &Offer, grant: u64, longest: Longest) {
+    let mut entries = m[ENTRY_COUNT] as usize;
+    if entries > 0 && entry_time(m[LOG]) + longest <= o.time {
+        let log = &mut m[LOG..];
+        let gone = first_inside(&log[..2 * entries], longest, o.time);
+        log.copy_within(2 * gone..2 * entries, 0);
+        log[2 * (entries - gone)..2 * entries].fill(0);
+        entries -= gone;
+    }
+    m[LOG + 2 * entries] = o.time << 10 | o.root << 4 | o.unit << 2 | 3;
+    m[LOG + 2 * entries + 1] = o.premium << 20 | grant;
+    m[ENTRY_COUNT] = entries as u64 + 1;
+}
+
+/// Which levels a fill trips.
+#[derive(Clone, Copy, Default)]
+struct Trips {
+    root: bool,
+    firm: bool,
+}
+
+impl Trips {
+    /// The levels whose rules cut the grant trip too.
+    fn cut(&mut self, cuts: &Cuts, grant: u64, contracts: u64) {
+        self.root |= grant < contracts && cuts.root == grant;
+        self.firm |= grant < contracts && cuts.firm == grant;
+    }
+}

@@ -1,0 +1,222 @@
+//! What rules have counted and allow: one pass over the log for all rules of a scope, from the newest entry on.
+
+use super::map::*;
+use super::Trips;
+
+/// An offered fill.
+pub struct Offer {
+    pub time: u64,
+    pub root: u64,
+    pub unit: u64,
+    pub premium: u64,
+    pub contracts: u64,
+}
+
+/// The least that the rules of the root allow, and the least that those of the firm do.
+pub struct Cuts {
+    pub root: u64,
+    pub firm: u64,
+}
+
+/// Which entries count for a scope: those whose digits under a mask are these.
+#[derive(Clone, Copy)]
+struct Sieve {
+    mask: u32,
+    want: u32,
+}
+
+impl Sieve {
+    /// The sieve of a scope: 0 every fill, 1 a whole root, 2 one unit.
+    fn new(scope: u64, root: u64, unit: u64) -> Sieve {
+        let (mask, want) = match scope {
+            0 => (1, 1),
+            1 => (ENTRY_ROOT | 2, root << 4 | 2),
+            _ => (ENTRY_ROOT | 14, root << 4 | unit << 2 | 2),
+        };
+        Sieve { mask: mask as u32, want: want as u32 }
+    }
+}
+
+impl Sieve {
+    /// The second number of an entry that passes, else 0.
+    fn amount(self, entry: &[u64]) -> u64 {
+        entry[1] & u64::from(entry[0] as u32 & self.mask == self.want).wrapping_neg()
+    }
+
+    /// What those of some entries that pass count in one measure.
+    #[inline(never)]
+    fn sum(self, entries: &[u64], measure: u64) -> u64 {
+        let amounts = entries.chunks_exact(2).map(|entry| self.amount(entry));
+        match measure {
+            0 => amounts.map(notional).sum(),
+            1 => amounts.map(|amount| amount & CONTRACTS).sum(),
+            _ => amounts.map(|amount| u64::from(amount != 0)).sum(),
+        }
+    }
+}
+
+/// The notional of an entry's second number.
+fn notional(amount: u64) -> u64 {
+    u64::from((amount >> 20) as u32) * (amount & CONTRACTS)
+}
+
+/// What some entries count in each measure.
+#[derive(Clone, Copy, Default)]
+struct Sums {
+    notional: u64,
+    volume: u64,
+    count: u64,
+}
+
+impl Sums {
+    /// Adds those entries that pass a sieve.
+    #[inline(never)]
+    fn add(&mut self, entries: &[u64], sieve: Sieve) {
+        for entry in entries.chunks_exact(2) {
+            let amount = sieve.amount(entry);
+            self.notional += notional(amount);
+            self.volume += amount & CONTRACTS;
+            self.count += u64::from(entry[0] as u32 & sieve.mask == sieve.want);
+        }
+    }
+
+    /// The sum in a measure.
+    fn of(&self, measure: u64) -> u64 {
+        match measure {
+            0 => self.notional,
+            1 => self.volume,
+            _ => self.count,
+        }
+    }
+}
+
+/// The place of the oldest entry inside a rule's window; most often all are.
+fn start_of(log: &[u64], rule: &Rule, time: u64) -> usize {
+    match log.first() {
+        Some(oldest) if entry_time(*oldest) + rule.window() <= time => first_inside(log, rule.window(), time),
+        _ => 0,
+    }
+}
+
+/// The log's entries.
+fn entries_of(m: &State) -> &[u64] {
+    &m[LOG..][..2 * m[ENTRY_COUNT] as usize]
+}
+
+/// What one rule has counted at a time.
+pub fn counted_by(m: &State, rule: &Rule, time: u64) -> u64 {
+    if rule.is_absolute() {
+        return m[TOTALS + rule.place];
+    }
+    let log = entries_of(m);
+    let sieve = Sieve::new(rule.second >> 8 & 3, rule.second >> 2 & 63, rule.second & 3);
+    sieve.sum(&log[2 * start_of(log, rule, time)..], rule.measure())
+}
+
+/// The rules that cover an offer, at most 6 of its root and 10 of the firm, by line.
+pub struct Covering {
+    rules: [Rule; 16],
+    length: usize,
+}
+
+impl Covering {
+    /// The rules of a sound state that cover an offer.
+    pub fn new(m: &State, o: &Offer) -> Covering {
+        let (whole, one) = (1 << 8 | o.root << 2, 2 << 8 | o.root << 2 | o.unit);
+        let mut covering = Covering { rules: [Rule::default(); 16], length: 0 };
+        let rules = &m[RULES..][..2 * m[RULE_COUNT] as usize];
+        for (place, rule) in rules.chunks_exact(2).enumerate() {
+            let scope = rule[1] & 0x3FF;
+            if scope & SCOPE == 0 || scope == whole || scope == one {
+                covering.rules[covering.length] = Rule { place, first: rule[0], second: rule[1] };
+                covering.length += 1;
+            }
+        }
+        covering
+    }
+
+    /// The rules.
+    fn rules(&self) -> &[Rule] {
+        &self.rules[..self.length]
+    }
+
+    /// The least that the rules of each level allow.
+    pub fn cuts(&self, m: &State, o: &Offer) -> Cuts {
+        let mut cuts = Cuts { root: o.contracts, firm: o.contracts };
+        for (rule, counted) in self.rules().iter().zip(self.counted(m, o)) {
+            let cut = if rule.is_firm() { &mut cuts.firm } else { &mut cuts.root };
+            *cut = (*cut).min(allowance(rule, counted, o));
+        }
+        cuts
+    }
+
+    /// The totals of covering absolute rules rise; which levels have a rule at its limit then.
+    pub fn credit(&self, m: &mut State, o: &Offer, grant: u64) -> Trips {
+        let mut trips = Trips::default();
+        let added = [o.premium * grant, grant, u64::from(grant > 0)];
+        for rule in self.rules().iter().filter(|rule| rule.is_absolute()) {
+            let total = &mut m[TOTALS + rule.place];
+            *total += added[rule.measure() as usize];
+            let reached = *total == rule.ceiling();
+            trips.firm |= reached && rule.is_firm();
+            trips.root |= reached && !rule.is_firm();
+        }
+        trips
+    }
+
+    /// What each rule has counted: rate rules by scope, the shortest window first, so that a sum goes on from the one before.
+    fn counted(&self, m: &State, o: &Offer) -> [u64; 16] {
+        let log = entries_of(m);
+        let (mut counted, mut keys, mut length) = ([0; 16], [0; 16], 0);
+        for (place, rule) in self.rules().iter().enumerate() {
+            if rule.is_absolute() {
+                counted[place] = m[TOTALS + rule.place];
+            } else if !log.is_empty() {
+                let newest_first = PLACES - start_of(log, rule, o.time) as u64;
+                keys[length] = (rule.second & SCOPE) << 8 | newest_first << 4 | place as u64;
+                length += 1;
+            }
+        }
+        keys[..length].sort_unstable();
+        self.count_by(log, o, &keys[..length], &mut counted);
+        counted
+    }
+
+    /// Counts rate rules in the order of their keys: scope, how far back their windows go, place.
+    fn count_by(&self, log: &[u64], o: &Offer, keys: &[u64], counted: &mut [u64; 16]) {
+        if let [key] = keys {
+            let place = (key & 15) as usize;
+            counted[place] = Sieve::new(key >> 16, o.root, o.unit).sum(&log[start_in(*key)..], self.rules[place].measure());
+            return;
+        }
+        let (mut scope, mut end, mut sums) = (u64::MAX, 0, Sums::default());
+        for key in keys {
+            let place = (key & 15) as usize;
+            if key >> 16 != scope {
+                (scope, end, sums) = (key >> 16, log.len(), Sums::default());
+            }
+            let start = start_in(*key);
+            if start < end {
+                sums.add(&log[start..end], Sieve::new(scope, o.root, o.unit));
+                end = start;
+            }
+            counted[place] = sums.of(self.rules[place].measure());
+        }
+    }
+}
+
+/// The number of the log at which a key's window begins.
+fn start_in(key: u64) -> usize {
+    2 * (PLACES - (key >> 4 & 0xFFF)) as usize
+}
+
+/// How much of an offer a rule allows that has counted so much.
+fn allowance(rule: &Rule, counted: u64, o: &Offer) -> u64 {
+    let left = rule.ceiling().saturating_sub(counted);
+    match rule.measure() {
+        0 if o.premium * o.contracts <= left => o.contracts,
+        0 => left / o.premium,
+        1 => left.min(o.contracts),
+        _ => if left == 0 { 0 } else { o.contracts },
+    }
+}

@@ -1,0 +1,96 @@
+//! Where each number stands, by docs/MEMORY.md.
+
+use crate::SIZE;
+
+/// The numbers of a state.
+pub type State = [u64; SIZE];
+
+pub const MARK: usize = 0;
+pub const CLOCK: usize = 1;
+pub const FIRM: usize = 2;
+pub const ROOT_COUNT: usize = 3;
+pub const RULE_COUNT: usize = 4;
+pub const ENTRY_COUNT: usize = 5;
+pub const FIRM_TRIPPED: usize = 6;
+pub const FIRM_LOCKED: usize = 7;
+pub const TRIPPED: usize = 8;
+pub const LOCKED: usize = 9;
+pub const ROOTS: usize = 10;
+pub const RULES: usize = 74;
+pub const TOTALS: usize = 586;
+pub const LOG: usize = 842;
+
+/// The places of the log.
+pub const PLACES: u64 = 512;
+pub const LAST_TIME: u64 = 86_399_999;
+pub const MOST_PREMIUM: u64 = 100_000_000;
+pub const MOST_CONTRACTS: u64 = 1_000_000;
+pub const MOST_WINDOW: u64 = 86_400_000;
+pub const MOST_TOTAL: u64 = 1_000_000_000_000_000;
+/// Ten-thousandths in a dollar.
+pub const DOLLAR: u64 = 10_000;
+
+/// The window of a rule's first number.
+pub const WINDOW: u64 = (1 << 27) - 1;
+/// Kind and scope of a rule's second number.
+pub const ABSOLUTE: u64 = 1 << 10;
+pub const SCOPE: u64 = 3 << 8;
+/// The root of an entry's first number, the contracts of its second.
+pub const ENTRY_ROOT: u64 = 63 << 4;
+pub const CONTRACTS: u64 = (1 << 20) - 1;
+
+/// The time of an entry, by its first number.
+pub fn entry_time(first: u64) -> u64 {
+    first >> 10
+}
+
+/// The place of the first of some entries that is inside a window at a time; they are in order of time.
+pub fn first_inside(entries: &[u64], window: u64, time: u64) -> usize {
+    let (mut low, mut high) = (0, entries.len() / 2);
+    while low < high {
+        let middle = (low + high) / 2;
+        if entry_time(entries[2 * middle]) + window > time {
+            high = middle;
+        } else {
+            low = middle + 1;
+        }
+    }
+    low
+}
+
+/// A rule as it stands, and its place.
+#[derive(Clone, Copy, Default)]
+pub struct Rule {
+    pub place: usize,
+    pub first: u64,
+    pub second: u64,
+}
+
+impl Rule {
+    /// The rule at a place.
+    pub fn at(m: &State, place: usize) -> Rule {
+        Rule { place, first: m[RULES + 2 * place], second: m[RULES + 2 * place + 1] }
+    }
+
+    /// 0 notional, 1 volume, 2 count.
+    pub fn measure(&self) -> u64 {
+        self.second >> 11
+    }
+
+    pub fn is_absolute(&self) -> bool {
+        self.second & ABSOLUTE != 0
+    }
+
+    pub fn is_firm(&self) -> bool {
+        self.second & SCOPE == 0
+    }
+
+    pub fn window(&self) -> u64 {
+        self.first & WINDOW
+    }
+
+    /// The limit in the measure that the rule counts in.
+    pub fn ceiling(&self) -> u64 {
+        (self.first >> 27) * if self.measure() == 0 { DOLLAR } else { 1 }
+    }
+}

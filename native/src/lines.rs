@@ -1,0 +1,181 @@
+//! What is measured: each line is one call on one state, the same for the proved library, the hand-written calls and the second program.
+
+use second::unit::{self, Unit};
+
+use crate::beside::run_hand;
+use crate::pair::run_library;
+use crate::scripts::{Kind, Step};
+use crate::{Row, SIZE};
+
+/// One line of the table: a call, and the state before it.
+pub struct Line {
+    pub name: String,
+    pub call: Step,
+    pub state: Vec<u64>,
+    pub unit: Unit,
+}
+
+impl Line {
+    /// A call on the state that some steps leave.
+    fn new(name: String, before: &[Step], call: Step) -> Line {
+        let (mut state, mut unit) = (vec![0; SIZE], Unit::new());
+        for step in before {
+            let row = run_library(step, &mut state, &mut []);
+            assert_eq!((row[0], run_unit(step, &mut unit)), (0, row), "{name}: {step}");
+        }
+        let line = Line { name, call, state, unit };
+        line.check();
+        line
+    }
+
+    /// All three answer alike, none refuses, and by hand the memory is left as by the library.
+    fn check(&self) {
+        let (mut one, mut other, mut unit) = (self.state.clone(), self.state.clone(), self.unit.clone());
+        let row = run_library(&self.call, &mut one, &mut []);
+        assert_eq!((row[0], run_hand(&self.call, &mut other, &mut [])), (0, row), "{}", self.name);
+        assert_eq!((run_unit(&self.call, &mut unit), one), (row, other), "{}", self.name);
+    }
+
+    /// Is it a call on a state, which has to be tested?
+    pub fn tests_state(&self) -> bool {
+        self.call.kind != Kind::Arm && self.call.kind != Kind::Clear
+    }
+}
+
+/// Runs a call on the second program's own state.
+pub fn run_unit(step: &Step, unit: &mut Unit) -> Row {
+    let [a, b, c, d, e] = step.numbers;
+    let first = |numbers: &[u64]| {
+        let mut row = [0; 5];
+        row[..numbers.len()].copy_from_slice(numbers);
+        row
+    };
+    match step.kind {
+        Kind::Arm => unit.arm(&step.profile).numbers(),
+        Kind::Clear => first(&[unit.clear().refusal]),
+        Kind::Order => unit.order(a, b, c).numbers(),
+        Kind::Lockout => unit.lockout(a, b, c).numbers(),
+        Kind::Offer => unit.offer(a, b, c, d, e).numbers(),
+        Kind::Remaining => first(&unit.remaining(a, b).numbers()),
+        Kind::Status => unit.status().numbers(),
+        Kind::Text => first(&unit::text(a, &mut [0; 20]).numbers()),
+        Kind::Length | Kind::Damage => unreachable!("no call"),
+    }
+}
+
+/// The types of limit, rate and absolute in turn.
+const TYPES: [&str; 6] = ["rate_vol", "abs_ntnl", "rate_ntnl", "abs_count", "rate_count", "abs_vol"];
+/// A limit that nothing here reaches.
+const WIDE: u64 = 1_000_000_000;
+
+/// A profile: rate rules alone that cover unit 1 of the one root, `root` of it and `firm` of the firm.
+pub fn rates(root: usize, firm: usize) -> Vec<u8> {
+    let types = ["rate_vol", "rate_ntnl", "rate_count"];
+    let line = |place: usize, rest: &str| format!("ABCD,{},{rest}\n", types[place % 3]);
+    let roots = (0..root).map(|place| line(place, &format!("XYZ,{WIDE},60000")));
+    roots.chain((0..firm).map(|place| line(place, &format!(",{WIDE},60000,T")))).collect::<String>().into_bytes()
+}
+
+/// A profile of as many rate as absolute rules, with windows of a second and of a minute: 6 of the root, half of them for unit 1 alone, and 10 of the
+/// firm.
+fn mixed() -> Vec<u8> {
+    let window = |place: usize| if place % 4 == 0 { 1_000 } else { 60_000 };
+    let line = |place: usize, root: &str, tail: &str| format!("ABCD,{},{root},{WIDE},{}{tail}\n", TYPES[place % 6], window(place));
+    let roots = (0..6).map(|place| line(place, "XYZ", if place < 3 { "" } else { ",,C,T" }));
+    roots.chain((0..10).map(|place| line(place, "", ",T"))).collect::<String>().into_bytes()
+}
+
+/// A profile of absolute rules alone, 3 of the root and 3 of the firm.
+fn absolutes() -> Vec<u8> {
+    let line = |place: usize, rest: &str| format!("ABCD,{},{rest}\n", TYPES[2 * place + 1]);
+    (0..3).map(|place| line(place, &format!("XYZ,{WIDE}")) + &line(place, &format!(",{WIDE},,T"))).collect::<String>().into_bytes()
+}
+
+/// A profile of so many lines of all types, four of each root, one for each unit.
+fn long(lines: usize) -> Vec<u8> {
+    let tails = [",,C,F", ",,C,T", ",,P,F", ",,P,T"];
+    let line = |n: usize| format!("ABCD,{},R{},{WIDE},60000{}\n", TYPES[n % 6], n / 4, tails[n % 4]);
+    (0..lines).map(line).collect::<String>().into_bytes()
+}
+
+/// Arms, and fills the log with so many entries, up to 60.8 seconds if there are 512, else a millisecond apart.
+fn filled(profile: Vec<u8>, entries: u64) -> Vec<Step> {
+    let apart = if entries == 512 { 117 } else { 1 };
+    let fill = |n: u64| Step::new(Kind::Offer, &[1_000 + n * apart, 0, n % 4, 70_000, 5]);
+    [Step::arm(profile)].into_iter().chain((0..entries).map(fill)).collect()
+}
+
+/// What is said of so many entries.
+fn entries_in_words(entries: u64) -> String {
+    match entries {
+        0 => "no entry".into(),
+        512 => "512 entries".into(),
+        entries => format!("{entries} entries"),
+    }
+}
+
+/// A time at which the oldest of 512 entries leaves, or at which all of fewer are inside a minute.
+fn time_after(entries: u64) -> u64 {
+    if entries == 512 { 61_000 } else { 2_000 }
+}
+
+/// Offers, by covering rules and entries.
+fn offers() -> Vec<Line> {
+    let profiles = [
+        ("1 covering rate rule", rates(1, 0)),
+        ("6 covering rate rules", rates(3, 3)),
+        ("16 covering rules (6 root and 10 firm, 8 rate and 8 absolute)", mixed()),
+        ("16 covering rate rules (6 root and 10 firm)", rates(6, 10)),
+    ];
+    let mut lines = Vec::new();
+    for (words, profile) in profiles {
+        for entries in [0, 50, 512] {
+            let name = format!("Offer, {words}, {}", entries_in_words(entries));
+            let call = Step::new(Kind::Offer, &[time_after(entries), 0, 1, 70_000, 5]);
+            lines.push(Line::new(name, &filled(profile.clone(), entries), call));
+        }
+    }
+    let call = Step::new(Kind::Offer, &[2_000, 0, 1, 70_000, 5]);
+    lines.push(Line::new("Offer, 6 covering absolute rules".into(), &filled(absolutes(), 50), call));
+    let others = "Offer, 1 covering rule of 256, 64 roots, 50 entries";
+    lines.push(Line::new(others.into(), &filled(long(256), 50), Step::new(Kind::Offer, &[2_000, 0, 0, 70_000, 5])));
+    lines
+}
+
+/// Calls that do little beside the test of the state, on states from small to full.
+fn small() -> Vec<Line> {
+    let states = [
+        ("3 rate rules, no entry", rates(2, 1), 0),
+        ("6 rate rules, 50 entries", rates(3, 3), 50),
+        ("16 rules, 512 entries", mixed(), 512),
+        ("256 rules, 64 roots, no entry", long(256), 0),
+    ];
+    let mut lines = Vec::new();
+    for (words, profile, entries) in states {
+        let time = time_after(entries);
+        let calls = [
+            ("Status", Step::new(Kind::Status, &[])),
+            ("Order without reset", Step::new(Kind::Order, &[time, 0, 0])),
+            ("Order, reset BOTH", Step::new(Kind::Order, &[time, 0, 3])),
+            ("Lockout of a root", Step::new(Kind::Lockout, &[time, 0, 0])),
+            ("Remaining of a rate rule", Step::new(Kind::Remaining, &[time, 0])),
+        ];
+        for (call_words, call) in calls {
+            lines.push(Line::new(format!("{call_words}, {words}"), &filled(profile.clone(), entries), call));
+        }
+    }
+    lines
+}
+
+/// Arm, by lines, and Clear.
+fn arms() -> Vec<Line> {
+    let words = |lines: usize| if lines == 1 { "Arm, 1 line, 1 root".into() } else { format!("Arm, {lines} lines, {} roots", lines / 4) };
+    let arm = |lines: usize| Line::new(words(lines), &[], Step::arm(long(lines)));
+    let clear = Line::new("Clear, 256 rules".into(), &[Step::arm(long(256))], Step::new(Kind::Clear, &[]));
+    [1, 32, 256].map(arm).into_iter().chain([clear]).collect()
+}
+
+/// All lines.
+pub fn lines() -> Vec<Line> {
+    small().into_iter().chain(offers()).chain(arms()).collect()
+}

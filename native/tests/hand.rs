@@ -1,0 +1,92 @@
+//! The hand-written calls keep the contract that they are measured under: they answer as the proved library and leave the same memory.
+
+use native::beside::{days, no_slip, Slip};
+use native::profiles::clashing;
+use native::records::{compare, Records};
+use native::{arm, hand, offer, order, status, SIZE};
+use second::gen::{self, Random};
+
+#[test]
+fn days_of_calls_are_answered_alike_by_hand() {
+    let tally = days(DAYS, SEED, no_slip).unwrap_or_else(|difference| panic!("{difference}"));
+    println!("{} calls\n{tally}", tally.calls);
+    assert!(tally.calls >= CALLS, "only {} calls", tally.calls);
+    assert!(tally.missing().is_empty(), "never came up: {:?}", tally.missing());
+}
+
+/// Enough days that each refusal, trip, cut, reset, full log, window's end and damaged state comes up.
+const DAYS: u64 = 250;
+const SEED: u64 = 7;
+const CALLS: u64 = 200_000;
+
+#[test]
+fn slips_are_found() {
+    let slips: [Slip; 4] = [
+        |_, _, row| row[2] -= u64::from(row[2] > 1_000),
+        |step, m, row| if row[0] == 0 && step.numbers[2] == 1 && m.len() >= SIZE { m[SIZE - 1] |= 1 },
+        |_, m, row| if row[0] == 15 { m[1] += 1 },
+        |_, _, row| row[0] = if row[0] == 2 { 0 } else { row[0] },
+    ];
+    for slip in slips {
+        assert!(days(DAYS, SEED, slip).is_err());
+    }
+}
+
+/// An armed state with absolute and rate rules, and entries in its log.
+fn busy() -> Vec<u64> {
+    let mut m = vec![0; SIZE];
+    let text = b"ABCD,abs_vol,XYZ,1000\nABCD,rate_vol,QR,500,1000,,C,F\nABCD,rate_ntnl,,100000,60000,T\nABCD,abs_ntnl,,900000,,T\n";
+    assert_eq!(arm(&mut m, text), [0, 0, 0x4142_4344, 4, 2]);
+    for n in 0..50 {
+        assert_eq!(offer(&mut m, 10 * n, n % 2, n % 4, 70_000, 2)[0], 0);
+    }
+    m
+}
+
+#[test]
+fn each_single_bit_of_a_state_is_judged_alike_by_hand() {
+    let mut m = busy();
+    let mut refused = 0;
+    for place in 0..SIZE {
+        for bit in 0..64 {
+            m[place] ^= 1 << bit;
+            let row = status(&m);
+            assert_eq!(hand::status(&m), row, "bit {bit} of number {place}");
+            refused += u64::from(row[0] == 2);
+            let (mut one, mut other) = (m.clone(), m.clone());
+            assert_eq!(order(&mut one, 1_000, 0, bit & 3), hand::order(&mut other, 1_000, 0, bit & 3));
+            assert_eq!(one, other, "bit {bit} of number {place}");
+            m[place] ^= 1 << bit;
+        }
+    }
+    assert!((100_000..119_424).contains(&refused), "{refused} of the single damaged bits are refused");
+}
+
+#[test]
+fn profiles_are_read_alike_by_hand() {
+    let mut random = Random::new(3);
+    let mut seen = [0; 12];
+    for seed in 0..200_000 {
+        let profile = match seed % 8 {
+            0 => gen::profile(seed),
+            1 => gen::damaged_profile(seed),
+            2 => gen::valid_profile(seed),
+            _ => clashing(&mut random),
+        };
+        let (mut one, mut other) = (vec![0; SIZE], vec![0; SIZE]);
+        let row = arm(&mut one, &profile);
+        assert_eq!(hand::arm(&mut other, &profile), row, "{}", profile.escape_ascii());
+        assert!(one == other, "{}", profile.escape_ascii());
+        seen[row[0] as usize] += 1;
+    }
+    println!("{seen:?}");
+    assert!([0, 6, 7, 8, 9, 10, 11].iter().all(|refusal| seen[*refusal] > 1_000) && seen[5] > 50, "{seen:?}");
+}
+
+#[test]
+fn records_are_read_and_written_alike_by_hand() {
+    let seen = compare(200_000, 5, &hand::read_record, &hand::write_record);
+    let Ok(Records { read, read_refused, written, write_refused }) = seen else { panic!("{seen:?}") };
+    assert!(read_refused > 10_000 && read - read_refused > 10_000, "{read_refused} of {read} refused");
+    assert!(write_refused > 10_000 && written - write_refused > 10_000, "{write_refused} of {written} refused");
+}
