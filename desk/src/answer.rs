@@ -1,40 +1,40 @@
 //! Answers in words, with the scope paper's numbers in brackets after them.
 
 use crate::profile::Profile;
-use crate::session::{Passed, Session};
+use crate::sitting::{Passed, Sitting};
 use crate::words::{self, grouped};
 use mbrumzheg::{Answer, Event, Level, Marks, Offer, Refusal, Reset, Root, Verdict};
 
 /// The answer to an event that was typed, in words and numbers; a refusal says what to type.
-pub fn answer(session: &Session, passed: &Passed) -> String {
+pub fn answer(sitting: &Sitting, passed: &Passed) -> String {
     let advice = match &passed.answer {
-        Err(refusal) => advice(session, *refusal),
+        Err(refusal) => advice(sitting, *refusal),
         Ok(_) => String::new(),
     };
-    format!("{}{advice}  [{}]", sentence(session, passed), passed.numbers())
+    format!("{}{advice}  [{}]", sentence(sitting, passed), passed.numbers())
 }
 
 /// The answer to an event that was replayed, after the words that would type it.
-pub fn replayed(session: &Session, passed: &Passed) -> String {
-    let typed = passed.event.map_or_else(|| "faulty record".to_string(), |event| typed(&session.profile, &event));
+pub fn replayed(sitting: &Sitting, passed: &Passed) -> String {
+    let typed = passed.event.map_or_else(|| "faulty record".to_string(), |event| typed(&sitting.profile, &event));
     let words = match &passed.answer {
         Err(refusal) => format!("refused with {}, {}", refusal.number(), refusal.name()),
-        Ok(_) => sentence(session, passed),
+        Ok(_) => sentence(sitting, passed),
     };
     format!("{typed}: {words}  [{}]", passed.numbers())
 }
 
 /// The answer in words.
-pub fn sentence(session: &Session, passed: &Passed) -> String {
+pub fn sentence(sitting: &Sitting, passed: &Passed) -> String {
     match (&passed.event, &passed.answer) {
-        (Some(Event::Offer(offer)), Ok(answer)) if answer.verdict.passes() => filled(&session.profile, offer, answer, passed),
+        (Some(Event::Offer(offer)), Ok(answer)) if answer.verdict.passes() => filled(&sitting.profile, offer, answer, passed),
         (Some(Event::Offer(offer)), Ok(answer)) => {
-            format!("{}, granted 0 of {}", rejected(session, answer.verdict, offer.root), grouped(offer.contracts.count()))
+            format!("{}, granted 0 of {}", rejected(sitting, answer.verdict, offer.root), grouped(offer.contracts.count()))
         }
-        (Some(Event::Order { root, reset, .. }), Ok(answer)) => ordered(session, *root, *reset, answer.verdict),
+        (Some(Event::Order { root, reset, .. }), Ok(answer)) => ordered(sitting, *root, *reset, answer.verdict),
         (Some(Event::Lockout { level, .. }), Ok(_)) => match level {
-            Level::Root(root) => format!("root {} locked by hand", session.profile.root_name(root.number())),
-            Level::Firm => format!("firm {} locked by hand", session.profile.firm),
+            Level::Root(root) => format!("root {} locked by hand", sitting.profile.root_name(root.number())),
+            Level::Firm => format!("firm {} locked by hand", sitting.profile.firm),
         },
         (_, Err(refusal)) => refusal.to_string(),
         (None, Ok(_)) => String::new(),
@@ -70,25 +70,25 @@ pub fn rules(profile: &Profile, numbers: &[usize]) -> String {
     each.join(" and ")
 }
 
-fn ordered(session: &Session, root: Root, reset: Reset, verdict: Verdict) -> String {
-    let name = session.profile.root_name(root.number());
+fn ordered(sitting: &Sitting, root: Root, reset: Reset, verdict: Verdict) -> String {
+    let name = sitting.profile.root_name(root.number());
     let done = match reset {
         Reset::None => String::new(),
         Reset::Symbol => format!("root {name} reset; "),
-        Reset::Firm => format!("firm {} reset; ", session.profile.firm),
-        Reset::Both => format!("root {name} and firm {} reset; ", session.profile.firm),
+        Reset::Firm => format!("firm {} reset; ", sitting.profile.firm),
+        Reset::Both => format!("root {name} and firm {} reset; ", sitting.profile.firm),
     };
     match verdict {
         Verdict::Free => format!("{done}the order on {name} may pass"),
-        _ => format!("{done}{}", rejected(session, verdict, root)),
+        _ => format!("{done}{}", rejected(sitting, verdict, root)),
     }
 }
 
-fn rejected(session: &Session, verdict: Verdict, root: Root) -> String {
+fn rejected(sitting: &Sitting, verdict: Verdict, root: Root) -> String {
     let text = verdict.text().map_or_else(String::new, |text| text.to_string());
     let (what, marks) = match verdict {
-        Verdict::FirmLocked => (format!("firm {}", session.profile.firm), session.unit.firm_marks()),
-        _ => (format!("root {}", session.profile.root_name(root.number())), session.unit.root_marks(root)),
+        Verdict::FirmLocked => (format!("firm {}", sitting.profile.firm), sitting.unit.firm_marks()),
+        _ => (format!("root {}", sitting.profile.root_name(root.number())), sitting.unit.root_marks(root)),
     };
     format!("rejected, {what} is {} ({text})", why_locked(marks))
 }
@@ -104,9 +104,9 @@ pub fn why_locked(marks: Marks) -> &'static str {
 }
 
 /// What to type after a refusal.
-fn advice(session: &Session, refusal: Refusal) -> String {
+fn advice(sitting: &Sitting, refusal: Refusal) -> String {
     match refusal {
-        Refusal::BadTime => format!("; type {} or a later time", words::time(session.unit.clock())),
+        Refusal::BadTime => format!("; type {} or a later time", words::time(sitting.unit.clock())),
         Refusal::LogFull => "; type a time at which the longest window has passed over the oldest fill".to_string(),
         _ => String::new(),
     }

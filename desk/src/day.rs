@@ -2,7 +2,7 @@
 
 use crate::answer;
 use crate::profile::{Profile, Rule, Scope};
-use crate::session::{Passed, Session};
+use crate::sitting::{Passed, Sitting};
 use mbrumzheg::{Event, Level, Offer, Reset, Root, Time, Unit};
 use std::collections::VecDeque;
 
@@ -92,18 +92,18 @@ impl Day {
     /// Replays events from the start on a unit armed with the same profile.
     pub fn replayed(profile: &Profile, events: &[Event]) -> Result<Day, String> {
         let unit = Unit::new().arm(&profile.text).map_err(|refused| refused.to_string())?;
-        let mut session = Session::new(unit, &profile.text);
+        let mut sitting = Sitting::new(unit, &profile.text);
         let mut day = Day::of_rules(profile, events);
         for event in events {
-            let left = day.leaving(&session, event.time().ms());
-            let passed = session.pass(*event);
+            let left = day.leaving(&sitting, event.time().ms());
+            let passed = sitting.pass(*event);
             // a refused event moves no clock, so it is as if its time had not come
             if passed.answer.is_ok() {
                 day.let_leave(left, event.time().ms());
             }
-            day.take(&session, event, &passed);
+            day.take(&sitting, event, &passed);
         }
-        day.close(&session);
+        day.close(&sitting);
         Ok(day)
     }
 
@@ -121,13 +121,13 @@ impl Day {
     }
 
     /// What rate rules have used at each moment, up to a time, at which a counted fill leaves the window.
-    fn leaving(&self, session: &Session, until: u64) -> Vec<(usize, u64, u64)> {
+    fn leaving(&self, sitting: &Sitting, until: u64) -> Vec<(usize, u64, u64)> {
         let mut samples = Vec::new();
-        for (rule, used) in session.profile.rules.iter().zip(&self.uses) {
+        for (rule, used) in sitting.profile.rules.iter().zip(&self.uses) {
             let mut last = None;
             for ms in used.leaving.iter().copied().take_while(|ms| *ms <= until) {
                 if last.replace(ms) != Some(ms) {
-                    samples.extend(used_at(session, rule, ms).map(|used| (rule.number, ms, used)));
+                    samples.extend(used_at(sitting, rule, ms).map(|used| (rule.number, ms, used)));
                 }
             }
         }
@@ -148,8 +148,8 @@ impl Day {
         }
     }
 
-    fn take(&mut self, session: &Session, event: &Event, passed: &Passed) {
-        let words = answer::replayed(session, passed);
+    fn take(&mut self, sitting: &Sitting, event: &Event, passed: &Passed) {
+        let words = answer::replayed(sitting, passed);
         if passed.is_notable() {
             self.entries.push(Entry { place: passed.place, ms: event.time().ms(), words: words.clone() });
         }
@@ -157,30 +157,30 @@ impl Day {
         let Ok(answer) = &passed.answer else { return };
         let mark = |kind| Mark { ms: event.time().ms(), kind, words: words.clone() };
         match event {
-            Event::Offer(offer) if answer.verdict.passes() => self.take_fill(session, offer, passed, mark),
+            Event::Offer(offer) if answer.verdict.passes() => self.take_fill(sitting, offer, passed, mark),
             Event::Offer(Offer { root, .. }) => self.mark_lane(lane_of(*root, answer.verdict.number() == 1), mark(Kind::Rejected)),
             Event::Order { root, reset, .. } => {
                 for scope in reset_lanes(*root, *reset) {
-                    self.mark_level(session, scope, mark(Kind::Reset));
+                    self.mark_level(sitting, scope, mark(Kind::Reset));
                 }
                 if !answer.verdict.passes() {
                     self.mark_lane(lane_of(*root, answer.verdict.number() == 1), mark(Kind::Rejected));
                 }
             }
-            Event::Lockout { level: Level::Firm, .. } => self.mark_level(session, 0, mark(Kind::Lockout)),
-            Event::Lockout { level: Level::Root(root), .. } => self.mark_level(session, lane_of(*root, false), mark(Kind::Lockout)),
+            Event::Lockout { level: Level::Firm, .. } => self.mark_level(sitting, 0, mark(Kind::Lockout)),
+            Event::Lockout { level: Level::Root(root), .. } => self.mark_level(sitting, lane_of(*root, false), mark(Kind::Lockout)),
         }
-        self.watch_locks(session, event.time().ms());
+        self.watch_locks(sitting, event.time().ms());
     }
 
-    fn take_fill(&mut self, session: &Session, offer: &Offer, passed: &Passed, mark: impl Fn(Kind) -> Mark) {
+    fn take_fill(&mut self, sitting: &Sitting, offer: &Offer, passed: &Passed, mark: impl Fn(Kind) -> Mark) {
         let Ok(answer) = &passed.answer else { return };
-        for rule in session.profile.covering(offer) {
+        for rule in sitting.profile.covering(offer) {
             let Some(used) = self.uses.get_mut(rule.number) else { continue };
             if let Some(window) = rule.window.filter(|_| answer.grant > 0) {
                 used.leaving.push_back(offer.time.ms() + window);
             }
-            used.sample(session, rule, offer.time.ms());
+            used.sample(sitting, rule, offer.time.ms());
             if passed.cut_by.contains(&rule.number) {
                 used.marks.push(mark(Kind::Cut));
             }
@@ -189,7 +189,7 @@ impl Day {
             }
         }
         let cut_at = |level: usize| {
-            passed.cut_by.iter().filter_map(|n| session.profile.rules.get(*n)).any(|rule| lane_of_scope(rule.scope) == level)
+            passed.cut_by.iter().filter_map(|n| sitting.profile.rules.get(*n)).any(|rule| lane_of_scope(rule.scope) == level)
         };
         for (level, tripped) in [(lane_of(offer.root, false), answer.root_trip), (lane_of(offer.root, true), answer.firm_trip)] {
             if cut_at(level) {
@@ -202,10 +202,10 @@ impl Day {
     }
 
     /// Marks a lane and the rules of its level, and asks what they have used now.
-    fn mark_level(&mut self, session: &Session, lane: usize, mark: Mark) {
-        for (rule, used) in session.profile.rules.iter().zip(&mut self.uses) {
+    fn mark_level(&mut self, sitting: &Sitting, lane: usize, mark: Mark) {
+        for (rule, used) in sitting.profile.rules.iter().zip(&mut self.uses) {
             if lane_of_scope(rule.scope) == lane {
-                used.sample(session, rule, mark.ms);
+                used.sample(sitting, rule, mark.ms);
                 used.marks.push(mark.clone());
             }
         }
@@ -219,11 +219,11 @@ impl Day {
     }
 
     /// Notes which levels went from free to locked or back.
-    fn watch_locks(&mut self, session: &Session, ms: u64) {
+    fn watch_locks(&mut self, sitting: &Sitting, ms: u64) {
         for (number, lane) in self.lanes.iter_mut().enumerate() {
             let locked = match number {
-                0 => session.unit.firm_marks().locked(),
-                _ => Root::new(number as u64 - 1).is_ok_and(|root| session.unit.root_marks(root).locked()),
+                0 => sitting.unit.firm_marks().locked(),
+                _ => Root::new(number as u64 - 1).is_ok_and(|root| sitting.unit.root_marks(root).locked()),
             };
             match (lane.since, locked) {
                 (None, true) => lane.since = Some(ms),
@@ -236,9 +236,9 @@ impl Day {
         }
     }
 
-    fn close(&mut self, session: &Session) {
+    fn close(&mut self, sitting: &Sitting) {
         let end = self.span.1;
-        let left = self.leaving(session, end);
+        let left = self.leaving(sitting, end);
         self.let_leave(left, end);
         for lane in &mut self.lanes {
             lane.locked.extend(lane.since.take().map(|since| (since, end)));
@@ -248,8 +248,8 @@ impl Day {
 
 impl Use {
     /// Asks what is used of a rule at a time, and notes it.
-    fn sample(&mut self, session: &Session, rule: &Rule, ms: u64) {
-        if let Some(used) = used_at(session, rule, ms) {
+    fn sample(&mut self, sitting: &Sitting, rule: &Rule, ms: u64) {
+        if let Some(used) = used_at(sitting, rule, ms) {
             self.note(ms, used);
         }
     }
@@ -291,8 +291,8 @@ impl Sums {
 }
 
 /// What is used of a rule at a time, if the library answers.
-fn used_at(session: &Session, rule: &Rule, ms: u64) -> Option<u64> {
-    let left = Time::from_ms(ms).ok().and_then(|time| session.left(time, rule.number))?;
+fn used_at(sitting: &Sitting, rule: &Rule, ms: u64) -> Option<u64> {
+    let left = Time::from_ms(ms).ok().and_then(|time| sitting.left(time, rule.number))?;
     Some(rule.limit.saturating_sub(left))
 }
 

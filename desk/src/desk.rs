@@ -5,7 +5,7 @@ use crate::asked::{listed, Names};
 use crate::command::{self, Command};
 use crate::files;
 use crate::report;
-use crate::session::{Passed, Session};
+use crate::sitting::{Passed, Sitting};
 use crate::table::{self, counted};
 use mbrumzheg::{ArmRefusal, Event, Records, Unit};
 use std::io::{self, Write};
@@ -13,7 +13,7 @@ use std::io::{self, Write};
 /// What stands on the desk: a unit without rules, or one with a day behind it.
 enum Bench {
     Unarmed(Unit),
-    Armed(Box<Session>),
+    Armed(Box<Sitting>),
 }
 
 /// The desk.
@@ -63,7 +63,7 @@ impl Desk {
             Command::Order(words) => self.pass(|names| names.order(&words)),
             Command::Lock(words) => self.pass(|names| names.lockout(&words)),
             Command::Remaining(words) => self.remaining(&words),
-            Command::Status => table::status(self.session()?).map_err(|refusal| refusal.to_string()),
+            Command::Status => table::status(self.sitting()?).map_err(|refusal| refusal.to_string()),
             Command::Clear => Ok(self.clear()),
             Command::Save(file) => self.save(&file),
             Command::Report { file, stretch } => self.report(&file, stretch),
@@ -72,9 +72,9 @@ impl Desk {
         }
     }
 
-    fn session(&mut self) -> Result<&mut Session, String> {
+    fn sitting(&mut self) -> Result<&mut Sitting, String> {
         match &mut self.bench {
-            Bench::Armed(session) => Ok(session),
+            Bench::Armed(sitting) => Ok(sitting),
             Bench::Unarmed(_) => Err(ARM_FIRST.to_string()),
         }
     }
@@ -82,21 +82,21 @@ impl Desk {
     fn arm(&mut self, file: &str) -> Result<String, String> {
         let unit = match std::mem::take(self).bench {
             Bench::Unarmed(unit) => unit,
-            Bench::Armed(session) => {
-                let advice = format!("armed already for {} (refusal 3); type clear first", session.profile.firm);
-                self.bench = Bench::Armed(session);
+            Bench::Armed(sitting) => {
+                let advice = format!("armed already for {} (refusal 3); type clear first", sitting.profile.firm);
+                self.bench = Bench::Armed(sitting);
                 return Err(advice);
             }
         };
         let text = files::profile(file)?;
         let armed = unit.arm(&text).map_err(|refused| not_armed(file, &text, refused.why))?;
-        Ok(self.begin(Session::new(armed, &text)))
+        Ok(self.begin(Sitting::new(armed, &text)))
     }
 
     /// Begins a day, and says with what.
-    fn begin(&mut self, session: Session) -> String {
-        let profile = &session.profile;
-        let (rules, roots) = (session.unit.rule_count(), session.unit.root_count());
+    fn begin(&mut self, sitting: Sitting) -> String {
+        let profile = &sitting.profile;
+        let (rules, roots) = (sitting.unit.rule_count(), sitting.unit.root_count());
         let names = if profile.roots.is_empty() { String::new() } else { format!(": {}", listed(&profile.roots)) };
         let text = format!(
             "armed for firm {}, {} and {}{names}  [armed {} {rules} {roots}]",
@@ -105,69 +105,69 @@ impl Desk {
             counted(roots, "root"),
             profile.firm
         );
-        self.bench = Bench::Armed(Box::new(session));
+        self.bench = Bench::Armed(Box::new(sitting));
         text
     }
 
     /// Passes the event that the words ask for.
     fn pass(&mut self, asked: impl FnOnce(Names) -> Result<Event, String>) -> Result<String, String> {
-        let session = self.session()?;
-        let event = asked(Names { profile: &session.profile, clock: session.unit.clock() })?;
-        let passed = session.pass(event);
-        Ok(answer::answer(session, &passed))
+        let sitting = self.sitting()?;
+        let event = asked(Names { profile: &sitting.profile, clock: sitting.unit.clock() })?;
+        let passed = sitting.pass(event);
+        Ok(answer::answer(sitting, &passed))
     }
 
     fn remaining(&mut self, words: &[String]) -> Result<String, String> {
-        let session = self.session()?;
-        let (time, shown) = Names { profile: &session.profile, clock: session.unit.clock() }.table(words)?;
-        table::rules(session, time, shown).map_err(|refusal| {
-            let clock = crate::words::time(session.unit.clock());
+        let sitting = self.sitting()?;
+        let (time, shown) = Names { profile: &sitting.profile, clock: sitting.unit.clock() }.table(words)?;
+        table::rules(sitting, time, shown).map_err(|refusal| {
+            let clock = crate::words::time(sitting.unit.clock());
             format!("{refusal}; type remaining, or a time from {clock} on")
         })
     }
 
     fn clear(&mut self) -> String {
         let before = std::mem::take(self).bench;
-        if let Bench::Armed(session) = before {
-            self.bench = Bench::Unarmed(session.unit.clear());
+        if let Bench::Armed(sitting) = before {
+            self.bench = Bench::Unarmed(sitting.unit.clear());
         }
         "cleared: the unit holds no rules, and nothing may pass until it is armed  [0]".to_string()
     }
 
     fn save(&mut self, file: &str) -> Result<String, String> {
-        let session = self.session()?;
-        files::write_records(file, &session.events)?;
-        Ok(format!("saved {} to {file}", counted(session.events.len(), "record")))
+        let sitting = self.sitting()?;
+        files::write_records(file, &sitting.events)?;
+        Ok(format!("saved {} to {file}", counted(sitting.events.len(), "record")))
     }
 
     fn report(&mut self, file: &str, stretch: Option<(String, String)>) -> Result<String, String> {
-        let session = self.session()?;
-        let names = Names { profile: &session.profile, clock: session.unit.clock() };
+        let sitting = self.sitting()?;
+        let names = Names { profile: &sitting.profile, clock: sitting.unit.clock() };
         let stretch = stretch.map(|(from, to)| names.stretch(&from, &to)).transpose()?;
-        let page = report::page(&session.profile, &session.events, stretch)?;
+        let page = report::page(&sitting.profile, &sitting.events, stretch)?;
         files::write_page(file, &page)?;
-        Ok(format!("wrote a page on {} to {file}", counted(session.events.len(), "event")))
+        Ok(format!("wrote a page on {} to {file}", counted(sitting.events.len(), "event")))
     }
 
     fn replay(&mut self, file: &str, quiet: bool, out: &mut dyn Write) -> io::Result<Result<String, String>> {
-        let session = match self.session() {
-            Ok(session) => session,
+        let sitting = match self.sitting() {
+            Ok(sitting) => sitting,
             Err(advice) => return Ok(Err(advice)),
         };
         let bytes = match files::day(file) {
             Ok(bytes) => bytes,
             Err(advice) => return Ok(Err(advice)),
         };
-        let clock = session.unit.clock();
+        let clock = sitting.unit.clock();
         let mut sums = Sums::default();
         for record in Records::new(&bytes) {
             let passed = match record {
-                Ok(event) => session.pass(event),
-                Err(_) => session.pass_faulty(),
+                Ok(event) => sitting.pass(event),
+                Err(_) => sitting.pass_faulty(),
             };
             sums.add(&passed);
             if !quiet || passed.is_notable() {
-                writeln!(out, "{}", answer::replayed(session, &passed))?;
+                writeln!(out, "{}", answer::replayed(sitting, &passed))?;
             }
         }
         let late = matches!(Records::new(&bytes).next(), Some(Ok(first)) if first.time() < clock);

@@ -11,7 +11,7 @@ pub mod lines;
 pub mod panel;
 pub mod profile;
 pub mod report;
-pub mod session;
+pub mod sitting;
 pub mod stretch;
 pub mod table;
 pub mod words;

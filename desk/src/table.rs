@@ -3,7 +3,7 @@
 use crate::answer::why_locked;
 use crate::asked::{listed, Shown};
 use crate::profile::{Rule, Scope};
-use crate::session::Session;
+use crate::sitting::Sitting;
 use crate::words;
 use mbrumzheg::{Marks, Refusal, Root, Time};
 
@@ -13,11 +13,11 @@ const HEADS: [&str; COLUMNS] = ["rule", "type", "of", "limit", "used", "left", "
 const BAR: u64 = 20;
 
 /// The rules with what is used and left at a time.
-pub fn rules(session: &Session, time: Time, shown: Shown) -> Result<String, Refusal> {
+pub fn rules(sitting: &Sitting, time: Time, shown: Shown) -> Result<String, Refusal> {
     let mut rows = Vec::new();
-    for rule in session.profile.rules.iter().filter(|rule| shown.has(rule)) {
-        let left = session.unit.remaining(time, rule.number)?;
-        rows.push((cells(session, rule, left), tail(session, rule, left)));
+    for rule in sitting.profile.rules.iter().filter(|rule| shown.has(rule)) {
+        let left = sitting.unit.remaining(time, rule.number)?;
+        rows.push((cells(sitting, rule, left), tail(sitting, rule, left)));
     }
     if rows.is_empty() {
         return Ok("no rule of the profile is for that".to_string());
@@ -31,12 +31,12 @@ pub fn rules(session: &Session, time: Time, shown: Shown) -> Result<String, Refu
     Ok(lines.join("\n"))
 }
 
-fn cells(session: &Session, rule: &Rule, left: u64) -> [String; COLUMNS] {
+fn cells(sitting: &Sitting, rule: &Rule, left: u64) -> [String; COLUMNS] {
     let used = rule.limit.saturating_sub(left);
     [
         rule.number.to_string(),
         rule.kind.clone(),
-        session.profile.scope_words(rule.scope),
+        sitting.profile.scope_words(rule.scope),
         rule.limit_words(),
         rule.amount(used).to_string(),
         rule.amount(left).to_string(),
@@ -51,10 +51,10 @@ fn line(cells: &[String; COLUMNS], widths: &[usize; COLUMNS]) -> String {
     format!("{number:>w0$}  {kind:<w1$}  {scope:<w2$}  {limit:<w3$}  {used:>w4$}  {left:>w5$}  {remaining:>w6$}")
 }
 
-fn tail(session: &Session, rule: &Rule, left: u64) -> String {
+fn tail(sitting: &Sitting, rule: &Rule, left: u64) -> String {
     let used = rule.limit.saturating_sub(left);
     let bar = format!("{} {:>3}%", bar(used, rule.limit), share(used, rule.limit, 100));
-    let marks = marks_of(session, rule.scope);
+    let marks = marks_of(sitting, rule.scope);
     if marks.locked() {
         format!("{bar}  {}", why_locked(marks))
     } else {
@@ -62,11 +62,11 @@ fn tail(session: &Session, rule: &Rule, left: u64) -> String {
     }
 }
 
-fn marks_of(session: &Session, scope: Scope) -> Marks {
+fn marks_of(sitting: &Sitting, scope: Scope) -> Marks {
     match scope {
-        Scope::Firm => session.unit.firm_marks(),
+        Scope::Firm => sitting.unit.firm_marks(),
         Scope::Root(number) | Scope::Unit(number, _) => {
-            Root::new(number as u64).map(|root| session.unit.root_marks(root)).unwrap_or_default()
+            Root::new(number as u64).map(|root| sitting.unit.root_marks(root)).unwrap_or_default()
         }
     }
 }
@@ -86,11 +86,11 @@ pub fn share(used: u64, limit: u64, parts: u64) -> u64 {
 }
 
 /// The clock, the firm and the roots, with Status's numbers.
-pub fn status(session: &Session) -> Result<String, Refusal> {
-    let status = session.unit.status()?;
+pub fn status(sitting: &Sitting) -> Result<String, Refusal> {
+    let status = sitting.unit.status()?;
     let named = |wanted: fn(Marks) -> bool| {
         let names: Vec<String> =
-            session.unit.roots().filter(|(root, _)| wanted(session.unit.root_marks(*root))).map(|(_, name)| name.to_string()).collect();
+            sitting.unit.roots().filter(|(root, _)| wanted(sitting.unit.root_marks(*root))).map(|(_, name)| name.to_string()).collect();
         if names.is_empty() {
             "none".to_string()
         } else {
@@ -100,10 +100,10 @@ pub fn status(session: &Session) -> Result<String, Refusal> {
     let lowest = status.lowest_locked.map_or(64, |root| root.number());
     Ok(format!(
         "clock {}, {} passed\nfirm {}: {}\nroots tripped: {}; locked by hand: {}; locked at all: {}  [{} {} {} {lowest}]",
-        words::time(session.unit.clock()),
-        counted(session.place, "event"),
-        session.profile.firm,
-        why_locked(session.unit.firm_marks()),
+        words::time(sitting.unit.clock()),
+        counted(sitting.place, "event"),
+        sitting.profile.firm,
+        why_locked(sitting.unit.firm_marks()),
         named(|marks| marks.tripped),
         named(|marks| marks.locked_by_user),
         named(Marks::locked),

@@ -6,25 +6,25 @@ use desk::asked::Names;
 use desk::command::{self, Command};
 use desk::day::{Day, Kind};
 use desk::profile::{Profile, Rule, Scope};
-use desk::session::Session;
+use desk::sitting::Sitting;
 use mbrumzheg::{Event, Offer, Reset, Time, Unit, Verdict};
 
-fn session(text: &str) -> Session {
+fn sitting(text: &str) -> Sitting {
     let unit = Unit::new().arm(text).unwrap_or_else(|refused| panic!("{refused}\n{text}"));
-    Session::new(unit, text.as_bytes())
+    Sitting::new(unit, text.as_bytes())
 }
 
 #[test]
 fn the_reading_of_an_accepted_profile_is_the_librarys() {
     for seed in 0..2_000 {
         let text = profile(&mut Dice::new(seed));
-        let session = session(&text);
-        assert_eq!(session.unit.firm().as_str(), session.profile.firm);
-        assert_eq!(session.unit.rule_count(), session.profile.rules.len());
-        let names: Vec<String> = session.unit.roots().map(|(_, name)| name.to_string()).collect();
-        assert_eq!(names, session.profile.roots, "{text}");
-        for rule in &session.profile.rules {
-            assert_eq!(session.unit.remaining(Time::START, rule.number), Ok(rule.limit), "{text}");
+        let sitting = sitting(&text);
+        assert_eq!(sitting.unit.firm().as_str(), sitting.profile.firm);
+        assert_eq!(sitting.unit.rule_count(), sitting.profile.rules.len());
+        let names: Vec<String> = sitting.unit.roots().map(|(_, name)| name.to_string()).collect();
+        assert_eq!(names, sitting.profile.roots, "{text}");
+        for rule in &sitting.profile.rules {
+            assert_eq!(sitting.unit.remaining(Time::START, rule.number), Ok(rule.limit), "{text}");
         }
     }
 }
@@ -34,15 +34,15 @@ fn the_rules_that_cut_are_those_that_the_grant_shows() {
     let (mut cuts, mut reached) = (0, 0);
     for seed in 0..400 {
         let mut dice = Dice::new(seed);
-        let mut session = session(&profile(&mut dice));
+        let mut sitting = sitting(&profile(&mut dice));
         for _ in 0..60 {
-            let next = event(&mut dice, session.unit.clock().ms(), session.unit.root_count() as u64);
+            let next = event(&mut dice, sitting.unit.clock().ms(), sitting.unit.root_count() as u64);
             let Event::Offer(offer) = next else {
-                session.pass(next);
+                sitting.pass(next);
                 continue;
             };
-            let least = session.least_allowance(&offer);
-            let passed = session.pass(next);
+            let least = sitting.least_allowance(&offer);
+            let passed = sitting.pass(next);
             let Ok(answer) = passed.answer else { continue };
             if answer.verdict != Verdict::Free {
                 assert!(passed.cut_by.is_empty() && passed.reached.is_empty());
@@ -51,10 +51,10 @@ fn the_rules_that_cut_are_those_that_the_grant_shows() {
             assert_eq!(u64::from(answer.grant), least);
             assert_eq!(passed.is_cut(), !passed.cut_by.is_empty());
             let tripped: Vec<usize> = passed.cut_by.iter().chain(&passed.reached).copied().collect();
-            let of_firm = |number: &usize| session.profile.rules[*number].scope == Scope::Firm;
+            let of_firm = |number: &usize| sitting.profile.rules[*number].scope == Scope::Firm;
             assert_eq!(answer.firm_trip, tripped.iter().any(of_firm));
             assert_eq!(answer.root_trip, tripped.iter().any(|number| !of_firm(number)));
-            assert_eq!(passed.covered, session.profile.covering(&offer).next().is_some());
+            assert_eq!(passed.covered, sitting.profile.covering(&offer).next().is_some());
             cuts += passed.cut_by.len();
             reached += passed.reached.len();
         }
@@ -67,7 +67,7 @@ fn a_replayed_day_has_the_same_answers() {
     for seed in 0..100 {
         let mut dice = Dice::new(seed);
         let text = profile(&mut dice);
-        let (mut first, mut second) = (session(&text), session(&text));
+        let (mut first, mut second) = (sitting(&text), sitting(&text));
         let mut lines = Vec::new();
         for _ in 0..60 {
             let next = event(&mut dice, first.unit.clock().ms(), first.unit.root_count() as u64);
@@ -137,19 +137,19 @@ fn the_page_draws_the_use_that_the_grants_make() {
     for seed in 0..150 {
         let mut dice = Dice::new(seed);
         let text = profile(&mut dice);
-        let mut session = session(&text);
+        let mut sitting = sitting(&text);
         let mut fills: Vec<Fill> = Vec::new();
         // what each rule had used just after each moment of the day
         let mut seen: Vec<(u64, Vec<u64>)> = Vec::new();
         for _ in 0..50 {
-            let before = session.unit.clock().ms();
-            let next = event(&mut dice, before, session.unit.root_count() as u64);
-            let passed = session.pass(next);
+            let before = sitting.unit.clock().ms();
+            let next = event(&mut dice, before, sitting.unit.root_count() as u64);
+            let passed = sitting.pass(next);
             let Ok(answer) = passed.answer else { continue };
             let now = next.time().ms();
             for ms in [before + 1, (before + now) / 2, now.saturating_sub(1)] {
                 if before < ms && ms < now {
-                    seen.push((ms, session.profile.rules.iter().map(|rule| used(rule, &fills, ms)).collect()));
+                    seen.push((ms, sitting.profile.rules.iter().map(|rule| used(rule, &fills, ms)).collect()));
                 }
             }
             match next {
@@ -158,9 +158,9 @@ fn the_page_draws_the_use_that_the_grants_make() {
                 _ => {}
             }
             seen.retain(|(ms, _)| *ms != now);
-            seen.push((now, session.profile.rules.iter().map(|rule| used(rule, &fills, now)).collect()));
+            seen.push((now, sitting.profile.rules.iter().map(|rule| used(rule, &fills, now)).collect()));
         }
-        let day = Day::replayed(&session.profile, &session.events).expect("a day");
+        let day = Day::replayed(&sitting.profile, &sitting.events).expect("a day");
         for (ms, wanted) in &seen {
             let drawn: Vec<u64> = day.uses.iter().map(|of_rule| drawn(&of_rule.steps, *ms)).collect();
             assert_eq!(&drawn, wanted, "seed {seed} at {ms} ms\n{text}");
@@ -191,7 +191,7 @@ fn forget(fills: &mut [Fill], root: u64, reset: Reset) {
 fn the_page_marks_what_happened() {
     let text = "ABCD,abs_vol,XYZ,1000\nABCD,abs_vol,QQQ,5";
     let profile = Profile::of_accepted(text.as_bytes());
-    let mut made = session(text);
+    let mut made = sitting(text);
     let mut dice = Dice::new(1);
     for _ in 0..40 {
         let next = event(&mut dice, made.unit.clock().ms(), 2);

@@ -3,20 +3,20 @@ mod common;
 use common::{event, profile, Dice};
 use desk::profile::Profile;
 use desk::report;
-use desk::session::Session;
+use desk::sitting::Sitting;
 use mbrumzheg::{Event, Unit};
 
 /// A page on a random day or a stretch of it, and how many rules its profile has.
 fn page(seed: u64, stretch: Option<(u64, u64)>) -> (String, usize) {
     let mut dice = Dice::new(seed);
     let text = profile(&mut dice);
-    let mut session = Session::new(Unit::new().arm(&text).expect("accepted"), text.as_bytes());
+    let mut sitting = Sitting::new(Unit::new().arm(&text).expect("accepted"), text.as_bytes());
     for _ in 0..40 {
-        let next = event(&mut dice, session.unit.clock().ms(), session.unit.root_count() as u64);
-        session.pass(next);
+        let next = event(&mut dice, sitting.unit.clock().ms(), sitting.unit.root_count() as u64);
+        sitting.pass(next);
     }
-    let page = report::page(&session.profile, &session.events, stretch).expect("a page");
-    (page, session.profile.rules.len())
+    let page = report::page(&sitting.profile, &sitting.events, stretch).expect("a page");
+    (page, sitting.profile.rules.len())
 }
 
 /// Checks that tags are closed in the order in which they were opened; answers the names of all.

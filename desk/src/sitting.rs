@@ -7,7 +7,7 @@ use mbrumzheg::{Answer, Armed, Contracts, Event, Offer, Refusal, Time, Unit};
 pub type ArmedUnit = Unit<Box<[u64]>, Armed>;
 
 /// An armed unit and what the desk remembers of its day.
-pub struct Session {
+pub struct Sitting {
     /// The unit.
     pub unit: ArmedUnit,
     /// What it was armed from.
@@ -34,10 +34,10 @@ pub struct Passed {
     pub covered: bool,
 }
 
-impl Session {
+impl Sitting {
     /// A day that begins on a unit just armed from this text.
-    pub fn new(unit: ArmedUnit, text: &[u8]) -> Session {
-        Session { unit, profile: Profile::of_accepted(text), events: Vec::new(), place: 0 }
+    pub fn new(unit: ArmedUnit, text: &[u8]) -> Sitting {
+        Sitting { unit, profile: Profile::of_accepted(text), events: Vec::new(), place: 0 }
     }
 
     /// Passes an event to the unit and works out which rules cut it.
