@@ -112,3 +112,26 @@ fn each_refusal_that_a_record_can_meet_is_printed() {
     let printed = print_alike(2000, Some(b"A,rate_vol,Q,1000000000,86400000"), &input);
     assert_eq!(String::from_utf8_lossy(&printed), lines.join("\n") + "\n");
 }
+
+#[test]
+fn a_closed_output_ends_the_program_quietly() {
+    let folder = folder(3000, Some(b"A,abs_vol,Q,1000000"));
+    let command = named("PROGRAM");
+    let mut child = Command::new(&command[0])
+        .args(&command[1..])
+        .current_dir(&folder)
+        .stdin(Stdio::piped())
+        .stdout(Stdio::piped())
+        .stderr(Stdio::piped())
+        .spawn()
+        .expect("the program starts");
+    drop(child.stdout.take());
+    let mut stdin = child.stdin.take().expect("an input");
+    // Far more than any pipe holds: the program has to end by itself for the writing to end.
+    let records: Vec<u8> = (0..200_000).flat_map(offer).collect();
+    let written = stdin.write_all(&records);
+    drop(stdin);
+    let output = child.wait_with_output().expect("the program ends");
+    assert!(written.is_err() && output.stderr.is_empty(), "{written:?}, {}", String::from_utf8_lossy(&output.stderr));
+    fs::remove_dir_all(folder).expect("the folder goes");
+}
