@@ -13,6 +13,12 @@
 extern "C" {
 #endif
 
+/* The library's version, that of the file VERSION. */
+#define MBRUMZHEG_VERSION "0.2.0"
+#define MBRUMZHEG_VERSION_MAJOR 0
+#define MBRUMZHEG_VERSION_MINOR 2
+#define MBRUMZHEG_VERSION_PATCH 0
+
 /* How many 64-bit numbers the state takes, how many bytes a record has, and the text room that is asked for. */
 #define MBRUMZHEG_SIZE 1866
 #define MBRUMZHEG_RECORD_BYTES 12

@@ -5,11 +5,15 @@ use desk::lines::{run, Manner};
 use std::io::{self, BufReader, IsTerminal, Write};
 use std::process::ExitCode;
 
+/// The library's version, with its line's end.
+const VERSION: &str = include_str!("../../VERSION");
+
 const USAGE: &str = "\
 usage: desk                                lines from the terminal or a pipe
        desk SCRIPT                         lines from a file
        desk report PROFILE RECORDS PAGE [from TIME to TIME]
                                            a page (HTML) on the day, or a stretch of it, that the file RECORDS holds
+       desk --version
 ";
 
 fn main() -> ExitCode {
@@ -17,6 +21,7 @@ fn main() -> ExitCode {
     let words: Vec<&str> = words.iter().map(String::as_str).collect();
     let done = match words.as_slice() {
         [] => from_standard_input(),
+        ["-V" | "--version"] => write!(io::stdout(), "desk {VERSION}").map(|()| 0),
         ["-h" | "--help" | "help"] => write!(io::stdout(), "{USAGE}\n{HELP}\n").map(|()| 0),
         [script] => from_file(script),
         ["report", profile, records, page] => report(profile, records, page),

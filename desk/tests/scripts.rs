@@ -118,3 +118,12 @@ fn the_page_of_recorded_events_can_be_had_in_one_call() {
     assert!(!output.status.success() && text(&output.stderr).starts_with("usage: desk"));
     fs::remove_dir_all(place).expect("removed");
 }
+
+#[test]
+fn the_version_is_the_repositorys() {
+    let place = workplace("version");
+    let version = fs::read_to_string(Path::new(env!("CARGO_MANIFEST_DIR")).join("../VERSION")).expect("a version");
+    let output = desk(&place).arg("--version").output().expect("the desk runs");
+    assert_eq!(text(&output.stdout), format!("desk {version}"));
+    fs::remove_dir_all(place).expect("removed");
+}
