@@ -63,7 +63,8 @@ pub fn run_counted() {
 pub fn counts(program: &Path, folder: &Path) -> Vec<(Line, [u64; 3])> {
     let out = folder.join("counts");
     let options = ["--tool=callgrind", "--collect-atstart=no", "--toggle-collect=mbrumzheg_counted", "--dump-after=mbrumzheg_counted_all"];
-    let status = Command::new("valgrind").args(options).arg(format!("--callgrind-out-file={}", out.display())).arg(program).arg("counted").output();
+    let status =
+        Command::new("valgrind").args(options).arg(format!("--callgrind-out-file={}", out.display())).arg(program).arg("counted").output();
     assert!(status.is_ok_and(|output| output.status.success()), "valgrind runs {}", program.display());
     let part = |number: usize| total(&fs::read_to_string(format!("{}.{number}", out.display())).expect("a count"));
     let mut counted = Vec::new();

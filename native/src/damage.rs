@@ -11,8 +11,34 @@ use crate::SIZE;
 
 /// Numbers at the ends of ranges and just past them: those of the state, of limits, windows, premiums and contracts.
 const ENDS: [u64; 28] = [
-    0, 1, 2, 3, 4, 63, 64, 65, 99, 100, 255, 256, 257, 511, 512, 513, 1_000_000, 1_000_001, 86_399_999, 86_400_000, 86_400_001, 100_000_000,
-    100_000_001, 1_000_000_000, 1_000_000_001, 100_000_000_000, 1_000_000_000_000_000, 1_000_000_000_000_001,
+    0,
+    1,
+    2,
+    3,
+    4,
+    63,
+    64,
+    65,
+    99,
+    100,
+    255,
+    256,
+    257,
+    511,
+    512,
+    513,
+    1_000_000,
+    1_000_001,
+    86_399_999,
+    86_400_000,
+    86_400_001,
+    100_000_000,
+    100_000_001,
+    1_000_000_000,
+    1_000_000_001,
+    100_000_000_000,
+    1_000_000_000_000_000,
+    1_000_000_000_000_001,
 ];
 
 /// A number of any size, or one at the end of a range.
@@ -152,7 +178,8 @@ fn reshape_log(random: &mut Random, armed: &mut Armed) {
         _ if armed.log.len() < LOG_PLACES => {
             let [counts_for_root, counts_for_firm] = [(); 2].map(|_| random.once_in(2));
             let root = random.below(armed.roots.len() as u64 + 1).min(63);
-            let (time, unit, premium, contracts) = (armed.clock, random.below(4), random.pick(&[1, 70_000, 100_000_000]), random.pick(&[1, 1_000_000]));
+            let (time, unit, premium, contracts) =
+                (armed.clock, random.below(4), random.pick(&[1, 70_000, 100_000_000]), random.pick(&[1, 1_000_000]));
             armed.log.push_back(Entry { time, root, unit, premium, contracts, counts_for_root, counts_for_firm });
         }
         _ => armed.log.clear(),

@@ -28,7 +28,17 @@ extern "C" {
     fn mbrumzheg_text(verdict: u64, room: *mut u8, len: usize, row: *mut [u64; 5]);
     fn mbrumzheg_read_record(s: *const u8, len: usize, row: *mut [u64; 9]);
     fn mbrumzheg_write_record(
-        kind: u64, time: u64, root: u64, unit: u64, premium: u64, contracts: u64, reset: u64, level: u64, room: *mut u8, len: usize, row: *mut [u64; 5],
+        kind: u64,
+        time: u64,
+        root: u64,
+        unit: u64,
+        premium: u64,
+        contracts: u64,
+        reset: u64,
+        level: u64,
+        room: *mut u8,
+        len: usize,
+        row: *mut [u64; 5],
     );
 }
 
@@ -99,8 +109,6 @@ pub fn read_record(s: &[u8]) -> [u64; 9] {
 pub fn write_record(event: [u64; 8], room: &mut [u8]) -> Row {
     let mut row = [0; 5];
     let [kind, time, root, unit, premium, contracts, reset, level] = event;
-    unsafe {
-        mbrumzheg_write_record(kind, time, root, unit, premium, contracts, reset, level, room.as_mut_ptr(), room.len(), &mut row)
-    };
+    unsafe { mbrumzheg_write_record(kind, time, root, unit, premium, contracts, reset, level, room.as_mut_ptr(), room.len(), &mut row) };
     row
 }

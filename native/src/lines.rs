@@ -116,7 +116,11 @@ fn entries_in_words(entries: u64) -> String {
 
 /// A time at which the oldest of 512 entries leaves, or at which all of fewer are inside a minute.
 fn time_after(entries: u64) -> u64 {
-    if entries == 512 { 61_000 } else { 2_000 }
+    if entries == 512 {
+        61_000
+    } else {
+        2_000
+    }
 }
 
 /// Offers, by covering rules and entries.

@@ -49,12 +49,14 @@ fn round<T>(kept: &mut T, before: impl Fn(&mut T), call: impl Fn(&mut T)) -> f64
 #[derive(Clone, Copy)]
 pub struct Least([f64; 6]);
 
-impl Least {
+impl Default for Least {
     /// Nothing is measured yet.
-    pub fn new() -> Least {
+    fn default() -> Least {
         Least([f64::MAX; 6])
     }
+}
 
+impl Least {
     /// Measures a line for so long: rounds take turns, so that what disturbs one disturbs all.
     pub fn measure(&mut self, line: &Line, time: Duration) {
         let (mut m, mut unit, start) = (line.state.clone(), line.unit.clone(), Instant::now());
@@ -88,9 +90,13 @@ fn turn(line: &Line, m: &mut Vec<u64>, unit: &mut Unit) -> [f64; 6] {
         round(m, restore, |m| {
             black_box(run_hand(black_box(&line.call), m, &mut []));
         }),
-        round(unit, |unit| unit.clone_from(&line.unit), |unit| {
-            black_box(run_unit(black_box(&line.call), unit));
-        }),
+        round(
+            unit,
+            |unit| unit.clone_from(&line.unit),
+            |unit| {
+                black_box(run_unit(black_box(&line.call), unit));
+            },
+        ),
         round(m, restore, |m| {
             black_box(run_hand(black_box(&status), m, &mut []));
         }),

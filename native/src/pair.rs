@@ -22,11 +22,23 @@ const MOST_ROOM: u64 = 1_000;
 /// Where the two differ after a step.
 #[derive(Clone, Debug, PartialEq, Eq)]
 pub enum Difference {
-    Answer { library: Row, second: Row },
-    Memory { place: usize, library: u64, second: u64 },
-    Room { library: Vec<u8>, second: Vec<u8> },
+    Answer {
+        library: Row,
+        second: Row,
+    },
+    Memory {
+        place: usize,
+        library: u64,
+        second: u64,
+    },
+    Room {
+        library: Vec<u8>,
+        second: Vec<u8>,
+    },
     /// The second program did not come to an answer.
-    Panic { library: Row },
+    Panic {
+        library: Row,
+    },
 }
 
 impl fmt::Display for Difference {

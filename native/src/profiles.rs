@@ -7,7 +7,23 @@ const FIELDS: [(usize, &[&str]); 8] = [
     (1, &["A", "B", "", "a", "ABCDE", "9"]),
     (6, &["rate_ntnl", "rate_vol", "rate_count", "abs_ntnl", "abs_vol", "abs_count", "", "rate", "abs_volx", "ABS_VOL"]),
     (3, &["Q", "", "R0", "ABCDEF", "q", "ABCDEFG", "Q "]),
-    (3, &["1", "5", "1000000000", "100000000000", "0", "1000000001", "100000000001", "999999999999", "", "x", "0000000000001", "000000000001"]),
+    (
+        3,
+        &[
+            "1",
+            "5",
+            "1000000000",
+            "100000000000",
+            "0",
+            "1000000001",
+            "100000000001",
+            "999999999999",
+            "",
+            "x",
+            "0000000000001",
+            "000000000001",
+        ],
+    ),
     (4, &["", "0", "100", "86400000", "86400001", "999999999999", "x", "0000000000100", "000086400000", "-1"]),
     (2, &["", "T", "t", "T\r", "TT"]),
     (3, &["", "C", "P", "c", "CP", "F"]),
@@ -17,7 +33,8 @@ const FIELDS: [(usize, &[&str]); 8] = [
 /// One to four lines, at times after so many that one more may be too many.
 pub fn clashing(random: &mut Random) -> Vec<u8> {
     let mut text = String::new();
-    let (count, tail): (usize, &str) = random.pick(&[(0, ""), (0, ""), (0, ""), (0, ""), (10, ",T"), (6, ""), (6, ",,C,F"), (64, ""), (256, "")]);
+    let (count, tail): (usize, &str) =
+        random.pick(&[(0, ""), (0, ""), (0, ""), (0, ""), (10, ",T"), (6, ""), (6, ",,C,F"), (64, ""), (256, "")]);
     for place in 0..count - usize::from(count > 0 && random.once_in(2)) {
         let root = match count {
             10 => String::new(),

@@ -38,20 +38,21 @@ pub fn record_times() -> [[f64; 3]; 2] {
     let events: Vec<[u64; 8]> = (0..RECORDS).map(|_| valid_numbers(&mut random)).collect();
     let mut rooms = vec![[0; BYTES]; RECORDS];
     events.iter().zip(&mut rooms).for_each(|(event, room)| assert_eq!(hand::write_record(*event, room), 0));
-    let all = [
-        (crate::read_record as Reader, library_writer as Writer),
-        (second_reader, second_writer),
-        (hand::read_record, hand::write_record),
-    ];
+    let all =
+        [(crate::read_record as Reader, library_writer as Writer), (second_reader, second_writer), (hand::read_record, hand::write_record)];
     let mut times = [[f64::MAX; 3]; 2];
     for _ in 0..ROUNDS {
         for (who, (reader, writer)) in all.iter().enumerate() {
-            let read = timed(|| rooms.iter().for_each(|room| {
-                black_box(reader(black_box(room)));
-            }));
-            let written = timed(|| events.iter().zip(&mut rooms).for_each(|(event, room)| {
-                black_box(writer(black_box(*event), room));
-            }));
+            let read = timed(|| {
+                rooms.iter().for_each(|room| {
+                    black_box(reader(black_box(room)));
+                })
+            });
+            let written = timed(|| {
+                events.iter().zip(&mut rooms).for_each(|(event, room)| {
+                    black_box(writer(black_box(*event), room));
+                })
+            });
             for (least, time) in times.iter_mut().zip([read, written]) {
                 least[who] = least[who].min(time);
             }

@@ -57,11 +57,20 @@ impl Tally {
         }
         self.see(LENT, lent_place(second.length()));
         if let Some(was_unsound) = self.damaged.take() {
-            self.see(DAMAGED, match (second.is_unsound(), second.unit().armed.is_some()) {
-                (true, _) => 1,
-                (false, false) => 2,
-                (false, true) => if was_unsound { 3 } else { 0 },
-            });
+            self.see(
+                DAMAGED,
+                match (second.is_unsound(), second.unit().armed.is_some()) {
+                    (true, _) => 1,
+                    (false, false) => 2,
+                    (false, true) => {
+                        if was_unsound {
+                            3
+                        } else {
+                            0
+                        }
+                    }
+                },
+            );
         }
         if step.kind == Kind::Offer {
             self.see_windows(step.numbers[0], second);
@@ -132,12 +141,15 @@ impl Tally {
 
     fn see_offer(&mut self, contracts: u64, row: Row, second: &mut Lent) {
         let [_, verdict, grant, root_trip, firm_trip] = row;
-        self.see(OFFERS, match (verdict, grant) {
-            (1, _) => 3,
-            (2, _) => 4,
-            (_, 0) => 2,
-            _ => usize::from(grant < contracts),
-        });
+        self.see(
+            OFFERS,
+            match (verdict, grant) {
+                (1, _) => 3,
+                (2, _) => 4,
+                (_, 0) => 2,
+                _ => usize::from(grant < contracts),
+            },
+        );
         let just_reached = grant == contracts && root_trip + firm_trip > 0;
         let trips = [root_trip == 1, firm_trip == 1, root_trip + firm_trip == 2, just_reached];
         (0..trips.len()).filter(|place| trips[*place]).for_each(|place| self.see(TRIPS, place));

@@ -23,8 +23,16 @@ const CALLS: u64 = 200_000;
 fn slips_are_found() {
     let slips: [Slip; 4] = [
         |_, _, row| row[2] -= u64::from(row[2] > 1_000),
-        |step, m, row| if row[0] == 0 && step.numbers[2] == 1 && m.len() >= SIZE { m[SIZE - 1] |= 1 },
-        |_, m, row| if row[0] == 15 { m[1] += 1 },
+        |step, m, row| {
+            if row[0] == 0 && step.numbers[2] == 1 && m.len() >= SIZE {
+                m[SIZE - 1] |= 1
+            }
+        },
+        |_, m, row| {
+            if row[0] == 15 {
+                m[1] += 1
+            }
+        },
         |_, _, row| row[0] = if row[0] == 2 { 0 } else { row[0] },
     ];
     for slip in slips {

@@ -65,7 +65,9 @@ fn refusal_1_short_memory_and_short_room() {
 
 #[test]
 fn refusal_2_unsound_memory() {
-    for damage in ["damage 0 2", "damage 1 86400000", "damage 4 0", "damage 6 2", "damage 8 2", "damage 586 1000000000000001", "damage 1865 1"] {
+    for damage in
+        ["damage 0 2", "damage 1 86400000", "damage 4 0", "damage 6 2", "damage 8 2", "damage 586 1000000000000001", "damage 1865 1"]
+    {
         let mut both = Both::armed("A,abs_vol,Q,5");
         both.run(damage);
         both.refuses(2, &GOOD).refuses(2, &BAD).refuses(3, &["arm A,abs_vol,Q,5"]);
@@ -103,17 +105,38 @@ fn refusals_6_to_11_with_their_lines() {
     let roots = |count: usize| (0..count).map(|root| format!("A,abs_vol,R{root},5\\n")).collect::<String>();
     let rules = |count: usize| (0..count).map(|rule| format!("A,abs_vol,R{},5\\n", rule % 60)).collect::<String>();
     let cases = [
-        (6, 1, "A,abs_vol,Q".into()), (6, 1, "A,abs_vol,Q,5,,,,,".into()), (6, 2, format!("{good}\\n")), (6, 1, "\\n".into()),
-        (6, 1, "A,abs_volume,Q,5".into()), (6, 1, "ABCDE,abs_vol,Q,5".into()), (6, 1, ",abs_vol,Q,5".into()), (6, 1, "a,abs_vol,Q,5".into()),
-        (6, 1, "A,abs_vol,ABCDEFG,5".into()), (6, 1, "A,abs_vol,Q,".into()), (6, 1, "A,abs_vol,Q,0000000000005".into()),
-        (6, 1, "A,rate_vol,Q,5,1e3".into()), (6, 1, "A,abs_vol,Q,5,,,X,F".into()), (6, 1, "A,abs_vol,Q,5,,,C,F\\r".into()),
-        (7, 2, format!("{good}B,abs_vol,Q,5")), (7, 2, format!("{good}B,abs_vol,Q,0,,T,C")),
-        (8, 1, "A,abs_vol,Q,0".into()), (8, 1, "A,abs_vol,Q,1000000001".into()), (8, 1, "A,abs_ntnl,Q,100000000001".into()),
-        (8, 1, "A,abs_count,Q,1000000001,,T".into()), (8, 1, "A,rate_vol,Q,5,86400001".into()),
-        (9, 1, "A,abs_vol,Q,5,,T".into()), (9, 1, "A,abs_vol,,5".into()), (9, 1, "A,abs_vol,,5,,t,C".into()),
-        (10, 1, "A,abs_vol,Q,5,,,C".into()), (10, 1, "A,abs_vol,Q,5,,,,F".into()), (10, 1, "A,abs_vol,,5,,T,C,F".into()),
-        (11, 7, many(good, 7)), (11, 7, many("A,abs_vol,Q,5,,,P,T\\n", 6) + good), (11, 11, many("A,abs_vol,,5,,T\\n", 11)),
-        (11, 65, roots(65)), (11, 257, rules(257)),
+        (6, 1, "A,abs_vol,Q".into()),
+        (6, 1, "A,abs_vol,Q,5,,,,,".into()),
+        (6, 2, format!("{good}\\n")),
+        (6, 1, "\\n".into()),
+        (6, 1, "A,abs_volume,Q,5".into()),
+        (6, 1, "ABCDE,abs_vol,Q,5".into()),
+        (6, 1, ",abs_vol,Q,5".into()),
+        (6, 1, "a,abs_vol,Q,5".into()),
+        (6, 1, "A,abs_vol,ABCDEFG,5".into()),
+        (6, 1, "A,abs_vol,Q,".into()),
+        (6, 1, "A,abs_vol,Q,0000000000005".into()),
+        (6, 1, "A,rate_vol,Q,5,1e3".into()),
+        (6, 1, "A,abs_vol,Q,5,,,X,F".into()),
+        (6, 1, "A,abs_vol,Q,5,,,C,F\\r".into()),
+        (7, 2, format!("{good}B,abs_vol,Q,5")),
+        (7, 2, format!("{good}B,abs_vol,Q,0,,T,C")),
+        (8, 1, "A,abs_vol,Q,0".into()),
+        (8, 1, "A,abs_vol,Q,1000000001".into()),
+        (8, 1, "A,abs_ntnl,Q,100000000001".into()),
+        (8, 1, "A,abs_count,Q,1000000001,,T".into()),
+        (8, 1, "A,rate_vol,Q,5,86400001".into()),
+        (9, 1, "A,abs_vol,Q,5,,T".into()),
+        (9, 1, "A,abs_vol,,5".into()),
+        (9, 1, "A,abs_vol,,5,,t,C".into()),
+        (10, 1, "A,abs_vol,Q,5,,,C".into()),
+        (10, 1, "A,abs_vol,Q,5,,,,F".into()),
+        (10, 1, "A,abs_vol,,5,,T,C,F".into()),
+        (11, 7, many(good, 7)),
+        (11, 7, many("A,abs_vol,Q,5,,,P,T\\n", 6) + good),
+        (11, 11, many("A,abs_vol,,5,,T\\n", 11)),
+        (11, 65, roots(65)),
+        (11, 257, rules(257)),
     ];
     for (refusal, line, text) in cases {
         let row = Both::new().run(&format!("arm {text}"));
@@ -129,7 +152,12 @@ fn refusal_12_time() {
     let mut both = Both::armed("A,abs_vol,Q,5");
     both.says("order 50 0 0", &[0]);
     for time in [0, 49, 86_400_000, u64::MAX] {
-        let lines = [format!("order {time} 64 4"), format!("lockout {time} 2 64"), format!("offer {time} 64 4 0 0"), format!("remaining {time} 256")];
+        let lines = [
+            format!("order {time} 64 4"),
+            format!("lockout {time} 2 64"),
+            format!("offer {time} 64 4 0 0"),
+            format!("remaining {time} 256"),
+        ];
         both.refuses(12, &lines.each_ref().map(String::as_str));
     }
     both.says("order 50 0 0", &[0]).says("order 86399999 0 0", &[0]);
@@ -141,7 +169,9 @@ fn refusal_13_numbers_not_known() {
     both.refuses(13, &["order 5 1 0", "order 5 0 4", "order 5 18446744073709551615 0", "lockout 5 0 1", "lockout 5 1 1", "lockout 5 2 0"]);
     both.refuses(13, &["offer 5 1 0 0 0", "offer 5 0 4 1 1", "offer 5 64 0 1 1", "remaining 5 1", "remaining 5 256"]);
     both.refuses(13, &["text 0 20", "text 3 20", "text 0 0", "text 18446744073709551615 19"]);
-    Both::armed("A,abs_vol,,5,,T").refuses(13, &["order 0 0 0", "order 0 0 2", "offer 0 0 0 1 1", "lockout 0 0 0"]).says("lockout 0 1 0", &[0]);
+    Both::armed("A,abs_vol,,5,,T")
+        .refuses(13, &["order 0 0 0", "order 0 0 2", "offer 0 0 0 1 1", "lockout 0 0 0"])
+        .says("lockout 0 1 0", &[0]);
 }
 
 #[test]

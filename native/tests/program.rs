@@ -108,7 +108,10 @@ fn each_refusal_that_a_record_can_meet_is_printed() {
     input.extend(&offer(601)[..11]);
     let mut lines: Vec<String> = vec!["armed A 1 1".into()];
     lines.extend((1..=512).map(|place| format!("{place} 0 0 1 0 0")));
-    lines.extend(["513 15 0 0 0 0", "514 0 0 0 0 0", "515 12 0 0 0 0", "516 13 0 0 0 0", "517 13 0 0 0 0", "518 16 0 0 0 0", "519 16 0 0 0 0"].map(String::from));
+    lines.extend(
+        ["513 15 0 0 0 0", "514 0 0 0 0 0", "515 12 0 0 0 0", "516 13 0 0 0 0", "517 13 0 0 0 0", "518 16 0 0 0 0", "519 16 0 0 0 0"]
+            .map(String::from),
+    );
     let printed = print_alike(2000, Some(b"A,rate_vol,Q,1000000000,86400000"), &input);
     assert_eq!(String::from_utf8_lossy(&printed), lines.join("\n") + "\n");
 }

@@ -58,7 +58,8 @@ fn counts_too_long(step: &Step, second: &mut Lent, row: &mut Row) {
     let [time, rule, ..] = step.numbers;
     let Some(armed) = &second.unit().armed else { return };
     let window = armed.profile.rules.get(rule as usize).and_then(|rule| rule.window);
-    if step.kind == Kind::Remaining && row[0] == 0 && window.is_some_and(|window| armed.log.iter().any(|entry| entry.time + window == time)) {
+    if step.kind == Kind::Remaining && row[0] == 0 && window.is_some_and(|window| armed.log.iter().any(|entry| entry.time + window == time))
+    {
         row[1] = 0;
     }
 }

@@ -76,29 +76,59 @@ fn the_mark_decides_first() {
 fn each_part_of_the_sentence_can_fail() {
     let rate = 500 << 27;
     let unsound: &[&[(usize, u64)]] = &[
-        &[(1, 86_400_000)],                                 // the clock is no time
-        &[(1, 11)],                                         // an entry is later than the clock
-        &[(2, 0)], &[(2, 0x41_4243_4445)], &[(2, 0x61)],    // no firm, one too long, a small letter
-        &[(3, 1)], &[(3, 3)], &[(3, 65)], &[(3, u64::MAX)], // roots that have no rule, or a rule without root
-        &[(10, 0x51)], &[(10, 0)], &[(10, 0x41 << 48)],     // two roots of one name, none, seven bytes
+        &[(1, 86_400_000)], // the clock is no time
+        &[(1, 11)],         // an entry is later than the clock
+        &[(2, 0)],
+        &[(2, 0x41_4243_4445)],
+        &[(2, 0x61)], // no firm, one too long, a small letter
+        &[(3, 1)],
+        &[(3, 3)],
+        &[(3, 65)],
+        &[(3, u64::MAX)], // roots that have no rule, or a rule without root
+        &[(10, 0x51)],
+        &[(10, 0)],
+        &[(10, 0x41 << 48)], // two roots of one name, none, seven bytes
         &[(10, 0x51), (11, 0x58_595A), (74 + 3, 1 << 11 | 2 << 8 | 1 << 2 | 3)], // root 1 is named before root 0
-        &[(4, 3)], &[(4, 5)], &[(4, 257)], &[(4, 0)],       // a rule that is not counted, or is not there
-        &[(5, 1)], &[(5, 3)], &[(5, 513)],                  // an entry that is not counted, or is not there
-        &[(6, 2)], &[(7, 2)],                               // the firm's marks
-        &[(8, 4)], &[(9, 1 << 63)],                         // a bit beyond the last root
-        &[(74, 0)], &[(74, 100_000_000_001 << 27)],         // limits in dollars
-        &[(76, 60_000)], &[(76, 1_000_000_001 << 27 | 60_000)], // limits in contracts
-        &[(76, rate)], &[(76, rate | 99)], &[(76, rate | 86_400_001)], // windows
-        &[(74, 1_000 << 27 | 100)],                         // an absolute rule with a window
-        &[(75, 1 << 13)], &[(75, 3 << 11)], &[(75, 3 << 8)], // spare bits, measure 3, scope 3
-        &[(75, 1 << 10 | 1)], &[(79, 2 << 11 | 1 << 8 | 5)], // a unit where the scope has none
-        &[(77, 1 << 11 | 2 << 8 | 2 << 2 | 3)],             // a root that is not there
-        &[(586, 1_000_000_000_000_001)], &[(587, 1)],       // a total too large, one of a rate rule
-        &[(842, 13 << 10)],                                 // entries out of order
-        &[(842, 10 << 10 | 2 << 4)], &[(842, 1 << 37)],     // an unknown root, spare bits
-        &[(843, 3)], &[(843, 100_000_001 << 20 | 3)], &[(843, 1 << 47 | 1 << 20 | 3)], // premium and what is above it
-        &[(843, 1 << 20)], &[(843, 1 << 20 | 1_000_001)],   // contracts
-        &[(12, 1)], &[(82, 1)], &[(590, 1)], &[(846, 1)], &[(1_865, 1)], // places that are not used
+        &[(4, 3)],
+        &[(4, 5)],
+        &[(4, 257)],
+        &[(4, 0)], // a rule that is not counted, or is not there
+        &[(5, 1)],
+        &[(5, 3)],
+        &[(5, 513)], // an entry that is not counted, or is not there
+        &[(6, 2)],
+        &[(7, 2)], // the firm's marks
+        &[(8, 4)],
+        &[(9, 1 << 63)], // a bit beyond the last root
+        &[(74, 0)],
+        &[(74, 100_000_000_001 << 27)], // limits in dollars
+        &[(76, 60_000)],
+        &[(76, 1_000_000_001 << 27 | 60_000)], // limits in contracts
+        &[(76, rate)],
+        &[(76, rate | 99)],
+        &[(76, rate | 86_400_001)], // windows
+        &[(74, 1_000 << 27 | 100)], // an absolute rule with a window
+        &[(75, 1 << 13)],
+        &[(75, 3 << 11)],
+        &[(75, 3 << 8)], // spare bits, measure 3, scope 3
+        &[(75, 1 << 10 | 1)],
+        &[(79, 2 << 11 | 1 << 8 | 5)],          // a unit where the scope has none
+        &[(77, 1 << 11 | 2 << 8 | 2 << 2 | 3)], // a root that is not there
+        &[(586, 1_000_000_000_000_001)],
+        &[(587, 1)],        // a total too large, one of a rate rule
+        &[(842, 13 << 10)], // entries out of order
+        &[(842, 10 << 10 | 2 << 4)],
+        &[(842, 1 << 37)], // an unknown root, spare bits
+        &[(843, 3)],
+        &[(843, 100_000_001 << 20 | 3)],
+        &[(843, 1 << 47 | 1 << 20 | 3)], // premium and what is above it
+        &[(843, 1 << 20)],
+        &[(843, 1 << 20 | 1_000_001)], // contracts
+        &[(12, 1)],
+        &[(82, 1)],
+        &[(590, 1)],
+        &[(846, 1)],
+        &[(1_865, 1)], // places that are not used
     ];
     for changes in unsound {
         assert_eq!(with(changes), Held::Unsound, "{changes:?}");

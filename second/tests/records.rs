@@ -4,8 +4,7 @@ use second::records::{read, write, Record, LOCKOUT, OFFER, ORDER};
 use second::unit::Unit;
 
 /// The offer of document 01's example.
-const EXAMPLE: Record =
-    Record { kind: OFFER, time: 10, root: 0, unit: 0, premium: 70_000, contracts: 200, reset: 0, level: 0 };
+const EXAMPLE: Record = Record { kind: OFFER, time: 10, root: 0, unit: 0, premium: 70_000, contracts: 200, reset: 0, level: 0 };
 /// The bytes of document 01's example.
 const EXAMPLE_BYTES: [u8; 12] = [0x40, 0, 0, 0x50, 0, 0x01, 0x11, 0x70, 0, 0x0C, 0x80, 0];
 

@@ -62,8 +62,11 @@ fn print_times() {
          takes beyond the hand-written test of that state.",
         LINE.as_millis()
     );
-    println!("{:WIDE$}{:>8}{:>10}{:>8}{:>10}{:>8}{:>7}{:>12}", "", "pass ns", "proved ns", "to pass", "to second", "to hand", "bound", "a second");
-    let mut measured: Vec<(Line, Least)> = lines().into_iter().map(|line| (line, Least::new())).collect();
+    println!(
+        "{:WIDE$}{:>8}{:>10}{:>8}{:>10}{:>8}{:>7}{:>12}",
+        "", "pass ns", "proved ns", "to pass", "to second", "to hand", "bound", "a second"
+    );
+    let mut measured: Vec<(Line, Least)> = lines().into_iter().map(|line| (line, Least::default())).collect();
     for _ in 0..TURNS {
         measured.iter_mut().for_each(|(line, least)| least.measure(line, LINE));
     }

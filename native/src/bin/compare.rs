@@ -45,7 +45,11 @@ fn replay(file: &str) -> ExitCode {
     match script {
         Ok(script) => {
             print!("{}", report(&script, as_it_is));
-            if first_difference(&script, as_it_is).is_some() { ExitCode::FAILURE } else { ExitCode::SUCCESS }
+            if first_difference(&script, as_it_is).is_some() {
+                ExitCode::FAILURE
+            } else {
+                ExitCode::SUCCESS
+            }
         }
         Err(error) => {
             eprintln!("{file}: {error}");

@@ -217,6 +217,12 @@ fn allowance(rule: &Rule, counted: u64, o: &Offer) -> u64 {
         0 if o.premium * o.contracts <= left => o.contracts,
         0 => left / o.premium,
         1 => left.min(o.contracts),
-        _ => if left == 0 { 0 } else { o.contracts },
+        _ => {
+            if left == 0 {
+                0
+            } else {
+                o.contracts
+            }
+        }
     }
 }

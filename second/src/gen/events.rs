@@ -11,17 +11,41 @@ use crate::{LAST_TIME, MOST_CONTRACTS, MOST_PREMIUM};
 #[derive(Clone, Copy, Debug, PartialEq, Eq)]
 pub enum Call {
     /// Arm from the text that `gen::profile` gives for the seed.
-    Arm { seed: u64 },
+    Arm {
+        seed: u64,
+    },
     /// Arm from the text that `gen::valid_profile` gives for the seed.
-    ArmValid { seed: u64 },
+    ArmValid {
+        seed: u64,
+    },
     Clear,
-    Order { time: u64, root: u64, reset: u64 },
-    Lockout { time: u64, level: u64, root: u64 },
-    Offer { time: u64, root: u64, unit: u64, premium: u64, contracts: u64 },
-    Remaining { time: u64, rule: u64 },
+    Order {
+        time: u64,
+        root: u64,
+        reset: u64,
+    },
+    Lockout {
+        time: u64,
+        level: u64,
+        root: u64,
+    },
+    Offer {
+        time: u64,
+        root: u64,
+        unit: u64,
+        premium: u64,
+        contracts: u64,
+    },
+    Remaining {
+        time: u64,
+        rule: u64,
+    },
     Status,
     /// Text with so many bytes of room.
-    Text { verdict: u64, room: u64 },
+    Text {
+        verdict: u64,
+        room: u64,
+    },
 }
 
 impl Call {
@@ -33,9 +57,7 @@ impl Call {
             Call::Clear => on.clear().numbers().to_vec(),
             Call::Order { time, root, reset } => on.order(time, root, reset).numbers().to_vec(),
             Call::Lockout { time, level, root } => on.lockout(time, level, root).numbers().to_vec(),
-            Call::Offer { time, root, unit, premium, contracts } => {
-                on.offer(time, root, unit, premium, contracts).numbers().to_vec()
-            }
+            Call::Offer { time, root, unit, premium, contracts } => on.offer(time, root, unit, premium, contracts).numbers().to_vec(),
             Call::Remaining { time, rule } => on.remaining(time, rule).numbers().to_vec(),
             Call::Status => on.status().numbers().to_vec(),
             Call::Text { verdict, room } => on.text(verdict, &mut vec![0; room as usize]).numbers().to_vec(),
