@@ -1,4 +1,4 @@
-/* Mbrumzheg: a risk library for order gateways, for C and C++. Link libcapi.a, which `tools/native-archive capi FOLDER` makes.
+/* Mbrumzheg: a risk library for order gateways, for C and C++. Link libmbrumzheg.a, which `tools/native-archive capi FOLDER` makes.
  *
  * The state is MBRUMZHEG_SIZE numbers that the caller lends to each call and that start at 0; more may be lent, and the rest is not touched.
  * A slice is passed as a pointer and a length, and the pointer may not be null. An answer is a row of numbers, the refusal first, 0 for none.

@@ -15,7 +15,7 @@ fn made() -> PathBuf {
     let folder = PathBuf::from(std::env::var("OUT_DIR").expect("cargo names a folder for output"));
     let tool = root.join("tools/native-archive");
     let done = Command::new(&tool).arg("capi").arg(&folder).status();
-    let advice = "put Rattle's `rt` on the path, or set MBRUMZHEG_LIB to the folder of a libcapi.a";
+    let advice = "put Rattle's `rt` on the path, or set MBRUMZHEG_LIB to the folder of a libmbrumzheg.a";
     match done {
         Ok(status) if status.success() => folder,
         Ok(status) => panic!("{} ended with {status}; {advice}", tool.display()),
@@ -25,8 +25,8 @@ fn made() -> PathBuf {
 
 /// The folder that MBRUMZHEG_LIB names, if it has the library.
 fn named(folder: &str) -> PathBuf {
-    let library = Path::new(folder).join("libcapi.a");
-    assert!(library.is_file(), "MBRUMZHEG_LIB is {folder}, but there is no libcapi.a in it");
+    let library = Path::new(folder).join("libmbrumzheg.a");
+    assert!(library.is_file(), "MBRUMZHEG_LIB is {folder}, but there is no libmbrumzheg.a in it");
     println!("cargo:rerun-if-changed={}", library.display());
     PathBuf::from(folder)
 }
@@ -44,5 +44,5 @@ fn main() {
         }
     };
     println!("cargo:rustc-link-search=native={}", folder.display());
-    println!("cargo:rustc-link-lib=static=capi");
+    println!("cargo:rustc-link-lib=static=mbrumzheg");
 }
