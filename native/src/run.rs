@@ -11,27 +11,47 @@ use crate::tally::Tally;
 /// How often a run says how far it is.
 const PROGRESS: Duration = Duration::from_secs(10);
 
+/// What ends a run that shows no difference.
+#[derive(Clone, Copy)]
+pub enum End {
+    /// So much time, at the end of a day.
+    After(Duration),
+    /// So many days: every run of a seed is then the same.
+    Days(u64),
+}
+
+impl End {
+    /// Whether a run ends after so many days, which took so long.
+    fn reached(self, days: u64, spent: Duration) -> bool {
+        match self {
+            End::After(time) => spent >= time,
+            End::Days(most) => days >= most,
+        }
+    }
+}
+
 /// What a run saw, and the script of the first difference if there is one.
 pub struct Outcome {
+    pub days: u64,
     pub tally: Tally,
     pub spent: Duration,
     pub script: Option<Vec<Step>>,
 }
 
-/// Compares for so long on days whose seeds follow from the first one.
-pub fn run(time: Duration, seed: u64, twist: Twist) -> Outcome {
+/// Compares, until the end, on days whose seeds follow from the first one.
+pub fn run(end: End, seed: u64, twist: Twist) -> Outcome {
     let start = Instant::now();
     let (mut tally, mut said) = (Tally::default(), Duration::ZERO);
-    for day in 0.. {
-        let script = run_day(seed.wrapping_add(day), twist, &mut tally);
+    for days in 1.. {
+        let script = run_day(seed.wrapping_add(days - 1), twist, &mut tally);
         let spent = start.elapsed();
-        if script.is_some() || spent >= time {
+        if script.is_some() || end.reached(days, spent) {
             let script = script.map(|script| shrink(script, |script| first_difference(script, twist).map(|(place, _)| place)));
-            return Outcome { tally, spent, script };
+            return Outcome { days, tally, spent, script };
         }
         if spent - said >= PROGRESS {
             said = spent;
-            eprintln!("{}\n{tally}\n", rate(&tally, spent));
+            eprintln!("{}\n{tally}\n", rate(days, &tally, spent));
         }
     }
     unreachable!("days do not run out")
@@ -52,9 +72,9 @@ fn run_day(seed: u64, twist: Twist, tally: &mut Tally) -> Option<Vec<Step>> {
     None
 }
 
-/// How many calls there were, and how many a second.
-pub fn rate(tally: &Tally, spent: Duration) -> String {
-    format!("{} calls, {:.0} a second", tally.calls, tally.calls as f64 / spent.as_secs_f64())
+/// How many days and calls there were, and how many calls a second.
+pub fn rate(days: u64, tally: &Tally, spent: Duration) -> String {
+    format!("{days} days, {} calls, {:.0} a second", tally.calls, tally.calls as f64 / spent.as_secs_f64())
 }
 
 /// A script and the difference that it shows, as text that can be run again.

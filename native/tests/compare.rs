@@ -1,26 +1,29 @@
 //! The proved library against the second program: days of calls from seeds, every single damaged bit, profiles, lengths.
 
-use std::time::Duration;
+use std::io::Write;
 
 use native::pair::{as_it_is, Pair};
 use native::profiles::clashing;
-use native::run::{rate, report, run};
+use native::run::{rate, report, run, End};
 use native::scripts::{Kind, Step};
 use native::SIZE;
 use second::gen;
 
-/// How long the gate compares, and how many calls it has to reach in that time.
-const SECONDS: u64 = 60;
-const CALLS: u64 = 500_000;
+/// The first day's seed, and how many days the gate compares, which takes about a minute.
+const SEED: u64 = 20_120_514;
+const DAYS: u64 = 5_000;
 
 #[test]
 fn days_of_calls_show_no_difference() {
-    let outcome = run(Duration::from_secs(SECONDS), 20_120_514, as_it_is);
-    println!("{}\n{}", rate(&outcome.tally, outcome.spent), outcome.tally);
+    let outcome = run(End::Days(DAYS), SEED, as_it_is);
+    let compared = format!("compared from seed {SEED}: {}", rate(outcome.days, &outcome.tally, outcome.spent));
+    // printed whether or not the test passes
+    writeln!(std::io::stderr(), "{compared}").expect("a place for words");
+    println!("{}", outcome.tally);
     if let Some(script) = outcome.script {
         panic!("a difference, to be run again by native/run replay:\n{}", report(&script, as_it_is));
     }
-    assert!(outcome.tally.calls >= CALLS, "only {}", rate(&outcome.tally, outcome.spent));
+    assert_eq!(outcome.days, DAYS);
     assert!(outcome.tally.missing().is_empty(), "never came up: {:?}", outcome.tally.missing());
 }
 

@@ -1,15 +1,16 @@
 //! The comparison itself is tried: against a wrong version of the second program it must find a difference and make its script short.
 
-use std::time::Duration;
-
 use native::pair::{as_it_is, first_difference, Difference, Twist};
-use native::run::{report, run};
+use native::run::{report, run, End};
 use native::scripts::{parse, print, Kind, Step};
 use second::lent::{Lent, Row};
 
+/// In how many days a wrong version has to show.
+const DAYS: u64 = 500;
+
 /// The shortest script that shows how the wrong version differs, and the difference.
 fn found(twist: Twist) -> (String, Difference) {
-    let script = run(Duration::from_secs(60), 7, twist).script.expect("a difference");
+    let script = run(End::Days(DAYS), 7, twist).script.expect("a difference");
     let text = print(&script);
     assert_eq!(parse(&text).expect("a script that can be run again"), script);
     assert_eq!(first_difference(&script, as_it_is), None, "the second program as it is does not differ");

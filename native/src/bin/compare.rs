@@ -4,7 +4,7 @@ use std::process::ExitCode;
 use std::time::Duration;
 
 use native::pair::{as_it_is, first_difference};
-use native::run::{rate, report, run};
+use native::run::{rate, report, run, End};
 use native::scripts::parse;
 
 fn main() -> ExitCode {
@@ -25,8 +25,8 @@ fn main() -> ExitCode {
 
 /// Runs days and prints what came up, and the script of a difference if there is one.
 fn compare(seconds: u64, seed: u64) -> ExitCode {
-    let outcome = run(Duration::from_secs(seconds), seed, as_it_is);
-    println!("{}\n{}", rate(&outcome.tally, outcome.spent), outcome.tally);
+    let outcome = run(End::After(Duration::from_secs(seconds)), seed, as_it_is);
+    println!("{}\n{}", rate(outcome.days, &outcome.tally, outcome.spent), outcome.tally);
     match outcome.script {
         Some(script) => {
             print!("# a difference\n{}", report(&script, as_it_is));
