@@ -44,7 +44,7 @@ pub fn sentence(sitting: &Sitting, passed: &Passed) -> String {
 fn filled(profile: &Profile, offer: &Offer, answer: &Answer, passed: &Passed) -> String {
     let offered = offer.contracts.count();
     let mut text = if answer.cuts(offer.contracts) {
-        let granted = format!("granted {} of {}", grouped(answer.grant.into()), grouped(offered));
+        let granted = format!("granted {} of {}", grouped(answer.grant), grouped(offered));
         format!("{granted}, cut by {}", rules(profile, &passed.cut_by))
     } else if passed.covered {
         format!("granted all {}", grouped(offered))

@@ -282,7 +282,7 @@ impl Sums {
         self.events[kind] += 1;
         if let Event::Offer(offer) = event {
             self.contracts[0] += offer.contracts.count();
-            self.contracts[1] += u64::from(answer.grant);
+            self.contracts[1] += answer.grant;
         }
         self.outcomes[0] += usize::from(passed.is_cut());
         self.outcomes[1] += usize::from(answer.root_trip) + usize::from(answer.firm_trip);

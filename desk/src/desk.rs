@@ -96,7 +96,7 @@ impl Desk {
     /// Begins a day, and says with what.
     fn begin(&mut self, sitting: Sitting) -> String {
         let profile = &sitting.profile;
-        let (rules, roots) = (sitting.unit.rule_count(), sitting.unit.root_count());
+        let (rules, roots) = (sitting.unit.rule_count() as usize, sitting.unit.root_count() as usize);
         let names = if profile.roots.is_empty() { String::new() } else { format!(": {}", listed(&profile.roots)) };
         let text = format!(
             "armed for firm {}, {} and {}{names}  [armed {} {rules} {roots}]",

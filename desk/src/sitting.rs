@@ -80,11 +80,11 @@ impl Sitting {
 
     /// What is left of a rule at a time; nothing for a time that the library refuses.
     pub fn left(&self, time: Time, rule: usize) -> Option<u64> {
-        self.unit.remaining(time, rule).ok()
+        self.unit.remaining(time, rule as u64).ok()
     }
 
     fn name_rules(&self, offer: &Offer, answer: &Answer, before: &[(usize, u64)], passed: &mut Passed) {
-        let grant = u64::from(answer.grant);
+        let grant = answer.grant;
         for (number, left) in before {
             let Some(rule) = self.profile.rules.get(*number) else { continue };
             if answer.cuts(offer.contracts) && rule.allowance(offer, *left) == grant {

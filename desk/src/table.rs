@@ -16,7 +16,7 @@ const BAR: u64 = 20;
 pub fn rules(sitting: &Sitting, time: Time, shown: Shown) -> Result<String, Refusal> {
     let mut rows = Vec::new();
     for rule in sitting.profile.rules.iter().filter(|rule| shown.has(rule)) {
-        let left = sitting.unit.remaining(time, rule.number)?;
+        let left = sitting.unit.remaining(time, rule.number as u64)?;
         rows.push((cells(sitting, rule, left), tail(sitting, rule, left)));
     }
     if rows.is_empty() {

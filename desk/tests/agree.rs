@@ -20,11 +20,11 @@ fn the_reading_of_an_accepted_profile_is_the_librarys() {
         let text = profile(&mut Dice::new(seed));
         let sitting = sitting(&text);
         assert_eq!(sitting.unit.firm().as_str(), sitting.profile.firm);
-        assert_eq!(sitting.unit.rule_count(), sitting.profile.rules.len());
+        assert_eq!(sitting.unit.rule_count(), sitting.profile.rules.len() as u64);
         let names: Vec<String> = sitting.unit.roots().map(|(_, name)| name.to_string()).collect();
         assert_eq!(names, sitting.profile.roots, "{text}");
         for rule in &sitting.profile.rules {
-            assert_eq!(sitting.unit.remaining(Time::START, rule.number), Ok(rule.limit), "{text}");
+            assert_eq!(sitting.unit.remaining(Time::START, rule.number as u64), Ok(rule.limit), "{text}");
         }
     }
 }
@@ -36,7 +36,7 @@ fn the_rules_that_cut_are_those_that_the_grant_shows() {
         let mut dice = Dice::new(seed);
         let mut sitting = sitting(&profile(&mut dice));
         for _ in 0..60 {
-            let next = event(&mut dice, sitting.unit.clock().ms(), sitting.unit.root_count() as u64);
+            let next = event(&mut dice, sitting.unit.clock().ms(), sitting.unit.root_count());
             let Event::Offer(offer) = next else {
                 sitting.pass(next);
                 continue;
@@ -48,7 +48,7 @@ fn the_rules_that_cut_are_those_that_the_grant_shows() {
                 assert!(passed.cut_by.is_empty() && passed.reached.is_empty());
                 continue;
             }
-            assert_eq!(u64::from(answer.grant), least);
+            assert_eq!(answer.grant, least);
             assert_eq!(passed.is_cut(), !passed.cut_by.is_empty());
             let tripped: Vec<usize> = passed.cut_by.iter().chain(&passed.reached).copied().collect();
             let of_firm = |number: &usize| sitting.profile.rules[*number].scope == Scope::Firm;
@@ -70,7 +70,7 @@ fn a_replayed_day_has_the_same_answers() {
         let (mut first, mut second) = (sitting(&text), sitting(&text));
         let mut lines = Vec::new();
         for _ in 0..60 {
-            let next = event(&mut dice, first.unit.clock().ms(), first.unit.root_count() as u64);
+            let next = event(&mut dice, first.unit.clock().ms(), first.unit.root_count());
             let passed = first.pass(next);
             lines.push(answer::replayed(&first, &passed));
         }
@@ -143,7 +143,7 @@ fn the_page_draws_the_use_that_the_grants_make() {
         let mut seen: Vec<(u64, Vec<u64>)> = Vec::new();
         for _ in 0..50 {
             let before = sitting.unit.clock().ms();
-            let next = event(&mut dice, before, sitting.unit.root_count() as u64);
+            let next = event(&mut dice, before, sitting.unit.root_count());
             let passed = sitting.pass(next);
             let Ok(answer) = passed.answer else { continue };
             let now = next.time().ms();
@@ -153,7 +153,7 @@ fn the_page_draws_the_use_that_the_grants_make() {
                 }
             }
             match next {
-                Event::Offer(offer) if answer.grant > 0 => fills.push(Fill { offer, granted: answer.grant.into(), counts: [true; 2] }),
+                Event::Offer(offer) if answer.grant > 0 => fills.push(Fill { offer, granted: answer.grant, counts: [true; 2] }),
                 Event::Order { root, reset, .. } => forget(&mut fills, root.number(), reset),
                 _ => {}
             }

@@ -12,7 +12,7 @@ fn page(seed: u64, stretch: Option<(u64, u64)>) -> (String, usize) {
     let text = profile(&mut dice);
     let mut sitting = Sitting::new(Unit::new().arm(&text).expect("accepted"), text.as_bytes());
     for _ in 0..40 {
-        let next = event(&mut dice, sitting.unit.clock().ms(), sitting.unit.root_count() as u64);
+        let next = event(&mut dice, sitting.unit.clock().ms(), sitting.unit.root_count());
         sitting.pass(next);
     }
     let page = report::page(&sitting.profile, &sitting.events, stretch).expect("a page");

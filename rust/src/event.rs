@@ -67,7 +67,7 @@ pub struct Answer {
     /// Whether it may pass, or what is locked.
     pub verdict: Verdict,
     /// How many contracts of an offer are granted.
-    pub grant: u32,
+    pub grant: u64,
     /// Whether this offer tripped its root.
     pub root_trip: bool,
     /// Whether this offer tripped the firm.
@@ -82,6 +82,6 @@ impl Answer {
 
     /// Whether an offer of so many contracts was cut: it passed, and less was granted.
     pub fn cuts(&self, offered: Contracts) -> bool {
-        self.verdict.passes() && u64::from(self.grant) < offered.count()
+        self.verdict.passes() && self.grant < offered.count()
     }
 }

@@ -140,7 +140,7 @@ pub struct ArmRefusal {
     /// Why.
     pub refusal: Refusal,
     /// Which line, from 1, if one is at fault.
-    pub line: Option<u32>,
+    pub line: Option<u64>,
 }
 
 impl fmt::Display for ArmRefusal {

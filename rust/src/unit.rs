@@ -86,11 +86,11 @@ pub enum Adopted<M> {
 #[derive(Clone, Copy, Debug, PartialEq, Eq)]
 pub struct Status {
     /// How many roots are tripped.
-    pub tripped: u32,
+    pub tripped: u64,
     /// How many the user has locked.
-    pub locked_by_user: u32,
+    pub locked_by_user: u64,
     /// How many are locked at all.
-    pub locked: u32,
+    pub locked: u64,
     /// The lowest locked root.
     pub lowest_locked: Option<Root>,
 }
@@ -152,7 +152,7 @@ impl<M: Memory> Unit<M, Unarmed> {
         match accepted(row) {
             Ok(_) => Ok(Unit::on(self.memory)),
             Err(refusal) => {
-                let line = (row[1] > 0).then_some(row[1] as u32);
+                let line = (row[1] > 0).then_some(row[1]);
                 Err(Refused { why: ArmRefusal { refusal, line }, kept: self })
             }
         }
@@ -190,15 +190,14 @@ impl<M: Memory> Unit<M, Armed> {
 
     /// What remains of a rule's limit at a time: ten-thousandths of a dollar, contracts or executions, by the rule's type.
     /// Rules are numbered from 0 by line. Neither the clock nor anything else changes.
-    pub fn remaining(&self, time: Time, rule: usize) -> Result<u64, Refusal> {
-        let rule = u64::try_from(rule).map_err(|_| Refusal::Unknown)?;
+    pub fn remaining(&self, time: Time, rule: u64) -> Result<u64, Refusal> {
         accepted(raw::remaining(self.memory.numbers(), time.ms(), rule)).map(|row| row[1])
     }
 
     /// How the roots stand.
     pub fn status(&self) -> Result<Status, Refusal> {
-        let [_, tripped, user, locked, lowest] = accepted(raw::status(self.memory.numbers()))?;
-        Ok(Status { tripped: tripped as u32, locked_by_user: user as u32, locked: locked as u32, lowest_locked: Root::new(lowest).ok() })
+        let [_, tripped, locked_by_user, locked, lowest] = accepted(raw::status(self.memory.numbers()))?;
+        Ok(Status { tripped, locked_by_user, locked, lowest_locked: Root::new(lowest).ok() })
     }
 
     /// Sets the state to zeros; what comes back has to be armed again.
@@ -247,6 +246,5 @@ fn accepted(row: Row) -> Result<Row, Refusal> {
 fn judged(row: Row) -> Result<Answer, Refusal> {
     let [_, verdict, grant, root_trip, firm_trip] = accepted(row)?;
     let verdict = Verdict::from_number(verdict).expect("the library's verdicts are 0 to 2");
-    let grant = u32::try_from(grant).expect("a grant is at most a million");
     Ok(Answer { verdict, grant, root_trip: root_trip == 1, firm_trip: firm_trip == 1 })
 }

@@ -77,18 +77,18 @@ impl<M: Memory> Unit<M, Armed> {
     }
 
     /// How many rules the profile has.
-    pub fn rule_count(&self) -> usize {
-        self.memory()[place::RULES] as usize
+    pub fn rule_count(&self) -> u64 {
+        self.memory()[place::RULES]
     }
 
     /// How many roots the profile has.
-    pub fn root_count(&self) -> usize {
-        self.memory()[place::ROOTS] as usize
+    pub fn root_count(&self) -> u64 {
+        self.memory()[place::ROOTS]
     }
 
     /// The roots with their names, by number.
     pub fn roots(&self) -> impl Iterator<Item = (Root, Name)> + '_ {
-        let names = &self.memory()[place::ROOT_NAMES..][..self.root_count()];
+        let names = &self.memory()[place::ROOT_NAMES..][..self.root_count() as usize];
         names.iter().zip(0..).filter_map(|(name, number)| Some((Root::new(number).ok()?, Name::from_number(*name))))
     }
 

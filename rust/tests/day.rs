@@ -22,7 +22,7 @@ fn armed(profile: &str) -> Unit<Box<[u64]>, Armed> {
 }
 
 /// Grant, root trip and firm trip of an offer of calls in the front month.
-fn fill(unit: &mut Unit<Box<[u64]>, Armed>, ms: u64, dollars: u64, contracts: u64) -> (u32, bool, bool) {
+fn fill(unit: &mut Unit<Box<[u64]>, Armed>, ms: u64, dollars: u64, contracts: u64) -> (u64, bool, bool) {
     let answer = unit.offer(offer(ms, UnitOfRoot::CallsFront, dollars, contracts)).expect("not refused");
     assert!(answer.verdict.passes());
     (answer.grant, answer.root_trip, answer.firm_trip)

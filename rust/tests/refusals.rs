@@ -22,7 +22,7 @@ fn offer(ms: u64, root_number: u64, contracts: u64) -> Offer {
 }
 
 /// What arming a profile is refused with, and at which line.
-fn arming(profile: impl AsRef<[u8]>) -> (u64, Option<u32>) {
+fn arming(profile: impl AsRef<[u8]>) -> (u64, Option<u64>) {
     let refused = Unit::new().arm(profile).expect_err("the profile is refused");
     assert!(refused.kept.memory().iter().all(|number| *number == 0), "a refusal changes nothing");
     (refused.why.refusal.number(), refused.why.line)
@@ -142,7 +142,7 @@ fn times_numbers_and_amounts_are_refused_with_12_13_and_14() {
     assert_eq!(unit.offer(offer(60, 1, 1)), Err(Refusal::Unknown));
     assert_eq!(unit.lockout(time(60), Level::Root(root(1))), Err(Refusal::Unknown));
     assert_eq!(unit.remaining(time(60), 1), Err(Refusal::Unknown));
-    assert_eq!(unit.remaining(time(60), usize::MAX), Err(Refusal::Unknown));
+    assert_eq!(unit.remaining(time(60), u64::MAX), Err(Refusal::Unknown));
     assert_eq!(unit.memory(), before, "refusals change nothing");
     let mut memory = unit.into_memory();
     assert_eq!(raw::offer(&mut memory, 60, 0, 0, 0, 1), [14, 0, 0, 0, 0]);

@@ -67,11 +67,10 @@ fn compare(unit: &Unit<Box<[u64]>, Armed>, other: &second::unit::Unit) {
     assert_eq!(unit.clock().ms(), armed.clock);
     let status = unit.status().expect("a sound state");
     let lowest = status.lowest_locked.map_or(64, |root| root.number());
-    let counts = [status.tripped, status.locked_by_user, status.locked].map(u64::from);
-    assert_eq!([0, counts[0], counts[1], counts[2], lowest], other.status().numbers());
+    assert_eq!([0, status.tripped, status.locked_by_user, status.locked, lowest], other.status().numbers());
     let marks = unit.firm_marks();
     assert_eq!((marks.tripped, marks.locked_by_user), (armed.firm.tripped, armed.firm.user));
-    assert_eq!(unit.root_count(), armed.roots.len());
+    assert_eq!(unit.root_count(), armed.roots.len() as u64);
     for ((root, name), (marks, known)) in unit.roots().zip(armed.roots.iter().zip(&armed.profile.roots)) {
         assert_eq!(name.as_str().as_bytes(), known);
         assert_eq!((unit.root_marks(root).tripped, unit.root_marks(root).locked_by_user), (marks.tripped, marks.user));
@@ -79,7 +78,7 @@ fn compare(unit: &Unit<Box<[u64]>, Armed>, other: &second::unit::Unit) {
     for rule in 0..=unit.rule_count() {
         for later in [0, 1, 149, 1_000] {
             let time = Time::from_ms(armed.clock + later).expect("a time");
-            let wanted = other.remaining(time.ms(), rule as u64).numbers();
+            let wanted = other.remaining(time.ms(), rule).numbers();
             assert_eq!(unit.remaining(time, rule).map_or_else(|refusal| [refusal.number(), 0], |left| [0, left]), wanted);
         }
     }
@@ -97,7 +96,7 @@ fn random_days_are_answered_as_the_second_program_answers_them() {
         for _ in 0..60 {
             let next = event(&mut dice, unit.clock().ms());
             let row = match unit.answer(next) {
-                Ok(a) => [0, a.verdict.number(), a.grant.into(), a.root_trip.into(), a.firm_trip.into()],
+                Ok(a) => [0, a.verdict.number(), a.grant, a.root_trip.into(), a.firm_trip.into()],
                 Err(refusal) => [refusal.number(), 0, 0, 0, 0],
             };
             assert_eq!(row, answered(&mut other, &next), "{next:?}\n{text}");
