@@ -1,4 +1,7 @@
 // Arms a unit from the file `profile`, answers the event records of standard input, and prints a line for each.
+ghost use mathlib.Core.Path.{_≡_};
+ghost use Prim.Native.Nat.{_≤_, min};
+ghost use lib.ListN.{length};
 ghost use Rattle.io.specs.Counts.{Counts};
 use libc::STDIN_FILENO;
 use libc::STDOUT_FILENO;
@@ -32,19 +35,59 @@ fn arm(memory: &mut [u64]) -> bool {
     io::write_all(STDOUT_FILENO, &line[..bytes]) & opened.armed
 }
 
-// Answers a piece of the input, whose first record has a place, and prints its lines. Answers the place after it, or 0 where the input or the
-// output ends.
-fn answer_piece(memory: &mut [u64], place: u64, input: &mut [u8], output: &mut [u8]) -> u64 {
-    let n = io::read_full(STDIN_FILENO, input);
-    let ran = lines::run(memory, place, &input[..n], output);
-    let bytes = ran.bytes;
-    if !io::write_all(STDOUT_FILENO, &output[..bytes]) {
-        return 0;
-    }
-    if n < input.len() {
+// Answers the records of some bytes, the first at a place, and prints their lines. Answers the place after them, or 0 where the output ends.
+fn answer_records(memory: &mut [u64], place: u64, bytes: &[u8], output: &mut [u8]) -> u64 {
+    let ran = lines::run(memory, place, bytes, output);
+    let written = ran.bytes;
+    if !io::write_all(STDOUT_FILENO, &output[..written]) {
         return 0;
     }
     place + ran.records
+}
+
+// Waits for the rest of a record, whose first bytes have come to a room of its size, and answers it. Answers the place after it, or 0 where the
+// input or the output ends.
+fn answer_rest(
+    memory: &mut [u64],
+    place: u64,
+    room: &mut [u8],
+    come: usize,
+    output: &mut [u8],
+) -> u64
+    requires { ⌜ come ≤ length (now room) ⌝ }
+{
+    let more = io::read_full(STDIN_FILENO, &mut room[come..]);
+    let all = come + more;
+    let next = answer_records(memory, place, &room[..all], output);
+    if all < room.len() {
+        return 0;
+    }
+    next
+}
+
+// The lesser of two numbers.
+fn least(a: usize, b: usize) -> usize
+    ensures { λ r. ⌜ r ≡ min a b ⌝ }
+{
+    if a <= b { a } else { b }
+}
+
+// Answers what one read of the input brings, the first record at a place, and prints its lines before it waits for anything more. Answers the
+// place after it, or 0 where the input or the output ends.
+fn answer_read(memory: &mut [u64], place: u64, input: &mut [u8], output: &mut [u8]) -> u64 {
+    let got = libc::read(STDIN_FILENO, input);
+    let come = io::count(got, input);
+    if come == 0 {
+        return 0;
+    }
+    let part = come % 12;
+    let whole = come - part;
+    let next = answer_records(memory, place, &input[..whole], output);
+    if (part == 0) | (next == 0) {
+        return next;
+    }
+    let end = least(whole + 12, input.len());
+    answer_rest(memory, next, &mut input[whole..end], part, output)
 }
 
 // Answers the whole input. A proved loop has to end, so it counts its turns down, from a number that no run uses up.
@@ -52,12 +95,12 @@ fn answer_all(memory: &mut [u64], input: &mut [u8], output: &mut [u8]) {
     let mut place: u64 = 1;
     let mut turns = u64::MAX;
     while 0 < turns && 0 < place {
-        place = answer_piece(memory, place, input, output);
+        place = answer_read(memory, place, input, output);
         turns -= 1;
     }
 }
 
-// 4,096 records are read at a time, and their lines take at most 126 bytes each.
+// A read brings at most 4,096 records, and their lines take at most 126 bytes each.
 fn main() {
     let mut memory = [0u64; 1866];
     if !arm(&mut memory) {
