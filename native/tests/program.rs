@@ -1,31 +1,38 @@
 //! The real program, as the kit runs it, and the second program print the same bytes for the same profile and records.
 //! `native/run test` builds both and names them: PROGRAM is the command that runs the proved one, SECOND the other.
+//! PROGRAM ends with 1 where the first word is `refused`; the second program ends with 0 then too.
 
 use std::fs;
-use std::io::Write;
+use std::io::{BufRead, BufReader, Write};
 use std::path::{Path, PathBuf};
-use std::process::{Command, Stdio};
+use std::process::{Child, Command, Output, Stdio};
+use std::time::Duration;
 
 use native::profiles::clashing;
 use second::gen::{profile, records, valid_profile, Random};
 
-/// What a command prints in a folder, given an input.
-fn printed(command: &[String], folder: &Path, input: &[u8]) -> Vec<u8> {
-    let mut child = Command::new(&command[0])
+/// A command that was started in a folder, all its files pipes.
+fn started(command: &[String], folder: &Path) -> Child {
+    Command::new(&command[0])
         .args(&command[1..])
         .current_dir(folder)
         .stdin(Stdio::piped())
         .stdout(Stdio::piped())
+        .stderr(Stdio::piped())
         .spawn()
-        .expect("the program starts");
+        .expect("the program starts")
+}
+
+/// What a command does in a folder, given an input.
+fn ran(command: &[String], folder: &Path, input: &[u8]) -> Output {
+    let mut child = started(command, folder);
     let mut stdin = child.stdin.take().expect("an input");
     let input = input.to_vec();
     // A program that is refused its profile reads no input.
     let writer = std::thread::spawn(move || drop(stdin.write_all(&input)));
     let output = child.wait_with_output().expect("the program ends");
     writer.join().expect("the input is written");
-    assert!(output.status.success(), "{command:?} ended with {}", output.status);
-    output.stdout
+    output
 }
 
 fn named(name: &str) -> Vec<String> {
@@ -44,11 +51,14 @@ fn folder(seed: u64, text: Option<&[u8]>) -> PathBuf {
 
 fn print_alike(seed: u64, text: Option<&[u8]>, input: &[u8]) -> Vec<u8> {
     let folder = folder(seed, text);
-    let proved = printed(&named("PROGRAM"), &folder, input);
-    let second = printed(&named("SECOND"), &folder, input);
-    assert!(proved == second, "seed {seed}: {} and {}", String::from_utf8_lossy(&proved), String::from_utf8_lossy(&second));
+    let proved = ran(&named("PROGRAM"), &folder, input);
+    let second = ran(&named("SECOND"), &folder, input);
+    let shown = |output: &Output| String::from_utf8_lossy(&output.stdout).into_owned();
+    assert!(proved.stdout == second.stdout, "seed {seed}: {} and {}", shown(&proved), shown(&second));
+    assert_eq!(proved.status.code(), Some(i32::from(proved.stdout.starts_with(b"refused "))), "seed {seed}");
+    assert!(second.status.success(), "seed {seed}: the second program ended with {}", second.status);
     fs::remove_dir_all(folder).expect("the folder goes");
-    proved
+    proved.stdout
 }
 
 #[test]
@@ -119,15 +129,7 @@ fn each_refusal_that_a_record_can_meet_is_printed() {
 #[test]
 fn a_closed_output_ends_the_program_quietly() {
     let folder = folder(3000, Some(b"A,abs_vol,Q,1000000"));
-    let command = named("PROGRAM");
-    let mut child = Command::new(&command[0])
-        .args(&command[1..])
-        .current_dir(&folder)
-        .stdin(Stdio::piped())
-        .stdout(Stdio::piped())
-        .stderr(Stdio::piped())
-        .spawn()
-        .expect("the program starts");
+    let mut child = started(&named("PROGRAM"), &folder);
     drop(child.stdout.take());
     let mut stdin = child.stdin.take().expect("an input");
     // Far more than any pipe holds: the program has to end by itself for the writing to end.
@@ -136,5 +138,37 @@ fn a_closed_output_ends_the_program_quietly() {
     drop(stdin);
     let output = child.wait_with_output().expect("the program ends");
     assert!(written.is_err() && output.stderr.is_empty(), "{written:?}, {}", String::from_utf8_lossy(&output.stderr));
+    fs::remove_dir_all(folder).expect("the folder goes");
+}
+
+#[test]
+fn what_has_come_is_answered_before_more_is_awaited() {
+    let folder = folder(4000, Some(b"A,abs_vol,Q,1000000"));
+    let mut child = started(&named("PROGRAM"), &folder);
+    let mut stdin = child.stdin.take().expect("an input");
+    let output = BufReader::new(child.stdout.take().expect("an output"));
+    let (sender, lines) = std::sync::mpsc::channel();
+    std::thread::spawn(move || output.lines().for_each(|line| drop(sender.send(line.expect("text")))));
+    let line = || lines.recv_timeout(Duration::from_secs(60)).expect("a line comes before anything more is sent");
+    let mut send = |bytes: &[u8]| stdin.write_all(bytes).and_then(|()| stdin.flush()).expect("the program reads");
+    assert_eq!(line(), "armed A 1 1");
+    // each line is awaited before anything more is sent: whole records, then one and a half, the rest of it, and a part in three pieces
+    send(&offer(1));
+    assert_eq!(line(), "1 0 0 1 0 0");
+    send(&[offer(2), offer(3)].concat());
+    assert_eq!([line(), line()], ["2 0 0 1 0 0", "3 0 0 1 0 0"]);
+    let (whole, part) = (offer(4), offer(5));
+    send(&[&whole[..], &part[..5]].concat());
+    assert_eq!(line(), "4 0 0 1 0 0");
+    send(&part[5..]);
+    assert_eq!(line(), "5 0 0 1 0 0");
+    for piece in offer(6).chunks(4) {
+        send(piece);
+    }
+    assert_eq!(line(), "6 0 0 1 0 0");
+    send(&offer(7)[..7]);
+    drop(stdin);
+    assert_eq!(line(), "7 16 0 0 0 0");
+    assert!(child.wait().expect("the program ends").success());
     fs::remove_dir_all(folder).expect("the folder goes");
 }
