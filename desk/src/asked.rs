@@ -1,6 +1,7 @@
 //! The words after offer, order, lock and remaining, made into events with the profile's names and the unit's clock.
 
-use crate::command::{shortened, LOCK_FORM, OFFER_FORM, ORDER_FORM, REMAINING_FORM};
+use crate::command::shortened;
+use crate::help::{LOCK_FORM, OFFER_FORM, ORDER_FORM, REMAINING_FORM};
 use crate::profile::{Profile, Rule, Scope};
 use crate::words;
 use mbrumzheg::{Event, Level, Offer, Reset, Root, Time, UnitOfRoot};

@@ -1,5 +1,8 @@
 //! A typed line as a command, or as a sentence that says what to type.
 
+use crate::explain::nearest;
+use crate::help;
+
 /// What the desk can be asked to do. Words that need the profile or the clock are kept as words.
 #[derive(Clone, Debug, PartialEq, Eq)]
 pub enum Command {
@@ -7,6 +10,8 @@ pub enum Command {
     Nothing,
     /// Arm from the profile in a file.
     Arm(String),
+    /// Say what a profile in a file means, or what is wrong with it.
+    Check(String),
     /// Offer a fill.
     Offer(Vec<String>),
     /// Pass an order.
@@ -35,41 +40,11 @@ pub enum Command {
         /// The first and last time of a stretch, as words.
         stretch: Option<(String, String)>,
     },
-    /// Show the commands.
-    Help,
+    /// Show the commands, or more on one of them.
+    Help(Option<String>),
     /// End.
     Quit,
 }
-
-/// How an offer is typed.
-pub const OFFER_FORM: &str = "offer TIME ROOT call|put front|trailing PREMIUM CONTRACTS";
-/// How an order is typed.
-pub const ORDER_FORM: &str = "order TIME ROOT [reset symbol|firm|both]";
-/// How a lockout is typed.
-pub const LOCK_FORM: &str = "lock [TIME] ROOT|firm";
-/// How the table of rules is asked for.
-pub const REMAINING_FORM: &str = "remaining [TIME] [ROOT|firm]";
-
-/// The commands with a sentence each.
-pub const HELP: &str = "\
-arm FILE                  arm from the profile in FILE, before anything else can be passed
-offer TIME ROOT call|put front|trailing PREMIUM CONTRACTS
-                          offer a fill:          offer 10ms XYZ call front 7.00 200
-order TIME ROOT [reset symbol|firm|both]
-                          pass an order:         order 20ms XYZ reset symbol
-lock [TIME] ROOT|firm     lock by hand:          lock XYZ, lock firm
-remaining [TIME] [ROOT|firm]
-                          every rule with its limit, used, left and a bar
-status                    the clock, and what is locked and why
-save FILE                 write the day's events as 12-byte records
-replay FILE [quiet]       pass the records of FILE; quiet shows cuts, trips, rejections and refusals alone
-report FILE [from TIME to TIME]
-                          write a page (HTML) on the day so far, or on a stretch of it
-clear                     set the unit to zeros; arm again after it
-help, quit                this list; the end
-TIME is 10ms, 2.5s, 09:30, 09:30:00.250, now, or +10ms for 10 ms after the clock. # starts a comment.
-In brackets after an answer: the event's place, refusal, verdict, grant, root trip, firm trip.
-Rules are numbered from 0: rule 0 is the profile's first line.";
 
 /// Reads a line.
 pub fn read(line: &str) -> Result<Command, String> {
@@ -82,6 +57,7 @@ pub fn read(line: &str) -> Result<Command, String> {
     let words = || rest.split_whitespace().map(str::to_string).collect::<Vec<_>>();
     match name.to_ascii_lowercase().as_str() {
         "arm" => file(rest, "arm FILE").map(Command::Arm),
+        "check" => file(rest, "check FILE").map(Command::Check),
         "offer" => Ok(Command::Offer(words())),
         "order" => Ok(Command::Order(words())),
         "lock" | "lockout" => Ok(Command::Lock(words())),
@@ -91,7 +67,7 @@ pub fn read(line: &str) -> Result<Command, String> {
         "save" => file(rest, "save FILE").map(Command::Save),
         "replay" => replay(rest),
         "report" => report(rest),
-        "help" | "?" => Ok(Command::Help),
+        "help" | "?" => Ok(Command::Help(Some(rest.to_string()).filter(|name| !name.is_empty()))),
         "quit" | "exit" => alone(rest, "quit", Command::Quit),
         _ => Err(format!("'{}' is no command; type help for the list{}", shortened(name), meant(name))),
     }
@@ -139,10 +115,8 @@ pub fn shortened(word: &str) -> String {
     text
 }
 
-/// A hint for a word that begins like a command.
+/// A hint for a word that is near a command.
 fn meant(name: &str) -> String {
-    const NAMES: [&str; 12] = ["arm", "offer", "order", "lock", "remaining", "status", "clear", "save", "replay", "report", "help", "quit"];
-    let start: String = name.to_lowercase().chars().take(2).collect();
-    let close = NAMES.iter().find(|known| start.len() == 2 && known.starts_with(&start));
-    close.map_or_else(String::new, |known| format!(" (did you mean {known}?)"))
+    let names: Vec<&str> = help::COMMANDS.iter().map(|topic| topic.name).collect();
+    nearest(name, &names).map_or_else(String::new, |known| format!(" (did you mean {known}?)"))
 }

@@ -1,13 +1,15 @@
 //! The desk: takes lines, works on the unit, answers in words.
 
 use crate::answer;
-use crate::asked::{listed, Names};
+use crate::asked::Names;
+use crate::check;
 use crate::command::{self, Command};
 use crate::files;
+use crate::help;
 use crate::report;
 use crate::sitting::{Passed, Sitting};
 use crate::table::{self, counted};
-use mbrumzheg::{ArmRefusal, Event, Records, Unit};
+use mbrumzheg::{Event, Records, Unit};
 use std::io::{self, Write};
 
 /// What stands on the desk: a unit without rules, or one with a day behind it.
@@ -31,6 +33,9 @@ pub enum After {
     /// The line asked for the end.
     End,
 }
+
+/// How many rules are said in words after arming; `check` says them all.
+const RULES_SHOWN: usize = 12;
 
 const ARM_FIRST: &str = "the unit is not armed, so nothing can be passed or asked (refusal 4); type arm FILE first";
 
@@ -59,6 +64,7 @@ impl Desk {
     fn carry_out(&mut self, command: Command) -> Result<String, String> {
         match command {
             Command::Arm(file) => self.arm(&file),
+            Command::Check(file) => check::check(&file, &files::profile(&file)?),
             Command::Offer(words) => self.pass(|names| names.offer(&words)),
             Command::Order(words) => self.pass(|names| names.order(&words)),
             Command::Lock(words) => self.pass(|names| names.lockout(&words)),
@@ -67,7 +73,8 @@ impl Desk {
             Command::Clear => Ok(self.clear()),
             Command::Save(file) => self.save(&file),
             Command::Report { file, stretch } => self.report(&file, stretch),
-            Command::Help => Ok(command::HELP.to_string()),
+            Command::Help(None) => Ok(help::list()),
+            Command::Help(Some(name)) => help::on(&name).ok_or_else(|| no_help(&name)),
             Command::Nothing | Command::Quit | Command::Replay { .. } => Ok(String::new()),
         }
     }
@@ -89,24 +96,11 @@ impl Desk {
             }
         };
         let text = files::profile(file)?;
-        let armed = unit.arm(&text).map_err(|refused| not_armed(file, &text, refused.why))?;
-        Ok(self.begin(Sitting::new(armed, &text)))
-    }
-
-    /// Begins a day, and says with what.
-    fn begin(&mut self, sitting: Sitting) -> String {
-        let profile = &sitting.profile;
-        let (rules, roots) = (sitting.unit.rule_count() as usize, sitting.unit.root_count() as usize);
-        let names = if profile.roots.is_empty() { String::new() } else { format!(": {}", listed(&profile.roots)) };
-        let text = format!(
-            "armed for firm {}, {} and {}{names}  [armed {} {rules} {roots}]",
-            profile.firm,
-            counted(rules, "rule"),
-            counted(roots, "root"),
-            profile.firm
-        );
+        let armed = unit.arm(&text).map_err(|refused| check::not_armed(file, &text, refused.why))?;
+        let sitting = Sitting::new(armed, &text);
+        let words = check::armed(&sitting.profile, RULES_SHOWN);
         self.bench = Bench::Armed(Box::new(sitting));
-        text
+        Ok(words)
     }
 
     /// Passes the event that the words ask for.
@@ -212,16 +206,7 @@ impl Sums {
     }
 }
 
-/// Why a profile was not accepted, with the line itself.
-fn not_armed(file: &str, text: &[u8], why: ArmRefusal) -> String {
-    let line = why.line.unwrap_or(0);
-    let numbers = format!("[refused {} {line}]", why.refusal.number());
-    let shown = why.line.and_then(|line| text.split(|byte| *byte == b'\n').nth(line as usize - 1));
-    match shown {
-        Some(bytes) => {
-            let content: String = crate::lines::plain(&String::from_utf8_lossy(bytes)).chars().take(100).collect();
-            format!("{why}\n  {line} | {content}\nnot armed; mend line {line} of {file} and type arm {file}  {numbers}")
-        }
-        None => format!("{why}\nnot armed; put 1 to 65,536 bytes of rules into {file} and type arm {file}  {numbers}"),
-    }
+fn no_help(name: &str) -> String {
+    let names: Vec<&str> = help::names().collect();
+    format!("there is no help on '{}'; type help, or help and one of {}", command::shortened(name), names.join(", "))
 }

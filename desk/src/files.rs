@@ -5,7 +5,7 @@ use std::fs::File;
 use std::io::{self, BufWriter, Read, Write};
 
 /// A profile is read one byte past the longest, so that the library sees that it is too long.
-const PROFILE_BYTES: u64 = 65_537;
+pub const PROFILE_BYTES: u64 = 65_537;
 /// A day of records, four million of them.
 const DAY_BYTES: u64 = 4_000_000 * RECORD_SIZE as u64;
 

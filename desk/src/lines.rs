@@ -15,32 +15,61 @@ pub enum Manner {
     Shown,
 }
 
-/// Carries out every line to the end of the input, or to `quit`; answers how many could not be carried out.
-pub fn run(input: &mut dyn BufRead, out: &mut dyn Write, manner: Manner) -> io::Result<usize> {
-    let mut desk = Desk::default();
-    let mut not_done = 0;
-    loop {
-        if manner == Manner::Asked {
-            write!(out, "> ")?;
+/// Where lines come from.
+pub trait Lines {
+    /// The next line without its end, asked for by a prompt; nothing at the end of the input.
+    fn next(&mut self, prompt: &str, desk: &Desk, out: &mut dyn Write) -> io::Result<Option<String>>;
+}
+
+/// Lines from a file, a pipe, or a terminal that edits them itself.
+struct FromInput<'a> {
+    input: &'a mut dyn BufRead,
+    manner: Manner,
+}
+
+impl Lines for FromInput<'_> {
+    fn next(&mut self, prompt: &str, _: &Desk, out: &mut dyn Write) -> io::Result<Option<String>> {
+        if self.manner == Manner::Asked {
+            write!(out, "{prompt}")?;
             out.flush()?;
         }
         let mut bytes = Vec::new();
-        if input.take(LONGEST).read_until(b'\n', &mut bytes)? == 0 {
-            if manner == Manner::Asked {
+        if self.input.take(LONGEST).read_until(b'\n', &mut bytes)? == 0 {
+            if self.manner == Manner::Asked {
                 writeln!(out)?;
             }
-            return Ok(not_done);
+            return Ok(None);
         }
         let line = plain(String::from_utf8_lossy(&bytes).trim_end_matches(['\n', '\r']));
-        if manner == Manner::Shown {
-            writeln!(out, "{}", format!("> {line}").trim_end())?;
+        if self.manner == Manner::Shown {
+            writeln!(out, "{}", format!("{prompt}{line}").trim_end())?;
         }
-        match desk.line(&line, out)? {
+        Ok(Some(line))
+    }
+}
+
+/// Carries out every line to the end of the input, or to `quit`; answers how many could not be carried out.
+pub fn run(input: &mut dyn BufRead, out: &mut dyn Write, manner: Manner) -> io::Result<usize> {
+    talk(&mut FromInput { input, manner }, out)
+}
+
+/// The same for lines that come from elsewhere.
+pub fn talk(lines: &mut dyn Lines, out: &mut dyn Write) -> io::Result<usize> {
+    let mut desk = Desk::default();
+    let mut not_done = 0;
+    while let Some(line) = lines.next("> ", &desk, out)? {
+        match desk.line(&plain(&line), out)? {
             After::Done => {}
             After::NotDone => not_done += 1,
-            After::End => return Ok(not_done),
+            After::End => break,
         }
     }
+    Ok(not_done)
+}
+
+/// A dialogue at a terminal that edits its lines itself.
+pub fn by_the_terminal(out: &mut dyn Write) -> io::Result<usize> {
+    run(&mut io::stdin().lock(), out, Manner::Asked)
 }
 
 /// A text without characters that could move a terminal's cursor.

@@ -184,7 +184,8 @@ fn rule_of(number: usize, kind: &str, limit: &str, window: &str, scope: Scope) -
     }
 }
 
-fn unit_of(call_put: &str, month: &str) -> UnitOfRoot {
+/// The unit that the letters of a line name.
+pub fn unit_of(call_put: &str, month: &str) -> UnitOfRoot {
     match (call_put, month) {
         ("C", "F") => UnitOfRoot::CallsFront,
         ("C", _) => UnitOfRoot::CallsTrailing,

@@ -2,38 +2,31 @@
 
 use crate::answer::why_locked;
 use crate::asked::{listed, Shown};
-use crate::profile::{Rule, Scope};
+use crate::columns::{self, Row};
+use crate::profile::Rule;
 use crate::sitting::Sitting;
 use crate::words;
-use mbrumzheg::{Marks, Refusal, Root, Time};
+use mbrumzheg::{Marks, Name, Refusal, Root, Time};
 
-/// How many columns stand before the bar.
-const COLUMNS: usize = 7;
-const HEADS: [&str; COLUMNS] = ["rule", "type", "of", "limit", "used", "left", "[Remaining]"];
-const BAR: u64 = 20;
+pub use crate::columns::share;
 
-/// The rules with what is used and left at a time.
+/// The rules with what is used and left at a time, and below them what of it is locked.
 pub fn rules(sitting: &Sitting, time: Time, shown: Shown) -> Result<String, Refusal> {
     let mut rows = Vec::new();
     for rule in sitting.profile.rules.iter().filter(|rule| shown.has(rule)) {
-        let left = sitting.unit.remaining(time, rule.number as u64)?;
-        rows.push((cells(sitting, rule, left), tail(sitting, rule, left)));
+        rows.push(row(sitting, rule, sitting.unit.remaining(time, rule.number as u64)?));
     }
     if rows.is_empty() {
         return Ok("no rule of the profile is for that".to_string());
     }
-    let width = |column: usize| rows.iter().map(|(cells, _)| cells[column].chars().count()).chain([HEADS[column].len()]).max().unwrap_or(0);
-    let widths: [usize; COLUMNS] = std::array::from_fn(width);
-    let mut lines = vec![format!("{}  at {}", line(&HEADS.map(str::to_string), &widths), words::time(time))];
-    for (cells, tail) in &rows {
-        lines.push(format!("{}  {tail}", line(cells, &widths)));
-    }
+    let mut lines = columns::table(&rows, &format!("at {}", words::time(time)));
+    lines.extend(locks(sitting, shown));
     Ok(lines.join("\n"))
 }
 
-fn cells(sitting: &Sitting, rule: &Rule, left: u64) -> [String; COLUMNS] {
+fn row(sitting: &Sitting, rule: &Rule, left: u64) -> Row {
     let used = rule.limit.saturating_sub(left);
-    [
+    let cells = [
         rule.number.to_string(),
         rule.kind.clone(),
         sitting.profile.scope_words(rule.scope),
@@ -41,48 +34,20 @@ fn cells(sitting: &Sitting, rule: &Rule, left: u64) -> [String; COLUMNS] {
         rule.amount(used).to_string(),
         rule.amount(left).to_string(),
         format!("[{left}]"),
-    ]
+    ];
+    Row { cells, used: (used, rule.limit) }
 }
 
-/// Names to the left of their column, numbers to the right.
-fn line(cells: &[String; COLUMNS], widths: &[usize; COLUMNS]) -> String {
-    let [number, kind, scope, limit, used, left, remaining] = cells;
-    let [w0, w1, w2, w3, w4, w5, w6] = *widths;
-    format!("{number:>w0$}  {kind:<w1$}  {scope:<w2$}  {limit:<w3$}  {used:>w4$}  {left:>w5$}  {remaining:>w6$}")
-}
-
-fn tail(sitting: &Sitting, rule: &Rule, left: u64) -> String {
-    let used = rule.limit.saturating_sub(left);
-    let bar = format!("{} {:>3}%", bar(used, rule.limit), share(used, rule.limit, 100));
-    let marks = marks_of(sitting, rule.scope);
-    if marks.locked() {
-        format!("{bar}  {}", why_locked(marks))
-    } else {
-        bar
-    }
-}
-
-fn marks_of(sitting: &Sitting, scope: Scope) -> Marks {
-    match scope {
-        Scope::Firm => sitting.unit.firm_marks(),
-        Scope::Root(number) | Scope::Unit(number, _) => {
-            Root::new(number as u64).map(|root| sitting.unit.root_marks(root)).unwrap_or_default()
-        }
-    }
-}
-
-/// A bar whose ends are honest: full only at the limit, empty only at nothing.
-fn bar(used: u64, limit: u64) -> String {
-    let full = match share(used, limit, BAR) {
-        0 if used > 0 => 1,
-        n => n.min(BAR),
-    } as usize;
-    format!("[{}{}]", "#".repeat(full), ".".repeat(BAR as usize - full))
-}
-
-/// How many of so many parts are used, rounded down.
-pub fn share(used: u64, limit: u64, parts: u64) -> u64 {
-    (u128::from(used) * u128::from(parts) / u128::from(limit.max(1))) as u64
+/// A line for each level among those shown that is locked.
+fn locks(sitting: &Sitting, shown: Shown) -> Vec<String> {
+    let firm = (format!("firm {}", sitting.profile.firm), sitting.unit.firm_marks(), shown == Shown::Firm);
+    let root = |(root, name): (Root, Name)| {
+        let own = shown == Shown::Root(root.number() as usize);
+        (format!("root {name}"), sitting.unit.root_marks(root), own)
+    };
+    let levels = std::iter::once(firm).chain(sitting.unit.roots().map(root));
+    let locked = levels.filter(|(_, marks, own)| marks.locked() && (*own || shown == Shown::All));
+    locked.map(|(name, marks, _)| format!("{name} is {}", why_locked(marks))).collect()
 }
 
 /// The clock, the firm and the roots, with Status's numbers.

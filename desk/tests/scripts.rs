@@ -107,6 +107,48 @@ fn the_dialogue_in_the_readme_is_true() {
     fs::remove_dir_all(place).expect("removed");
 }
 
+fn ended_with(place: &Path, words: &[&str], input: &str) -> (Option<i32>, String, String) {
+    let mut child =
+        desk(place).args(words).stdin(Stdio::piped()).stdout(Stdio::piped()).stderr(Stdio::piped()).spawn().expect("the desk runs");
+    // a desk that ends without reading its input has closed the pipe, and that is no fault
+    let _ = child.stdin.take().map(|mut pipe| std::io::Write::write_all(&mut pipe, input.as_bytes()));
+    let output = child.wait_with_output().expect("ended");
+    (output.status.code(), text(&output.stdout), text(&output.stderr))
+}
+
+#[test]
+fn calls_end_with_0_1_or_2() {
+    let place = workplace("calls");
+    let calls: [(&[&str], &str, i32); 18] = [
+        (&["--version"], "", 0),
+        (&["--help"], "", 0),
+        (&["help", "offer"], "", 0),
+        (&["help", "nothing"], "", 2),
+        (&["check", "profile"], "", 0),
+        (&["check", "faulty-profile"], "", 1),
+        (&["check", "no-such-file"], "", 2),
+        (&["check", "-"], "ABCD,abs_vol,XYZ,5\n", 0),
+        (&["check", "-"], "ABCD,abs_vol,XYZ,0\n", 1),
+        (&["check"], "", 2),
+        (&["check", "profile", "profile"], "", 2),
+        (&["-"], "arm profile\n", 0),
+        (&["-"], "arm faulty-profile\n", 1),
+        (&[], "arm faulty-profile\nstatus\n", 1),
+        (&["no-such-script"], "", 2),
+        (&["--no-such-option"], "", 2),
+        (&["report", "profile"], "", 2),
+        (&["example.desk", "more"], "", 2),
+    ];
+    for (words, input, wanted) in calls {
+        let (code, out, error) = ended_with(&place, words, input);
+        assert_eq!(code, Some(wanted), "desk {words:?}: {out}{error}");
+        assert_eq!(wanted == 2, !error.is_empty(), "desk {words:?}: {error}");
+        assert!(wanted != 2 || out.is_empty(), "desk {words:?}: {out}");
+        assert!(!out.contains('\x1b'), "no colour where there is no terminal");
+    }
+    fs::remove_dir_all(place).expect("removed");
+}
+
 #[test]
 fn the_page_of_recorded_events_can_be_had_in_one_call() {
     let place = workplace("page");
@@ -115,7 +157,7 @@ fn the_page_of_recorded_events_can_be_had_in_one_call() {
     assert!(output.status.success());
     assert!(fs::read_to_string(place.join("page.html")).expect("a page").contains("<h1>Risk day of firm ABCD</h1>"));
     let output = desk(&place).args(["report", "example-profile"]).output().expect("the desk runs");
-    assert!(!output.status.success() && text(&output.stderr).starts_with("usage: desk"));
+    assert!(!output.status.success() && text(&output.stderr).contains("usage: desk"));
     fs::remove_dir_all(place).expect("removed");
 }
 

@@ -1,0 +1,126 @@
+//! The program: its arguments, and what it ends with.
+
+use crate::check;
+use crate::files;
+use crate::help;
+use crate::lines::{run, Manner};
+use crate::paint;
+use std::io::{self, BufReader, IsTerminal, Read, Write};
+use std::process::ExitCode;
+
+/// The library's version, with its line's end.
+const VERSION: &str = include_str!("../../VERSION");
+
+/// How the program is called.
+pub const USAGE: &str = "\
+usage: desk                    lines from the terminal or a pipe
+       desk SCRIPT             lines from a file; - is the standard input
+       desk check PROFILE      what a profile means, or what is wrong with it
+       desk report PROFILE RECORDS PAGE [from TIME to TIME]
+                               a page (HTML) on a recorded day or a part of it
+       desk help [COMMAND]     what can be typed
+       desk --version
+";
+
+/// A dialogue with a person at a terminal, for which there is more than one way.
+pub type Dialogue = fn(&mut dyn Write) -> io::Result<usize>;
+
+/// What the program ends with: 0, 1 where something was refused or could not be carried out, 2 for a call that it does not understand.
+#[derive(Clone, Copy, Debug, PartialEq, Eq)]
+pub enum End {
+    /// Everything was done.
+    Done,
+    /// Something was not.
+    NotDone,
+    /// The call is wrong.
+    WrongUse,
+}
+
+/// Runs the program on the arguments that it was called with.
+pub fn main(dialogue: Dialogue) -> ExitCode {
+    let words: Vec<String> = std::env::args_os().skip(1).map(|word| word.to_string_lossy().into_owned()).collect();
+    let words: Vec<&str> = words.iter().map(String::as_str).collect();
+    match call(&words, dialogue) {
+        Ok(End::Done) => ExitCode::SUCCESS,
+        Ok(End::NotDone) => ExitCode::FAILURE,
+        Ok(End::WrongUse) => ExitCode::from(2),
+        // whoever read the answers has gone away, and needs no word of it
+        Err(error) if error.kind() == io::ErrorKind::BrokenPipe => ExitCode::FAILURE,
+        Err(error) => {
+            // where even this cannot be written, the exit code says it
+            let _ = writeln!(io::stderr(), "the desk cannot go on: {error}");
+            ExitCode::FAILURE
+        }
+    }
+}
+
+fn call(words: &[&str], dialogue: Dialogue) -> io::Result<End> {
+    let out = &mut paint::painted(io::stdout());
+    match words {
+        [] => from_standard_input(out, dialogue),
+        ["-V" | "--version"] => write!(out, "desk {VERSION}").map(|()| End::Done),
+        ["-h" | "--help" | "help"] => write!(out, "{USAGE}\n{}\n", help::list()).map(|()| End::Done),
+        ["help", name] => match help::on(name) {
+            Some(text) => writeln!(out, "{text}").map(|()| End::Done),
+            None => wrong(&format!("there is no help on '{name}'")),
+        },
+        ["-"] => run(&mut io::stdin().lock(), out, Manner::Shown).map(end),
+        ["check", name] => checked(name, out),
+        ["report", profile, records, page] => report(profile, records, page, out),
+        ["report", profile, records, page, "from", from, "to", to] => report(profile, records, &format!("{page} from {from} to {to}"), out),
+        [name @ ("check" | "report"), ..] => wrong(&format!("{name} takes other words after it")),
+        [option, ..] if option.starts_with('-') => wrong(&format!("'{option}' is no option")),
+        [script] => from_file(script, out),
+        _ => wrong("too many words"),
+    }
+}
+
+fn wrong(why: &str) -> io::Result<End> {
+    write!(io::stderr(), "desk: {why}\n{USAGE}").map(|()| End::WrongUse)
+}
+
+fn end(not_done: usize) -> End {
+    if not_done == 0 {
+        End::Done
+    } else {
+        End::NotDone
+    }
+}
+
+fn from_standard_input(out: &mut dyn Write, dialogue: Dialogue) -> io::Result<End> {
+    let input = io::stdin();
+    if !input.is_terminal() {
+        return run(&mut input.lock(), out, Manner::Shown).map(end);
+    }
+    writeln!(out, "The desk of the risk unit; it is not armed. Type help for the commands.")?;
+    dialogue(out).map(|_| End::Done)
+}
+
+fn from_file(name: &str, out: &mut dyn Write) -> io::Result<End> {
+    match std::fs::File::open(name) {
+        Ok(file) => run(&mut BufReader::new(file), out, Manner::Shown).map(end),
+        Err(error) => wrong(&format!("'{name}' is no command and no file that can be read ({error})")),
+    }
+}
+
+fn checked(name: &str, out: &mut dyn Write) -> io::Result<End> {
+    let text = match name {
+        "-" => {
+            let mut bytes = Vec::new();
+            io::stdin().lock().take(files::PROFILE_BYTES).read_to_end(&mut bytes)?;
+            Ok(bytes)
+        }
+        _ => files::profile(name),
+    };
+    let name = if name == "-" { "the profile" } else { name };
+    match text.map(|text| check::check(name, &text)) {
+        Ok(Ok(words)) => writeln!(out, "{words}").map(|()| End::Done),
+        Ok(Err(words)) => writeln!(out, "{words}").map(|()| End::NotDone),
+        Err(advice) => writeln!(io::stderr(), "desk: {advice}").map(|()| End::WrongUse),
+    }
+}
+
+fn report(profile: &str, records: &str, page: &str, out: &mut dyn Write) -> io::Result<End> {
+    let script = format!("arm {profile}\nreplay {records} quiet\nreport {page}\n");
+    run(&mut script.as_bytes(), out, Manner::Shown).map(end)
+}
