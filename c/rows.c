@@ -1,4 +1,4 @@
-/* The scope's example from C, by include/mbrumzheg.h alone: ends with 0 if every answer is as it should be, else with the line that was not. */
+/* The example of c/example.c by rows, and a record: ends with 0 if every answer is as it should be, else with the line that was not. */
 #include "mbrumzheg.h"
 
 static uint64_t row[5];

@@ -1,0 +1,115 @@
+/* Tries every call of mbrumzheg.h by the functions that answer a struct, and by its row: ends with 0 if each answer is as it should be, else with 1
+ * and the line that was not. */
+#include <stdio.h>
+#include <stdlib.h>
+#include <string.h>
+
+#include "mbrumzheg.h"
+
+static void expect(bool holds, int line) {
+    if (holds) return;
+    fprintf(stderr, "c/answers.c:%d is not so\n", line);
+    exit(1);
+}
+#define EXPECT(test) expect((test), __LINE__)
+
+static uint64_t memory[MBRUMZHEG_SIZE];
+
+/* An order, a lockout or an offer was answered so. */
+static bool is(struct mbrumzheg_judged judged, int refusal, int verdict, uint32_t grant, bool root_trip, bool firm_trip) {
+    return (int)judged.refusal == refusal && (int)judged.verdict == verdict && judged.grant == grant && judged.root_trip == root_trip &&
+           judged.firm_trip == firm_trip;
+}
+
+static struct mbrumzheg_judged offer(uint64_t time, uint64_t contracts) {
+    return mbrumzheg_try_offer(memory, MBRUMZHEG_SIZE, time, 0, MBRUMZHEG_CALLS_FRONT, 70000, contracts);
+}
+
+static struct mbrumzheg_armed arm(const char *profile) { return mbrumzheg_try_arm(memory, MBRUMZHEG_SIZE, profile, strlen(profile)); }
+
+static void arms(void) {
+    char name[9];
+    struct mbrumzheg_armed armed = arm("ABCD,abs_vol,XYZ,1000\nABCD,abs_vol,XYZ,0\n");
+    EXPECT(armed.refusal == MBRUMZHEG_OUT_OF_RANGE && armed.line == 2 && armed.firm == 0 && armed.rules == 0 && armed.roots == 0);
+    armed = arm("ABCD,abs_vol,XYZ,1000,0\nABCD,abs_vol,Q,5\n");
+    EXPECT(armed.refusal == MBRUMZHEG_ACCEPTED && armed.line == 0 && armed.rules == 2 && armed.roots == 2);
+    EXPECT(mbrumzheg_name_text(armed.firm, name) == 4 && strcmp(name, "ABCD") == 0);
+    EXPECT(arm("ABCD,abs_vol,XYZ,1000").refusal == MBRUMZHEG_ARMED_ALREADY);
+}
+
+static void cuts_and_locks(void) {
+    struct mbrumzheg_remains remains;
+    struct mbrumzheg_standing standing;
+    EXPECT(is(offer(0, 950), 0, MBRUMZHEG_FREE, 950, false, false));
+    remains = mbrumzheg_try_remaining(memory, MBRUMZHEG_SIZE, 0, 0);
+    EXPECT(remains.refusal == MBRUMZHEG_ACCEPTED && remains.amount == 50);
+    EXPECT(mbrumzheg_try_remaining(memory, MBRUMZHEG_SIZE, 0, 2).refusal == MBRUMZHEG_UNKNOWN);
+    EXPECT(is(offer(10, 200), 0, MBRUMZHEG_FREE, 50, true, false));
+    EXPECT(is(mbrumzheg_try_order(memory, MBRUMZHEG_SIZE, 20, 0, MBRUMZHEG_RESET_NONE), 0, MBRUMZHEG_ROOT_LOCKED, 0, false, false));
+    EXPECT(is(mbrumzheg_try_lockout(memory, MBRUMZHEG_SIZE, 20, MBRUMZHEG_LEVEL_ROOT, 1), 0, MBRUMZHEG_FREE, 0, false, false));
+    standing = mbrumzheg_try_status(memory, MBRUMZHEG_SIZE);
+    EXPECT(standing.refusal == MBRUMZHEG_ACCEPTED && standing.tripped == 1 && standing.locked_by_user == 1 && standing.locked == 2);
+    EXPECT(standing.lowest_locked == 0);
+    EXPECT(is(offer(19, 1), MBRUMZHEG_BAD_TIME, 0, 0, false, false));
+    EXPECT(is(mbrumzheg_try_lockout(memory, MBRUMZHEG_SIZE, 20, MBRUMZHEG_LEVEL_FIRM, 1), MBRUMZHEG_UNKNOWN, 0, 0, false, false));
+}
+
+static void words(void) {
+    struct mbrumzheg_wording wording = mbrumzheg_try_text(MBRUMZHEG_ROOT_LOCKED);
+    EXPECT(wording.refusal == MBRUMZHEG_ACCEPTED && wording.length == 19 && strcmp(wording.text, "s: RiskMgmtSymLevel") == 0);
+    wording = mbrumzheg_try_text(MBRUMZHEG_FIRM_LOCKED);
+    EXPECT(wording.length == 20 && strcmp(wording.text, "f: RiskMgmtFirmLevel") == 0);
+    wording = mbrumzheg_try_text(MBRUMZHEG_FREE);
+    EXPECT(wording.refusal == MBRUMZHEG_UNKNOWN && wording.length == 0 && wording.text[0] == 0);
+    EXPECT(strcmp(mbrumzheg_refusal_text(MBRUMZHEG_OTHER_FIRM), "the line names another firm than the first line does") == 0);
+    EXPECT(strcmp(mbrumzheg_refusal_text(1000), "this is no refusal of this library") == 0);
+}
+
+static void records(void) {
+    static const uint8_t bytes[MBRUMZHEG_RECORD_BYTES] = {0x40, 0, 0, 0x50, 0, 1, 0x11, 0x70, 0, 0x0C, 0x80, 0};
+    const struct mbrumzheg_reading reading = mbrumzheg_try_read_record(bytes, sizeof bytes);
+    struct mbrumzheg_event event = reading.event;
+    struct mbrumzheg_record record = mbrumzheg_try_write_record(event);
+    EXPECT(reading.refusal == MBRUMZHEG_ACCEPTED && event.kind == MBRUMZHEG_KIND_OFFER && event.time == 10 && event.contracts == 200);
+    EXPECT(record.refusal == MBRUMZHEG_ACCEPTED && memcmp(record.bytes, bytes, sizeof bytes) == 0);
+    EXPECT(mbrumzheg_try_read_record(bytes, 11).refusal == MBRUMZHEG_FAULTY_RECORD);
+    event.reset = MBRUMZHEG_RESET_SYMBOL;
+    EXPECT(mbrumzheg_try_write_record(event).refusal == MBRUMZHEG_FAULTY_RECORD);
+}
+
+/* Each kind of event comes to its call. */
+static void events(void) {
+    struct mbrumzheg_event order = {MBRUMZHEG_KIND_ORDER, 30, 0, 0, 0, 0, MBRUMZHEG_RESET_SYMBOL, 0};
+    struct mbrumzheg_event fill = {MBRUMZHEG_KIND_OFFER, 40, 0, MBRUMZHEG_PUTS_FRONT, 30000, 5, 0, 0};
+    struct mbrumzheg_event lockout = {MBRUMZHEG_KIND_LOCKOUT, 50, 0, 0, 0, 0, 0, MBRUMZHEG_LEVEL_FIRM};
+    struct mbrumzheg_event none = {3, 60, 0, 0, 0, 0, 0, 0};
+    EXPECT(is(mbrumzheg_try_event(memory, MBRUMZHEG_SIZE, order), 0, MBRUMZHEG_FREE, 0, false, false));
+    EXPECT(is(mbrumzheg_try_event(memory, MBRUMZHEG_SIZE, fill), 0, MBRUMZHEG_FREE, 5, false, false));
+    EXPECT(is(mbrumzheg_try_event(memory, MBRUMZHEG_SIZE, lockout), 0, MBRUMZHEG_FREE, 0, false, false));
+    EXPECT(is(offer(60, 1), 0, MBRUMZHEG_FIRM_LOCKED, 0, false, false));
+    EXPECT(is(mbrumzheg_try_event(memory, MBRUMZHEG_SIZE, none), MBRUMZHEG_FAULTY_RECORD, 0, 0, false, false));
+}
+
+/* The places in a row are those that the structs have. */
+static void rows(void) {
+    uint64_t row[MBRUMZHEG_ROW], event[MBRUMZHEG_EVENT_ROW];
+    static const uint8_t bytes[MBRUMZHEG_RECORD_BYTES] = {0x40, 0, 0, 0x50, 0, 1, 0x11, 0x70, 0, 0x0C, 0x80, 0};
+    mbrumzheg_read_record(bytes, sizeof bytes, event);
+    EXPECT(event[MBRUMZHEG_ROW_REFUSAL] == 0 && event[MBRUMZHEG_ROW_KIND] == 1 && event[MBRUMZHEG_ROW_TIME] == 10);
+    EXPECT(event[MBRUMZHEG_ROW_PREMIUM] == 70000 && event[MBRUMZHEG_ROW_CONTRACTS] == 200 && event[MBRUMZHEG_ROW_LEVEL] == 0);
+    mbrumzheg_status(memory, MBRUMZHEG_SIZE, row);
+    EXPECT(row[MBRUMZHEG_ROW_REFUSAL] == 0 && row[MBRUMZHEG_ROW_LOCKED_BY_USER] == 1 && row[MBRUMZHEG_ROW_LOWEST_LOCKED] == 1);
+}
+
+int main(void) {
+    EXPECT(is(offer(0, 1), MBRUMZHEG_NOT_ARMED, 0, 0, false, false));
+    arms();
+    cuts_and_locks();
+    words();
+    records();
+    events();
+    rows();
+    EXPECT(mbrumzheg_try_clear(memory, MBRUMZHEG_SIZE - 1) == MBRUMZHEG_NO_ROOM && memory[0] == 1);
+    EXPECT(mbrumzheg_try_clear(memory, MBRUMZHEG_SIZE) == MBRUMZHEG_ACCEPTED && memory[0] == 0);
+    return 0;
+}

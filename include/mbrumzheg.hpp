@@ -1,0 +1,192 @@
+// Mbrumzheg for C++17 and later: a risk unit as a class that can be moved and not copied, over the calls of mbrumzheg.h.
+//
+// A Unit exists only once a profile has armed it, or saved memory has passed the library's own check, so no order can pass a unit without rules.
+// A unit that was moved from refuses every call with NoRoom. A call's answer is a Result, which is either the answer or the refusal; to take the
+// answer of a refused call ends the program. Nothing here throws; making a Unit takes memory for its state, and no other call takes any.
+#ifndef MBRUMZHEG_HPP
+#define MBRUMZHEG_HPP
+
+#include <cstddef>
+#include <cstdint>
+#include <string_view>
+#include <utility>
+#include <variant>
+#include <vector>
+
+#include "mbrumzheg_values.hpp"
+
+namespace mbrumzheg {
+
+// The text of a rejection, for verdicts that do not pass.
+class Text {
+public:
+    explicit Text(Verdict verdict) noexcept : wording_(mbrumzheg_try_text(static_cast<std::uint64_t>(verdict))) {}
+    std::string_view view() const noexcept { return {wording_.text, wording_.length}; }
+
+private:
+    mbrumzheg_wording wording_;
+};
+
+namespace detail {
+
+template <class T>
+Result<T> refused(enum mbrumzheg_refusal refusal, std::uint32_t line = 0) { return {static_cast<Refusal>(refusal), line}; }
+
+inline Result<Answer> answer(const mbrumzheg_judged& judged) {
+    if (judged.refusal != MBRUMZHEG_ACCEPTED) return refused<Answer>(judged.refusal);
+    return Answer{static_cast<Verdict>(judged.verdict), judged.grant, judged.root_trip, judged.firm_trip};
+}
+
+inline Result<Verdict> verdict(const mbrumzheg_judged& judged) {
+    if (judged.refusal != MBRUMZHEG_ACCEPTED) return refused<Verdict>(judged.refusal);
+    return static_cast<Verdict>(judged.verdict);
+}
+
+// An event's numbers, as a record has them.
+inline mbrumzheg_event numbers(const Event& event) noexcept {
+    struct {
+        mbrumzheg_event operator()(const Order& o) const {
+            return {MBRUMZHEG_KIND_ORDER, o.time.ms, o.root.number, 0, 0, 0, static_cast<std::uint64_t>(o.reset), 0};
+        }
+        mbrumzheg_event operator()(const Offer& o) const {
+            const auto unit = static_cast<std::uint64_t>(o.unit);
+            return {MBRUMZHEG_KIND_OFFER, o.time.ms, o.root.number, unit, o.premium.ten_thousandths, o.contracts.count, 0, 0};
+        }
+        mbrumzheg_event operator()(const RootLockout& l) const {
+            return {MBRUMZHEG_KIND_LOCKOUT, l.time.ms, l.root.number, 0, 0, 0, 0, MBRUMZHEG_LEVEL_ROOT};
+        }
+        mbrumzheg_event operator()(const FirmLockout& l) const {
+            return {MBRUMZHEG_KIND_LOCKOUT, l.time.ms, 0, 0, 0, 0, 0, MBRUMZHEG_LEVEL_FIRM};
+        }
+    } of;
+    return std::visit(of, event);
+}
+
+}  // namespace detail
+
+// Lent memory that one unit stands on; whoever lends it keeps it alive, and writes nothing there meanwhile.
+class Lent {
+public:
+    Lent(std::uint64_t* numbers, std::size_t size) noexcept : numbers_(numbers), size_(size) {}
+    Lent(Lent&& other) noexcept : numbers_(std::exchange(other.numbers_, nullptr)), size_(std::exchange(other.size_, 0)) {}
+    Lent& operator=(Lent&& other) noexcept {
+        numbers_ = std::exchange(other.numbers_, nullptr);
+        size_ = std::exchange(other.size_, 0);
+        return *this;
+    }
+    std::uint64_t* data() noexcept { return numbers_; }
+    const std::uint64_t* data() const noexcept { return numbers_; }
+    std::size_t size() const noexcept { return size_; }
+
+private:
+    std::uint64_t* numbers_;
+    std::size_t size_;
+};
+
+// An armed risk unit on memory of its own (std::vector) or on lent memory (Lent).
+template <class Memory>
+class UnitOn {
+public:
+    UnitOn(UnitOn&&) noexcept = default;
+    UnitOn& operator=(UnitOn&&) noexcept = default;
+    UnitOn(const UnitOn&) = delete;
+    UnitOn& operator=(const UnitOn&) = delete;
+
+    // Arms memory from a profile; ArmedAlready unless the memory is zeros or was cleared.
+    static Result<UnitOn> arm(Memory memory, std::string_view profile) {
+        UnitOn unit(std::move(memory));
+        const char* text = profile.data() == nullptr ? "" : profile.data();
+        const auto armed = mbrumzheg_try_arm(unit.numbers(), unit.size(), text, profile.size());
+        if (armed.refusal != MBRUMZHEG_ACCEPTED) return detail::refused<UnitOn>(armed.refusal, armed.line);
+        return unit;
+    }
+
+    // Memory with the state in it set to zeros, whatever it held; NoRoom alone if it is short.
+    static Result<Memory> cleared(Memory memory) {
+        UnitOn unit(std::move(memory));
+        const auto refusal = mbrumzheg_try_clear(unit.numbers(), unit.size());
+        if (refusal != MBRUMZHEG_ACCEPTED) return detail::refused<Memory>(refusal);
+        return std::move(unit.memory_);
+    }
+
+    // Takes memory that holds a state, as memory() had it, once it has passed the library's check of the whole state.
+    static Result<UnitOn> adopt(Memory memory) {
+        UnitOn unit(std::move(memory));
+        const auto standing = mbrumzheg_try_status(unit.numbers(), unit.size());
+        if (standing.refusal != MBRUMZHEG_ACCEPTED) return detail::refused<UnitOn>(standing.refusal);
+        return unit;
+    }
+
+    Result<Verdict> order(const Order& o) {
+        return detail::verdict(mbrumzheg_try_order(numbers(), size(), o.time.ms, o.root.number, static_cast<std::uint64_t>(o.reset)));
+    }
+    Result<Verdict> lock(const RootLockout& l) {
+        return detail::verdict(mbrumzheg_try_lockout(numbers(), size(), l.time.ms, MBRUMZHEG_LEVEL_ROOT, l.root.number));
+    }
+    Result<Verdict> lock(const FirmLockout& l) {
+        return detail::verdict(mbrumzheg_try_lockout(numbers(), size(), l.time.ms, MBRUMZHEG_LEVEL_FIRM, 0));
+    }
+    // An offered fill, cut to what the rules allow.
+    Result<Answer> offer(const Offer& o) { return answer(o); }
+    // Any event, as its record has it.
+    Result<Answer> answer(const Event& event) { return detail::answer(mbrumzheg_try_event(numbers(), size(), detail::numbers(event))); }
+
+    // What remains of the limit of a rule, numbered from 0 by line, at a time; the clock does not move.
+    Result<std::uint64_t> remaining(Time time, std::uint64_t rule) const {
+        const auto remains = mbrumzheg_try_remaining(numbers(), size(), time.ms, rule);
+        if (remains.refusal != MBRUMZHEG_ACCEPTED) return detail::refused<std::uint64_t>(remains.refusal);
+        return remains.amount;
+    }
+    Result<Status> status() const {
+        const auto s = mbrumzheg_try_status(numbers(), size());
+        if (s.refusal != MBRUMZHEG_ACCEPTED) return detail::refused<Status>(s.refusal);
+        return Status{s.tripped, s.locked_by_user, s.locked, s.lowest_locked};
+    }
+
+    // The numbers that the state is kept in, to be saved and adopted again.
+    const Memory& memory() const& noexcept { return memory_; }
+    // Gives the memory back, state and all.
+    Memory memory() && noexcept { return std::move(memory_); }
+
+private:
+    explicit UnitOn(Memory memory) noexcept : memory_(std::move(memory)) {}
+    // What is lent to a call is never null, also where nothing is lent.
+    std::uint64_t* numbers() noexcept { return memory_.data() == nullptr ? &nothing_ : memory_.data(); }
+    const std::uint64_t* numbers() const noexcept { return memory_.data() == nullptr ? &nothing_ : memory_.data(); }
+    std::size_t size() const noexcept { return memory_.data() == nullptr ? 0 : memory_.size(); }
+
+    Memory memory_;
+    std::uint64_t nothing_ = 0;
+};
+
+// A unit on memory of its own, and one on lent memory.
+using Unit = UnitOn<std::vector<std::uint64_t>>;
+using LentUnit = UnitOn<Lent>;
+
+// A unit on memory of its own, armed from a profile.
+inline Result<Unit> arm(std::string_view profile) { return Unit::arm(std::vector<std::uint64_t>(MBRUMZHEG_SIZE), profile); }
+
+// The event of a record; FaultyRecord for any bytes that no event has.
+inline Result<Event> read_record(const Record& bytes) {
+    const auto reading = mbrumzheg_try_read_record(bytes.data(), bytes.size());
+    const auto& e = reading.event;
+    if (reading.refusal != MBRUMZHEG_ACCEPTED) return detail::refused<Event>(reading.refusal);
+    switch (e.kind) {
+    case MBRUMZHEG_KIND_ORDER: return Event{Order{{e.time}, {e.root}, static_cast<Reset>(e.reset)}};
+    case MBRUMZHEG_KIND_OFFER: return Event{Offer{{e.time}, {e.root}, static_cast<UnitOfRoot>(e.unit), {e.premium}, {e.contracts}}};
+    default: return e.level == MBRUMZHEG_LEVEL_ROOT ? Event{RootLockout{{e.time}, {e.root}}} : Event{FirmLockout{{e.time}}};
+    }
+}
+
+// The record of an event; FaultyRecord if one of its numbers is out of range.
+inline Result<Record> write_record(const Event& event) {
+    const auto written = mbrumzheg_try_write_record(detail::numbers(event));
+    if (written.refusal != MBRUMZHEG_ACCEPTED) return detail::refused<Record>(written.refusal);
+    Record record{};
+    for (std::size_t i = 0; i < record.size(); i++) record[i] = written.bytes[i];
+    return record;
+}
+
+}  // namespace mbrumzheg
+
+#endif

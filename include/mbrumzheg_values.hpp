@@ -1,0 +1,113 @@
+// The numbers of mbrumzheg.h by types of their own, and Result: what a call answered, or why it was refused. Included by mbrumzheg.hpp.
+#ifndef MBRUMZHEG_VALUES_HPP
+#define MBRUMZHEG_VALUES_HPP
+
+#include <array>
+#include <cstdint>
+#include <exception>
+#include <utility>
+#include <variant>
+
+#include "mbrumzheg.h"
+
+namespace mbrumzheg {
+
+// Refusals, by the numbers of enum mbrumzheg_refusal.
+enum class Refusal : std::uint64_t {
+    NoRoom = MBRUMZHEG_NO_ROOM,
+    Unsound = MBRUMZHEG_UNSOUND,
+    ArmedAlready = MBRUMZHEG_ARMED_ALREADY,
+    NotArmed = MBRUMZHEG_NOT_ARMED,
+    ProfileLength = MBRUMZHEG_PROFILE_LENGTH,
+    Malformed = MBRUMZHEG_MALFORMED,
+    OtherFirm = MBRUMZHEG_OTHER_FIRM,
+    OutOfRange = MBRUMZHEG_OUT_OF_RANGE,
+    LevelClash = MBRUMZHEG_LEVEL_CLASH,
+    UnitClash = MBRUMZHEG_UNIT_CLASH,
+    TooMany = MBRUMZHEG_TOO_MANY,
+    BadTime = MBRUMZHEG_BAD_TIME,
+    Unknown = MBRUMZHEG_UNKNOWN,
+    BadAmount = MBRUMZHEG_BAD_AMOUNT,
+    LogFull = MBRUMZHEG_LOG_FULL,
+    FaultyRecord = MBRUMZHEG_FAULTY_RECORD,
+};
+
+// What a refusal means: a sentence without its first capital and full stop.
+inline const char* sentence(Refusal refusal) noexcept { return mbrumzheg_refusal_text(static_cast<std::uint64_t>(refusal)); }
+
+enum class Verdict : std::uint64_t { Free = MBRUMZHEG_FREE, FirmLocked = MBRUMZHEG_FIRM_LOCKED, RootLocked = MBRUMZHEG_ROOT_LOCKED };
+
+// Whether an order or offer may pass.
+constexpr bool passes(Verdict verdict) noexcept { return verdict == Verdict::Free; }
+
+// What an order resets before it is judged.
+enum class Reset : std::uint64_t {
+    None = MBRUMZHEG_RESET_NONE,
+    Symbol = MBRUMZHEG_RESET_SYMBOL,
+    Firm = MBRUMZHEG_RESET_FIRM,
+    Both = MBRUMZHEG_RESET_BOTH,
+};
+
+enum class UnitOfRoot : std::uint64_t {
+    CallsFront = MBRUMZHEG_CALLS_FRONT,
+    CallsTrailing = MBRUMZHEG_CALLS_TRAILING,
+    PutsFront = MBRUMZHEG_PUTS_FRONT,
+    PutsTrailing = MBRUMZHEG_PUTS_TRAILING,
+};
+
+// Numbers by what they are; each is judged by the call, and mbrumzheg.h has the ranges.
+struct Time { std::uint64_t ms; };
+struct Root { std::uint64_t number; };
+struct Premium { std::uint64_t ten_thousandths; };
+struct Contracts { std::uint64_t count; };
+
+// The events of a day.
+struct Order { Time time; Root root; Reset reset; };
+struct Offer { Time time; Root root; UnitOfRoot unit; Premium premium; Contracts contracts; };
+struct RootLockout { Time time; Root root; };
+struct FirmLockout { Time time; };
+using Event = std::variant<Order, Offer, RootLockout, FirmLockout>;
+
+// What an event is answered; for orders and lockouts the grant is 0 and nothing trips.
+struct Answer { Verdict verdict; std::uint32_t grant; bool root_trip; bool firm_trip; };
+
+// How many roots are tripped, locked by the user, locked at all; the lowest locked one, MBRUMZHEG_NO_ROOT if none.
+struct Status { std::uint32_t tripped; std::uint32_t locked_by_user; std::uint32_t locked; std::uint32_t lowest_locked; };
+
+using Record = std::array<std::uint8_t, MBRUMZHEG_RECORD_BYTES>;
+
+// What a call answered, or why it was refused, for Arm with the first faulty line of the profile, from 1, or 0.
+template <class T>
+class [[nodiscard]] Result {
+public:
+    Result(T answer) : kept_(std::in_place_type<T>, std::move(answer)) {}
+    Result(Refusal refusal, std::uint32_t line = 0) noexcept : kept_(std::in_place_type<Refusal>, refusal), line_(line) {}
+
+    explicit operator bool() const noexcept { return std::holds_alternative<T>(kept_); }
+
+    // The answer; to ask for that of a refused call ends the program.
+    T& operator*() & noexcept { return *kept<T>(kept_); }
+    const T& operator*() const& noexcept { return *kept<T>(kept_); }
+    T&& operator*() && noexcept { return std::move(*kept<T>(kept_)); }
+    T* operator->() noexcept { return kept<T>(kept_); }
+    const T* operator->() const noexcept { return kept<T>(kept_); }
+
+    // The refusal; to ask for that of an accepted call ends the program.
+    Refusal refusal() const noexcept { return *kept<Refusal>(kept_); }
+    std::uint32_t line() const noexcept { return line_; }
+
+private:
+    template <class Which, class Kept>
+    static auto* kept(Kept& either) noexcept {
+        auto* found = std::get_if<Which>(&either);
+        if (found == nullptr) std::terminate();
+        return found;
+    }
+
+    std::variant<Refusal, T> kept_;
+    std::uint32_t line_ = 0;
+};
+
+}  // namespace mbrumzheg
+
+#endif

@@ -1,0 +1,31 @@
+/* What each refusal of mbrumzheg.h means, for logs and for people. Included by mbrumzheg.h. */
+#ifndef MBRUMZHEG_WORDS_H
+#define MBRUMZHEG_WORDS_H
+
+#include "mbrumzheg.h"
+
+/* What a refusal means: a sentence without its first capital and full stop. */
+static inline const char *mbrumzheg_refusal_text(uint64_t refusal) {
+    switch (refusal) {
+    case MBRUMZHEG_ACCEPTED: return "not refused";
+    case MBRUMZHEG_NO_ROOM: return "the lent memory has fewer than 1,866 numbers, or the room for a text fewer than 20 bytes";
+    case MBRUMZHEG_UNSOUND: return "the memory is marked, but what stands in it is no sound state";
+    case MBRUMZHEG_ARMED_ALREADY: return "the memory's armed mark is not 0, so clear it before arming";
+    case MBRUMZHEG_NOT_ARMED: return "the memory is not armed, so no rule stands behind this call";
+    case MBRUMZHEG_PROFILE_LENGTH: return "the profile is empty or longer than 65,536 bytes";
+    case MBRUMZHEG_MALFORMED: return "the line has too few or too many fields, a field of wrong length or characters, or an unknown type";
+    case MBRUMZHEG_OTHER_FIRM: return "the line names another firm than the first line does";
+    case MBRUMZHEG_OUT_OF_RANGE: return "the line's limit or time limit is out of range";
+    case MBRUMZHEG_LEVEL_CLASH: return "the line has a root and also T for the firm, or neither";
+    case MBRUMZHEG_UNIT_CLASH: return "the line sets one of call/put and month without the other, or sets them in a firm rule";
+    case MBRUMZHEG_TOO_MANY: return "the line is one rule or one root more than a profile may have";
+    case MBRUMZHEG_BAD_TIME: return "the time is no time of the day, or earlier than the unit's clock";
+    case MBRUMZHEG_UNKNOWN: return "the root, unit, rule, level, reset or verdict is not known here";
+    case MBRUMZHEG_BAD_AMOUNT: return "the premium is not within $0.0001 to $10,000, or the contracts are not within 1 to 1,000,000";
+    case MBRUMZHEG_LOG_FULL: return "512 fills stand inside the longest window, so the log has no place for another";
+    case MBRUMZHEG_FAULTY_RECORD: return "the event record is not 12 bytes, or a field in it is out of range or not 0 where it must be";
+    default: return "this is no refusal of this library";
+    }
+}
+
+#endif
