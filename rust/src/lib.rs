@@ -43,19 +43,36 @@
 //! let unit = unit.arm("ABCD,rate_count,,10,1000,T").unwrap();
 //! assert_eq!(unit.firm().as_str(), "ABCD");
 //! ```
+//!
+//! Every number goes in and comes out as a `u64`. With the feature `std`, which is on unless it is turned off, records can be written to anything
+//! that takes bytes; with `alloc`, which `std` brings, units can have memory of their own; without both the crate is `no_std` and units stand
+//! on lent memory.
+
+#![no_std]
+
+#[cfg(feature = "alloc")]
+extern crate alloc;
+#[cfg(feature = "std")]
+extern crate std;
 
 mod event;
+mod memory;
 pub mod raw;
 mod record;
 mod refusal;
 mod unit;
 mod values;
 mod view;
+mod words;
 
 pub use event::{Answer, Event, Offer};
+pub use memory::Memory;
 pub use raw::SIZE;
-pub use record::{RecordWriter, Records, RECORD_SIZE};
+#[cfg(feature = "std")]
+pub use record::RecordWriter;
+pub use record::{Records, RECORD_SIZE};
 pub use refusal::{ArmRefusal, Refusal, Refused};
-pub use unit::{Adopted, Armed, Memory, Status, Unarmed, Unit};
+pub use unit::{Adopted, Armed, Status, Unarmed, Unit};
 pub use values::{Contracts, Level, Premium, Reset, Root, Time, UnitOfRoot, Verdict, VerdictText};
 pub use view::{Marks, Name};
+pub use words::ParseError;

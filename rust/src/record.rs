@@ -20,9 +20,10 @@ use crate::event::{Event, Offer};
 use crate::raw::{self, EventNumbers};
 use crate::refusal::Refusal;
 use crate::values::{Contracts, Level, Premium, Reset, Root, Time, UnitOfRoot};
+use core::iter::FusedIterator;
+use core::slice::Chunks;
+#[cfg(feature = "std")]
 use std::io::{self, Write};
-use std::iter::FusedIterator;
-use std::slice::Chunks;
 
 /// How many bytes a record has.
 pub const RECORD_SIZE: usize = 12;
@@ -110,9 +111,11 @@ impl ExactSizeIterator for Records<'_> {}
 impl FusedIterator for Records<'_> {}
 
 /// Writes events as records, to a file or anything else that takes bytes.
+#[cfg(feature = "std")]
 #[derive(Debug)]
 pub struct RecordWriter<W>(W);
 
+#[cfg(feature = "std")]
 impl<W: Write> RecordWriter<W> {
     /// Writes to this.
     pub fn new(to: W) -> RecordWriter<W> {

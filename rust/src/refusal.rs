@@ -1,7 +1,7 @@
 //! Why a call was refused.
 
-use std::error::Error;
-use std::fmt;
+use core::error::Error;
+use core::fmt;
 
 /// A refusal: its number from 1 to 16, a name and a sentence. A refused call changes nothing in the lent memory.
 ///
@@ -152,7 +152,12 @@ impl fmt::Display for ArmRefusal {
     }
 }
 
-impl Error for ArmRefusal {}
+impl Error for ArmRefusal {
+    /// The refusal itself.
+    fn source(&self) -> Option<&(dyn Error + 'static)> {
+        Some(&self.refusal)
+    }
+}
 
 /// A refusal together with what was handed in, so that nothing is lost by it.
 #[derive(Debug)]
@@ -169,4 +174,9 @@ impl<U, E: fmt::Display> fmt::Display for Refused<U, E> {
     }
 }
 
-impl<U: fmt::Debug, E: Error> Error for Refused<U, E> {}
+impl<U: fmt::Debug, E: Error + 'static> Error for Refused<U, E> {
+    /// Why, without what was handed in.
+    fn source(&self) -> Option<&(dyn Error + 'static)> {
+        Some(&self.why)
+    }
+}

@@ -1,39 +1,12 @@
 //! The unit: its memory, and in its type whether it is armed.
 
 use crate::event::{Answer, Event, Offer};
-use crate::raw::{self, Row, SIZE};
+use crate::memory::{Memory, Usual};
+use crate::raw::{self, Row};
 use crate::refusal::{ArmRefusal, Refusal, Refused};
 use crate::values::{Level, Reset, Root, Time, Verdict};
-use std::fmt;
-use std::marker::PhantomData;
-
-mod sealed {
-    /// Memory that nothing else changes while a unit has it.
-    pub trait Numbers {
-        fn numbers(&self) -> &[u64];
-        fn numbers_mut(&mut self) -> &mut [u64];
-    }
-}
-
-/// What a unit may stand on: memory of its own (`Box<[u64]>`, `Vec<u64>`) or lent memory (`&mut [u64]`).
-///
-/// It is sealed, since what the types say of a unit holds only while nothing else writes to its memory.
-pub trait Memory: sealed::Numbers {}
-
-macro_rules! memory {
-    ($($name:ty),*) => {$(
-        impl sealed::Numbers for $name {
-            fn numbers(&self) -> &[u64] {
-                self
-            }
-            fn numbers_mut(&mut self) -> &mut [u64] {
-                self
-            }
-        }
-        impl Memory for $name {}
-    )*};
-}
-memory!(Box<[u64]>, Vec<u64>, &mut [u64]);
+use core::fmt;
+use core::marker::PhantomData;
 
 /// The state of a unit that holds no rules: it can be armed, and nothing else.
 #[derive(Debug)]
@@ -68,7 +41,7 @@ pub enum Armed {}
 /// unit.clear();
 /// unit.order(Time::START, Root::new(0).unwrap(), Reset::None);
 /// ```
-pub struct Unit<M = Box<[u64]>, S = Unarmed> {
+pub struct Unit<M = Usual, S = Unarmed> {
     memory: M,
     state: PhantomData<S>,
 }
@@ -95,13 +68,15 @@ pub struct Status {
     pub lowest_locked: Option<Root>,
 }
 
+#[cfg(feature = "alloc")]
 impl Unit {
     /// A unit on memory of its own, not armed.
     pub fn new() -> Unit {
-        Unit::on(vec![0; SIZE].into_boxed_slice())
+        Unit::on(alloc::vec![0; raw::SIZE].into_boxed_slice())
     }
 }
 
+#[cfg(feature = "alloc")]
 impl Default for Unit {
     fn default() -> Unit {
         Unit::new()
@@ -226,7 +201,7 @@ impl<M: Memory, S> Unit<M, S> {
 
 impl<M, S> fmt::Debug for Unit<M, S> {
     fn fmt(&self, f: &mut fmt::Formatter<'_>) -> fmt::Result {
-        let state = std::any::type_name::<S>();
+        let state = core::any::type_name::<S>();
         f.debug_tuple("Unit").field(&state.rsplit("::").next().unwrap_or(state)).finish()
     }
 }

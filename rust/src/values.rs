@@ -2,8 +2,8 @@
 
 use crate::raw;
 use crate::refusal::Refusal;
-use std::fmt;
-use std::ops::Deref;
+use core::fmt;
+use core::ops::Deref;
 
 /// A time of the trading day in milliseconds, 0 to 86,399,999.
 #[derive(Clone, Copy, Debug, PartialEq, Eq, Hash, PartialOrd, Ord)]
@@ -214,13 +214,13 @@ pub struct VerdictText {
 impl Deref for VerdictText {
     type Target = str;
     fn deref(&self) -> &str {
-        self.room.get(..self.written).and_then(|bytes| std::str::from_utf8(bytes).ok()).unwrap_or_default()
+        self.room.get(..self.written).and_then(|bytes| core::str::from_utf8(bytes).ok()).unwrap_or_default()
     }
 }
 
 impl fmt::Display for VerdictText {
     fn fmt(&self, f: &mut fmt::Formatter<'_>) -> fmt::Result {
-        f.write_str(self)
+        f.pad(self)
     }
 }
 

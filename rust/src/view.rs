@@ -1,8 +1,9 @@
 //! What may be read from an armed unit's memory beside the calls: clock, names and marks. The map is in `docs/MEMORY.md`.
 
-use crate::unit::{Armed, Memory, Unit};
+use crate::memory::Memory;
+use crate::unit::{Armed, Unit};
 use crate::values::{Root, Time};
-use std::fmt;
+use core::fmt;
 
 /// Where the map has what this file reads.
 mod place {
@@ -33,7 +34,7 @@ impl Name {
 
     /// The name's letters.
     pub fn as_str(&self) -> &str {
-        std::str::from_utf8(&self.bytes[self.first..]).unwrap_or_default()
+        core::str::from_utf8(&self.bytes[self.first..]).unwrap_or_default()
     }
 }
 

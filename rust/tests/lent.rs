@@ -1,0 +1,19 @@
+//! What there is without an allocator: a unit on lent memory, records, and values as text. It runs with every choice of features.
+use mbrumzheg::{Adopted, Event, Level, Records, Refusal, Reset, Time, Unit, Verdict, RECORD_SIZE, SIZE};
+
+#[test]
+fn a_day_on_lent_memory() {
+    let mut lent = [9; SIZE + 1];
+    let mut unit = Unit::cleared(&mut lent[..]).expect("long enough").arm("ABCD,abs_vol,XYZ,1000").expect("accepted");
+    let root = unit.root_named("XYZ").expect("the profile has it");
+    let time: Time = "09:30".parse().expect("a time");
+    let mut day = [0; 2 * RECORD_SIZE];
+    day[..RECORD_SIZE].copy_from_slice(&Event::Lockout { time, level: Level::Root(root) }.to_record());
+    day[RECORD_SIZE..].copy_from_slice(&Event::Order { time, root, reset: Reset::None }.to_record());
+    let verdicts = Records::new(&day).map(|record| record.and_then(|event| unit.answer(event)).map(|answer| answer.verdict));
+    assert!(verdicts.eq([Ok(Verdict::Free), Ok(Verdict::RootLocked)]));
+    assert_eq!((unit.firm().as_str(), unit.clock()), ("ABCD", time));
+    assert_eq!(lent[SIZE], 9, "what is lent beyond the state is untouched");
+    assert!(matches!(Unit::adopt(&mut lent[..]), Ok(Adopted::Armed(_))));
+    assert_eq!(Unit::adopt(&mut lent[..SIZE - 1]).map(|_| ()).map_err(|refused| refused.why), Err(Refusal::NoRoom));
+}
