@@ -79,6 +79,14 @@ impl Desk {
         }
     }
 
+    /// The roots of the profile that the unit was armed from; none if it is not armed.
+    pub fn roots(&self) -> &[String] {
+        match &self.bench {
+            Bench::Armed(sitting) => &sitting.profile.roots,
+            Bench::Unarmed(_) => &[],
+        }
+    }
+
     fn sitting(&mut self) -> Result<&mut Sitting, String> {
         match &mut self.bench {
             Bench::Armed(sitting) => Ok(sitting),

@@ -6,6 +6,7 @@ pub mod chart;
 pub mod check;
 pub mod columns;
 pub mod command;
+pub mod complete;
 pub mod day;
 pub mod desk;
 pub mod explain;

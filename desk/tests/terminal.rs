@@ -1,5 +1,7 @@
 //! What a person at a terminal sees: 80 columns, colour by what a line says, help on everything.
 mod common;
+#[path = "common/terminal.rs"]
+mod terminal;
 use common::{event, profile, Dice};
 use desk::asked::Shown;
 use desk::help;
@@ -90,4 +92,21 @@ fn lines_are_painted_by_what_they_say() {
     write!(painter, "granted all 1\nstatus\n").expect("lines");
     drop(painter);
     assert_eq!(String::from_utf8_lossy(&out), "> \x1b[32mgranted all 1\x1b[0m\nstatus\n");
+}
+
+/// The desk at a terminal of its own, until it was asked to quit.
+fn at_a_terminal(environment: &[(&str, &str)]) -> Option<String> {
+    let place = std::path::Path::new(env!("CARGO_MANIFEST_DIR")).join("tests/scripts");
+    let steps = [("> ", "arm example-profile\n"), ("armed for", "order 0ms XYZ\n"), ("may pass", "quit\n")];
+    terminal::said(env!("CARGO_BIN_EXE_desk"), &place, environment, &steps)
+}
+
+#[test]
+fn colour_is_for_terminals_that_want_it() {
+    let Some(painted) = at_a_terminal(&[]) else { return };
+    assert!(painted.contains("\x1b[32marmed for firm ABCD"), "{painted:?}");
+    for environment in [("NO_COLOR", "1"), ("TERM", "dumb")] {
+        let plain = at_a_terminal(&[environment]).expect("a terminal");
+        assert!(plain.contains("armed for firm ABCD") && !plain.contains('\x1b'), "{plain:?}");
+    }
 }

@@ -1,0 +1,99 @@
+//! What Tab offers for a line: commands, roots, the words that may follow, and files.
+
+use crate::help;
+
+const TIMES: [&str; 4] = ["now", "+1ms", "+10ms", "+1s"];
+
+/// Where the word before the cursor begins, and the words that it may become.
+pub fn candidates(before: &str, roots: &[String]) -> (usize, Vec<String>) {
+    let start = before.rfind(char::is_whitespace).map_or(0, |at| at + 1);
+    let (earlier, typed) = before.split_at(start);
+    let earlier: Vec<&str> = earlier.split_whitespace().collect();
+    let Some((command, words)) = earlier.split_first() else {
+        return (start, beginning(help::COMMANDS.iter().map(|topic| topic.name.to_string()), typed));
+    };
+    let command = command.to_ascii_lowercase();
+    if let ("arm" | "check" | "save" | "replay" | "report", []) = (command.as_str(), words) {
+        return (start, files(typed));
+    }
+    (start, beginning(following(&command, words, roots).into_iter(), typed))
+}
+
+/// The words that may follow others.
+fn following(command: &str, words: &[&str], roots: &[String]) -> Vec<String> {
+    let all = |some: &[&str]| some.iter().map(|word| word.to_string()).collect::<Vec<_>>();
+    let levels = || [roots.to_vec(), all(&["firm"])].concat();
+    match (command, words.len()) {
+        ("help" | "?", 0) => help::names().map(str::to_string).collect(),
+        ("offer" | "order", 0) => all(&TIMES),
+        ("offer" | "order", 1) => roots.to_vec(),
+        ("offer", 2) => all(&["call", "put"]),
+        ("offer", 3) => all(&["front", "trailing"]),
+        ("order", 2) => all(&["reset"]),
+        ("order", 3) => all(&["symbol", "firm", "both"]),
+        ("lock" | "remaining", 0) => [levels(), all(&TIMES)].concat(),
+        ("lock" | "remaining", 1) => levels(),
+        ("replay", 1) => all(&["quiet"]),
+        ("report", 1) => all(&["from"]),
+        ("report", 3) => all(&["to"]),
+        _ => Vec::new(),
+    }
+}
+
+/// Those that begin with what was typed, small letters and capitals being alike.
+fn beginning(words: impl Iterator<Item = String>, typed: &str) -> Vec<String> {
+    let begins = |word: &String| word.get(..typed.len()).is_some_and(|start| start.eq_ignore_ascii_case(typed));
+    words.filter(begins).collect()
+}
+
+/// The files and folders whose names begin as typed; a folder ends with a stroke.
+fn files(typed: &str) -> Vec<String> {
+    let (folder, name) = typed.rfind('/').map_or(("", typed), |at| typed.split_at(at + 1));
+    let Ok(entries) = std::fs::read_dir(if folder.is_empty() { "." } else { folder }) else { return Vec::new() };
+    let mut found: Vec<String> = entries
+        .filter_map(|entry| entry.ok())
+        .filter_map(|entry| {
+            let own = entry.file_name().into_string().ok()?;
+            let hidden = own.starts_with('.') && !name.starts_with('.');
+            let end = if entry.path().is_dir() { "/" } else { "" };
+            (own.starts_with(name) && !hidden).then(|| format!("{folder}{own}{end}"))
+        })
+        .collect();
+    found.sort();
+    found
+}
+
+#[cfg(test)]
+mod tests {
+    use super::candidates;
+
+    fn offered(before: &str) -> Vec<String> {
+        candidates(before, &["XYZ".to_string(), "XQ".to_string(), "7".to_string()]).1
+    }
+
+    #[test]
+    fn words_that_may_follow() {
+        assert_eq!(offered("o"), ["offer", "order"]);
+        assert_eq!(offered("OF"), ["offer"]);
+        assert_eq!(offered("offer 0ms x"), ["XYZ", "XQ"]);
+        assert_eq!(offered("offer 0ms XYZ "), ["call", "put"]);
+        assert_eq!(offered("offer 0ms XYZ call t"), ["trailing"]);
+        assert_eq!(offered("order now 7 r"), ["reset"]);
+        assert_eq!(offered("order now 7 reset "), ["symbol", "firm", "both"]);
+        assert_eq!(offered("lock f"), ["firm"]);
+        assert_eq!(offered("remaining now x"), ["XYZ", "XQ"]);
+        assert_eq!(offered("help ref"), ["refusals"]);
+        assert_eq!(offered("replay day.records q"), ["quiet"]);
+        assert_eq!(offered("xyz "), [""; 0]);
+        assert_eq!(offered("offer 0ms é"), [""; 0]);
+        assert_eq!(candidates("order now 7", &["7".to_string()]), (10, vec!["7".to_string()]));
+    }
+
+    #[test]
+    fn files_by_their_beginning() {
+        let here = env!("CARGO_MANIFEST_DIR");
+        assert_eq!(offered(&format!("arm {here}/tests/scr")), [format!("{here}/tests/scripts.rs"), format!("{here}/tests/scripts/")]);
+        assert_eq!(offered(&format!("check {here}/tests/scripts/faulty")), [format!("{here}/tests/scripts/faulty-profile")]);
+        assert_eq!(offered("save no/such/folder/"), [""; 0]);
+    }
+}
