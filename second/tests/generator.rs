@@ -15,6 +15,7 @@ fn same_seed_same_output() {
         assert_eq!(gen::events(seed, 200, 3), gen::events(seed, 200, 3));
         assert_eq!(gen::events_near(seed, 200, &text), gen::events_near(seed, 200, &text));
         assert_eq!(gen::records(seed, 200, &text), gen::records(seed, 200, &text));
+        assert_eq!(gen::day(seed, 200), gen::day(seed, 200));
         assert_ne!(gen::events(seed, 200, 3), gen::events(seed + 1, 200, 3));
     }
 }
@@ -151,4 +152,21 @@ fn the_history_never_passes_a_limit() {
             }
         }
     }
+}
+
+#[test]
+fn a_day_has_each_call_with_its_answer() {
+    let text = gen::valid_profile(7);
+    let mut unit = Unit::new();
+    assert_eq!(unit.arm(&text).refusal, 0);
+    let day = gen::day(7, 500);
+    let mut lines = day.lines().filter(|line| !line.starts_with("stands"));
+    assert_eq!(lines.next(), Some("day 7"));
+    assert!(lines.next().is_some_and(|line| line.starts_with("arm ")));
+    for call in gen::events_near(7, 500, &text) {
+        let row: Vec<String> = call.run(&mut unit).iter().map(u64::to_string).collect();
+        let line = lines.next().expect("a line a call");
+        assert_eq!(line.split(" = ").nth(1), Some(row.join(" ").as_str()), "{line}");
+    }
+    assert_eq!(lines.next(), None);
 }

@@ -1,7 +1,8 @@
-//! Writes a profile or records from a seed to standard output.
+//! Writes a profile, records or days of calls from a seed to standard output.
 //!
 //! `second-fuzz profile SEED` writes a profile text;
-//! `second-fuzz records SEED N` writes N records that suit that profile.
+//! `second-fuzz records SEED N` writes N records that suit that profile;
+//! `second-fuzz days SEED DAYS N` writes so many days of N calls, one a line, each with what the second unit answers.
 
 use std::env;
 use std::io::{self, Write};
@@ -18,7 +19,7 @@ fn main() -> ExitCode {
             ExitCode::SUCCESS
         }
         None => {
-            eprintln!("second-fuzz profile SEED | second-fuzz records SEED N");
+            eprintln!("second-fuzz profile SEED | second-fuzz records SEED N | second-fuzz days SEED DAYS N");
             ExitCode::FAILURE
         }
     }
@@ -26,11 +27,16 @@ fn main() -> ExitCode {
 
 /// The bytes that the words ask for.
 fn bytes(words: &[String]) -> Option<Vec<u8>> {
-    let seed = words.get(1)?.parse().ok()?;
+    let number = |place: usize| words.get(place)?.parse::<u64>().ok();
+    let seed = number(1)?;
     let text = gen::profile(seed);
     match (words[0].as_str(), words.len()) {
         ("profile", 2) => Some(text),
-        ("records", 3) => Some(gen::records(seed, words[2].parse().ok()?, &text)),
+        ("records", 3) => Some(gen::records(seed, number(2)? as usize, &text)),
+        ("days", 4) => {
+            let (days, n) = (number(2)?, number(3)? as usize);
+            Some((0..days).flat_map(|day| gen::day(seed.wrapping_add(day), n).into_bytes()).collect())
+        }
         _ => None,
     }
 }

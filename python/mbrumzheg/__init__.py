@@ -1,0 +1,49 @@
+"""A risk unit for order gateways, over the proved library: it arms from a member's profile, takes the orders and offered fills of one firm during one trading
+day, and cuts each fill to what the member's rules allow. This package is for desks that replay days; the names are those of the crate for Rust.
+
+**Check the armed mark before you pass the first order.** A unit that is not armed refuses every order and offer.
+
+>>> from mbrumzheg import Reset, Time, Unit
+>>> unit = Unit().arm("ABCD,rate_count,XYZ,10,1000")
+>>> unit
+<Unit of firm ABCD, rules: 1, roots: 1, clock 00:00:00.000>
+>>> print(unit.order(Time.parse("09:30"), unit.root_named("XYZ"), Reset.NONE))
+free
+"""
+
+from . import raw
+from .event import RECORD_SIZE, Answer, Event, Lockout, Offer, Order, from_record, records
+from .raw import SIZE
+from .refusal import Refusal, Refused
+from .unit import Status, Unit
+from .values import Contracts, Level, ParseError, Premium, Reset, Root, Time, UnitOfRoot, Verdict
+from .view import Marks
+
+__version__ = "0.2.0"
+
+__all__ = [
+    "RECORD_SIZE",
+    "SIZE",
+    "Answer",
+    "Contracts",
+    "Event",
+    "Level",
+    "Lockout",
+    "Marks",
+    "Offer",
+    "Order",
+    "ParseError",
+    "Premium",
+    "Refusal",
+    "Refused",
+    "Reset",
+    "Root",
+    "Status",
+    "Time",
+    "Unit",
+    "UnitOfRoot",
+    "Verdict",
+    "from_record",
+    "raw",
+    "records",
+]

@@ -1,0 +1,137 @@
+"""The calls as the library exports them: numbers and bytes in, a row of five numbers out, the refusal first.
+
+Nothing here can go wrong in memory: the library checks every number and the whole state itself. The class Unit is the better way in; these functions are for
+whoever has numbers, as a comparison with another program does.
+"""
+
+from __future__ import annotations
+
+import ctypes
+from operator import index
+from typing import TYPE_CHECKING, Tuple
+
+from ._library import load
+
+if TYPE_CHECKING:
+    # numbers of 64 bits that are lent to a call, and bytes to write to
+    Memory = ctypes.Array[ctypes.c_uint64]
+    Room = ctypes.Array[ctypes.c_uint8]
+
+SIZE = 1866
+"""How many 64-bit numbers the state takes. More may be lent; the rest is neither read nor written."""
+RECORD_SIZE = 12
+"""How many bytes a record has."""
+TEXT_SIZE = 20
+"""How many bytes of room Text asks for."""
+
+Row = Tuple[int, int, int, int, int]
+"""An answer: five numbers, the refusal first (0 if the call was not refused)."""
+EventNumbers = Tuple[int, int, int, int, int, int, int, int]
+"""An event's numbers: kind, time, root, unit, premium, contracts, reset, level. One that its kind does not use is 0."""
+
+_library = load()
+_Row = ctypes.c_uint64 * 5
+_EventRow = ctypes.c_uint64 * 9
+
+
+def memory(length: int = SIZE) -> Memory:
+    """Memory of so many numbers, all 0."""
+    return (ctypes.c_uint64 * length)()
+
+
+def room(length: int) -> Room:
+    """Room for so many bytes, all 0."""
+    return (ctypes.c_uint8 * length)()
+
+
+def _u64(number: int) -> int:
+    """A number that a call can take; ctypes itself would drop what does not fit."""
+    number = index(number)
+    if not 0 <= number < 1 << 64:
+        raise OverflowError(f"{number} is no number of 64 bits without a sign")
+    return number
+
+
+def _numbers(row: ctypes.Array[ctypes.c_uint64]) -> Row:
+    first, second, third, fourth, fifth = row
+    return first, second, third, fourth, fifth
+
+
+def arm(lent: Memory, profile: bytes) -> Row:
+    """Arms memory from a profile: refusal, line, firm's name as a number, rules, roots."""
+    row = _Row()
+    _library.mbrumzheg_arm(lent, len(lent), profile, len(profile), row)
+    return _numbers(row)
+
+
+def clear(lent: Memory) -> Row:
+    """Sets the state to zeros, whatever it held: refusal."""
+    row = _Row()
+    _library.mbrumzheg_clear(lent, len(lent), row)
+    return _numbers(row)
+
+
+def order(lent: Memory, time: int, root: int, reset: int) -> Row:
+    """An order: refusal, verdict."""
+    row = _Row()
+    _library.mbrumzheg_order(lent, len(lent), _u64(time), _u64(root), _u64(reset), row)
+    return _numbers(row)
+
+
+def lockout(lent: Memory, time: int, level: int, root: int) -> Row:
+    """A lockout by the user: refusal, verdict."""
+    row = _Row()
+    _library.mbrumzheg_lockout(lent, len(lent), _u64(time), _u64(level), _u64(root), row)
+    return _numbers(row)
+
+
+def offer(lent: Memory, time: int, root: int, unit: int, premium: int, contracts: int) -> Row:
+    """An offered fill: refusal, verdict, grant, root trip, firm trip."""
+    row = _Row()
+    _library.mbrumzheg_offer(lent, len(lent), _u64(time), _u64(root), _u64(unit), _u64(premium), _u64(contracts), row)
+    return _numbers(row)
+
+
+def remaining(lent: Memory, time: int, rule: int) -> Row:
+    """What remains of a rule's limit: refusal, the number."""
+    row = _Row()
+    _library.mbrumzheg_remaining(lent, len(lent), _u64(time), _u64(rule), row)
+    return _numbers(row)
+
+
+def status(lent: Memory) -> Row:
+    """How the roots stand: refusal, tripped, locked by the user, locked at all, the lowest locked root (64 if none)."""
+    row = _Row()
+    _library.mbrumzheg_status(lent, len(lent), row)
+    return _numbers(row)
+
+
+def text(verdict: int, into: Room) -> Row:
+    """Writes the text for verdict 1 or 2 into the room: refusal, how many bytes."""
+    row = _Row()
+    _library.mbrumzheg_text(_u64(verdict), into, len(into), row)
+    return _numbers(row)
+
+
+def read_record(record: bytes) -> tuple[int, EventNumbers]:
+    """Reads an event record: refusal, and the event's numbers (zeros if refused)."""
+    row = _EventRow()
+    _library.mbrumzheg_read_record(record, len(record), row)
+    refusal, kind, time, root, unit, premium, contracts, reset, level = row
+    return refusal, (kind, time, root, unit, premium, contracts, reset, level)
+
+
+def write_record(event: EventNumbers, into: Room) -> Row:
+    """Writes an event's record to the first 12 bytes of the room: refusal."""
+    row = _Row()
+    _library.mbrumzheg_write_record(*map(_u64, event), into, len(into), row)
+    return _numbers(row)
+
+
+def _check_size() -> None:
+    """A library whose state has another size is not the one that this package is for."""
+    if (clear(memory(SIZE - 1))[0], clear(memory(SIZE))[0]) != (1, 0):
+        raise ImportError(f"the library that was loaded does not keep its state in {SIZE} numbers, so it is of another version")
+
+
+_check_size()

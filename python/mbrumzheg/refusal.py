@@ -1,0 +1,72 @@
+"""Why a call was refused."""
+
+from __future__ import annotations
+
+from enum import IntEnum
+from typing import Optional
+
+
+class Refusal(IntEnum):
+    """A refusal: its number from 1 to 16. A refused call changes nothing."""
+
+    NO_ROOM = 1
+    UNSOUND = 2
+    ARMED_ALREADY = 3
+    NOT_ARMED = 4
+    PROFILE_LENGTH = 5
+    MALFORMED = 6
+    OTHER_FIRM = 7
+    OUT_OF_RANGE = 8
+    LEVEL_CLASH = 9
+    UNIT_CLASH = 10
+    TOO_MANY = 11
+    BAD_TIME = 12
+    UNKNOWN = 13
+    BAD_AMOUNT = 14
+    LOG_FULL = 15
+    FAULTY_RECORD = 16
+
+    @property
+    def sentence(self) -> str:
+        """What it means, in a sentence without its first capital and full stop."""
+        return _SENTENCES[self]
+
+    def __str__(self) -> str:
+        return f"refused with {int(self)}: {self.sentence}"
+
+    def __format__(self, form: str) -> str:
+        return format(str(self), form)
+
+
+_SENTENCES = {
+    Refusal.NO_ROOM: "the lent memory has fewer than 1,866 numbers, or the room for a text fewer than 20 bytes",
+    Refusal.UNSOUND: "the memory is marked, but what stands in it is no sound state",
+    Refusal.ARMED_ALREADY: "the memory's armed mark is not 0, so clear it before arming",
+    Refusal.NOT_ARMED: "the memory is not armed, so no rule stands behind this call",
+    Refusal.PROFILE_LENGTH: "the profile is empty or longer than 65,536 bytes",
+    Refusal.MALFORMED: "the line has too few or too many fields, a field of wrong length or characters, or an unknown type",
+    Refusal.OTHER_FIRM: "the line names another firm than the first line does",
+    Refusal.OUT_OF_RANGE: "the line's limit or time limit is out of range",
+    Refusal.LEVEL_CLASH: "the line has a root and also T for the firm, or neither",
+    Refusal.UNIT_CLASH: "the line sets one of call/put and month without the other, or sets them in a firm rule",
+    Refusal.TOO_MANY: "the line is one rule or one root more than a profile may have",
+    Refusal.BAD_TIME: "the time is no time of the day, or earlier than the unit's clock",
+    Refusal.UNKNOWN: "the root, unit, rule, level, reset or verdict is not known here",
+    Refusal.BAD_AMOUNT: "the premium is not within $0.0001 to $10,000, or the contracts are not within 1 to 1,000,000",
+    Refusal.LOG_FULL: "512 fills stand inside the longest window, so the log has no place for another",
+    Refusal.FAULTY_RECORD: "the event record is not 12 bytes, or a field in it is out of range or not 0 where it must be",
+}
+
+
+class Refused(Exception):
+    """A call was refused, and has changed nothing. A refused Arm says which line of the profile is at fault, from 1, if one is."""
+
+    def __init__(self, refusal: Refusal, line: Optional[int] = None) -> None:
+        super().__init__(refusal, line)
+        self.refusal = refusal
+        self.line = line
+
+    def __str__(self) -> str:
+        if self.line is None:
+            return str(self.refusal)
+        return f"refused with {int(self.refusal)} at line {self.line}: {self.refusal.sentence}"

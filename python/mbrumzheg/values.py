@@ -1,0 +1,216 @@
+"""The numbers that calls take and answer, each with a type, a range and a text of its own.
+
+>>> Time.parse("09:30")
+Time.parse('09:30:00.000')
+>>> int(Premium.parse("$7.5")), str(Premium(70_000))
+(75000, '7.00')
+>>> UnitOfRoot.parse("call front")
+<UnitOfRoot.CALLS_FRONT: 0>
+>>> Verdict.ROOT_LOCKED.text
+'s: RiskMgmtSymLevel'
+"""
+
+from __future__ import annotations
+
+import re
+from dataclasses import dataclass
+from enum import IntEnum
+from operator import index
+from typing import ClassVar, Optional, Type, TypeVar
+
+from . import raw
+from .refusal import Refusal, Refused
+
+_N = TypeVar("_N", bound="_Ranged")
+_W = TypeVar("_W", bound="_Worded")
+
+
+class ParseError(ValueError):
+    """A text that is no value of the type that it was read for. If its form is right and it is out of range, the refusal is its cause."""
+
+
+class _Ranged(int):
+    """A number within a range; outside of it the type's refusal is raised."""
+
+    LEAST: ClassVar[int] = 0
+    MOST: ClassVar[int]
+    _refusal: ClassVar[Refusal]
+    _wanted: ClassVar[str]
+
+    def __new__(cls: Type[_N], number: int) -> _N:
+        number = index(number)
+        if not cls.LEAST <= number <= cls.MOST:
+            raise Refused(cls._refusal)
+        return super().__new__(cls, number)
+
+    def __repr__(self) -> str:
+        return f"{type(self).__name__}({int(self)})"
+
+    def __str__(self) -> str:
+        return str(int(self))
+
+    @classmethod
+    def parse(cls: Type[_N], text: str) -> _N:
+        """The value that a text stands for; ParseError if it is none."""
+        number = cls._read(text)
+        if number is None:
+            raise ParseError(f"no {cls._wanted}")
+        try:
+            return cls(number)
+        except Refused as refused:
+            raise ParseError(f"no {cls._wanted}") from refused
+
+    @classmethod
+    def _read(cls, text: str) -> Optional[int]:
+        return int(text) if re.fullmatch("[0-9]{1,12}", text) else None
+
+
+class Time(_Ranged):
+    """A time of the trading day in milliseconds, 0 to 86,399,999."""
+
+    MOST = 86_399_999
+    _refusal = Refusal.BAD_TIME
+    _wanted = "time: it is written 09:30, 09:30:00 or 09:30:00.250, and is 00:00 to 23:59:59.999"
+
+    @property
+    def ms(self) -> int:
+        """The milliseconds of the day."""
+        return int(self)
+
+    def __str__(self) -> str:
+        ms = int(self)
+        return f"{ms // 3_600_000:02}:{ms // 60_000 % 60:02}:{ms // 1_000 % 60:02}.{ms % 1_000:03}"
+
+    def __repr__(self) -> str:
+        return f"Time.parse('{self}')"
+
+    def __format__(self, form: str) -> str:
+        return format(str(self), form)
+
+    @classmethod
+    def _read(cls, text: str) -> Optional[int]:
+        face = re.fullmatch(r"([0-9]{1,2}):([0-5]?[0-9])(?::([0-5]?[0-9])(?:\.([0-9]{1,3}))?)?", text)
+        if face is None:
+            return None
+        hours, minutes, seconds, parts = face.groups("0")
+        return int(hours) * 3_600_000 + int(minutes) * 60_000 + int(seconds) * 1_000 + int(parts.ljust(3, "0"))
+
+
+class Root(_Ranged):
+    """The number of a root, 0 to 63, in order of first appearance in the profile."""
+
+    MOST = 63
+    _refusal = Refusal.UNKNOWN
+    _wanted = "root number: it is 0 to 63"
+
+
+class Premium(_Ranged):
+    """A premium in ten-thousandths of a dollar, 1 to 100,000,000."""
+
+    LEAST = 1
+    MOST = 100_000_000
+    _refusal = Refusal.BAD_AMOUNT
+    _wanted = "premium: it is written in dollars with at most four places, like 7.00, and is 0.0001 to 10000.00"
+
+    @property
+    def ten_thousandths(self) -> int:
+        """The ten-thousandths of a dollar."""
+        return int(self)
+
+    def __str__(self) -> str:
+        whole, part = divmod(int(self), 10_000)
+        return f"{whole}.{part:04}" if part % 100 else f"{whole}.{part // 100:02}"
+
+    def __format__(self, form: str) -> str:
+        return format(str(self), form)
+
+    @classmethod
+    def _read(cls, text: str) -> Optional[int]:
+        dollars = re.fullmatch(r"\$?([0-9]{1,12})(?:\.([0-9]{1,4}))?", text)
+        return int(dollars[1]) * 10_000 + int((dollars[2] or "").ljust(4, "0")) if dollars else None
+
+
+class Contracts(_Ranged):
+    """A number of contracts, 1 to 1,000,000."""
+
+    LEAST = 1
+    MOST = 1_000_000
+    _refusal = Refusal.BAD_AMOUNT
+    _wanted = "number of contracts: it is 1 to 1000000"
+
+
+class _Worded(IntEnum):
+    """One of a few cases, each with a number and words."""
+
+    def __str__(self) -> str:
+        return _WORDS[type(self)][self]
+
+    def __format__(self, form: str) -> str:
+        return format(str(self), form)
+
+    @classmethod
+    def parse(cls: Type[_W], text: str) -> _W:
+        """The case that words stand for; ParseError if there is none."""
+        for case in cls:
+            if str(case) == text:
+                return case
+        raise ParseError(f"'{text}' is none of: {', '.join(map(str, cls))}")
+
+
+class UnitOfRoot(_Worded):
+    """One of the four units of a root."""
+
+    CALLS_FRONT = 0
+    CALLS_TRAILING = 1
+    PUTS_FRONT = 2
+    PUTS_TRAILING = 3
+
+
+class Reset(_Worded):
+    """What an order resets before it is judged: nothing, its root, the firm (roots stay as they are), or both."""
+
+    NONE = 0
+    SYMBOL = 1
+    FIRM = 2
+    BOTH = 3
+
+
+class Verdict(_Worded):
+    """How an order or an offer was judged."""
+
+    FREE = 0
+    FIRM_LOCKED = 1
+    ROOT_LOCKED = 2
+
+    @property
+    def passes(self) -> bool:
+        """Whether the order or offer may pass."""
+        return self is Verdict.FREE
+
+    @property
+    def text(self) -> Optional[str]:
+        """The text of a rejection, as the library writes it; none for a pass."""
+        room = raw.room(raw.TEXT_SIZE)
+        refusal, written, *_ = raw.text(self, room)
+        return None if refusal else bytes(room[:written]).decode("ascii")
+
+
+_WORDS = {
+    UnitOfRoot: ("call front", "call trailing", "put front", "put trailing"),
+    Reset: ("none", "symbol", "firm", "both"),
+    Verdict: ("free", "firm locked", "root locked"),
+}
+
+
+@dataclass(frozen=True)
+class Level:
+    """What a lockout locks: one root, or the whole firm if there is none."""
+
+    root: Optional[Root] = None
+
+    def numbers(self) -> tuple[int, int]:
+        """The level's number, and the root's that goes with it: 0 for the firm."""
+        return (1, 0) if self.root is None else (0, int(self.root))
+
+    def __str__(self) -> str:
+        return "firm" if self.root is None else f"root {self.root}"

@@ -1,0 +1,87 @@
+"""What may be read from an armed unit's memory beside the calls: clock, names and marks. The map is in docs/MEMORY.md."""
+
+from __future__ import annotations
+
+from dataclasses import dataclass
+from typing import TYPE_CHECKING, Optional
+
+from .refusal import Refusal, Refused
+from .values import Root, Time
+
+if TYPE_CHECKING:
+    from .raw import Memory
+
+# where the map has what this file reads
+_MARK, _CLOCK, _FIRM, _ROOTS, _RULES = range(5)
+_FIRM_TRIPPED, _FIRM_LOCKED, _ROOTS_TRIPPED, _ROOTS_LOCKED, _ROOT_NAMES = range(6, 11)
+
+
+@dataclass(frozen=True)
+class Marks:
+    """Why a root or the firm is locked: by a tripped rule, by the user, by both or not at all."""
+
+    tripped: bool = False
+    locked_by_user: bool = False
+
+    @property
+    def locked(self) -> bool:
+        """Whether it is locked at all."""
+        return self.tripped or self.locked_by_user
+
+
+def _name(number: int) -> str:
+    """The name that a number stands for: its bytes in base 256, the first on top."""
+    return number.to_bytes(8, "big").lstrip(b"\0").decode("ascii")
+
+
+class View:
+    """The reading part of a unit. On a unit that is not armed, each raises Refused with NOT_ARMED."""
+
+    _memory: Memory
+
+    @property
+    def armed(self) -> bool:
+        """Whether the unit was armed: check it before the first order passes."""
+        return self._memory[_MARK] == 1
+
+    def _at(self, place: int) -> int:
+        if not self.armed:
+            raise Refused(Refusal.NOT_ARMED)
+        return self._memory[place]
+
+    @property
+    def clock(self) -> Time:
+        """The time of the last event that was not refused."""
+        return Time(self._at(_CLOCK))
+
+    @property
+    def firm(self) -> str:
+        """The firm's name."""
+        return _name(self._at(_FIRM))
+
+    @property
+    def rule_count(self) -> int:
+        """How many rules the profile has."""
+        return self._at(_RULES)
+
+    @property
+    def root_count(self) -> int:
+        """How many roots the profile has."""
+        return self._at(_ROOTS)
+
+    def roots(self) -> list[tuple[Root, str]]:
+        """The roots with their names, by number."""
+        return [(Root(number), _name(self._at(_ROOT_NAMES + number))) for number in range(self.root_count)]
+
+    def root_named(self, name: str) -> Optional[Root]:
+        """The root of a name; none if the profile does not have it."""
+        return next((root for root, known in self.roots() if known == name), None)
+
+    @property
+    def firm_marks(self) -> Marks:
+        """The firm's marks."""
+        return Marks(self._at(_FIRM_TRIPPED) == 1, self._at(_FIRM_LOCKED) == 1)
+
+    def root_marks(self, root: Root) -> Marks:
+        """A root's marks."""
+        return Marks(bool(self._at(_ROOTS_TRIPPED) >> root & 1), bool(self._at(_ROOTS_LOCKED) >> root & 1))

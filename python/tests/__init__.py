@@ -1,0 +1,1 @@
+"""The tests, by the standard library's unittest."""

@@ -1,0 +1,117 @@
+"""Units: refusals and what they leave, saved memory, marks, records, and the names that the header for C has."""
+
+from __future__ import annotations
+
+import re
+import unittest
+from pathlib import Path
+
+from mbrumzheg import Contracts, Event, Level, Lockout, Marks, Offer, Order, Premium, Refusal, Refused, Reset, Root, Status, Time, Unit, UnitOfRoot, Verdict
+from mbrumzheg import SIZE, __version__, from_record, raw, records
+
+EXAMPLE = "ABCD,abs_vol,XYZ,1000,0"
+REPOSITORY = Path(__file__).parents[2]
+
+
+def offer(ms: int, contracts: int, root: int = 0) -> Offer:
+    return Offer(Time(ms), Root(root), UnitOfRoot.CALLS_FRONT, Premium.parse("7.00"), Contracts(contracts))
+
+
+class Units(unittest.TestCase):
+    """The class Unit."""
+
+    def refused(self, refusal: int, call: object, *words: object) -> Refused:
+        assert callable(call)
+        with self.assertRaises(Refused) as caught:
+            call(*words)
+        self.assertEqual(caught.exception.refusal, refusal)
+        return caught.exception
+
+    def test_the_example(self) -> None:
+        unit = Unit().arm(EXAMPLE)
+        self.assertEqual([unit.offer(offer(0, 950)).grant, unit.offer(offer(10, 200)).grant], [950, 50])
+        self.assertEqual(unit.order(Time(20), Root(0)), Verdict.ROOT_LOCKED)
+        self.assertEqual((Verdict.ROOT_LOCKED.text, Verdict.FIRM_LOCKED.text), ("s: RiskMgmtSymLevel", "f: RiskMgmtFirmLevel"))
+        self.assertIsNone(Verdict.FREE.text)
+        unit.clear()
+        self.refused(Refusal.NOT_ARMED, unit.offer, offer(30, 1))
+        self.assertEqual(repr(unit), "<Unit, not armed>")
+
+    def test_a_unit_that_is_not_armed_passes_nothing(self) -> None:
+        unit = Unit()
+        for call in (lambda: unit.order(Time(0), Root(0)), lambda: unit.offer(offer(0, 1)), lambda: unit.lockout(Time(0), Level()), unit.status):
+            self.refused(Refusal.NOT_ARMED, call)
+        self.refused(Refusal.NOT_ARMED, unit.remaining, Time(0), 0)
+        for view in ("clock", "firm", "rule_count", "root_count", "firm_marks"):
+            self.refused(Refusal.NOT_ARMED, getattr, unit, view)
+        self.refused(Refusal.NOT_ARMED, unit.root_marks, Root(0))
+
+    def test_a_refused_profile_names_its_line_and_leaves_the_unit(self) -> None:
+        unit = Unit()
+        for profile, refusal, line in [("", 5, None), (f"{EXAMPLE}\n\n", 6, 2), (f"{EXAMPLE}\nABCE,abs_vol,XYZ,1", 7, 2), ("ABCD,abs_vol,XYZ,0", 8, 1)]:
+            refused = self.refused(refusal, unit.arm, profile)
+            self.assertEqual(refused.line, line)
+            self.assertEqual(unit.memory(), bytes(8 * SIZE))
+        self.assertEqual(str(refused), "refused with 8 at line 1: the line's limit or time limit is out of range")
+        self.refused(Refusal.ARMED_ALREADY, unit.arm(EXAMPLE).arm, EXAMPLE)
+
+    def test_refusals_change_nothing(self) -> None:
+        unit = Unit().arm("ABCD,rate_vol,XYZ,1000000,60000")
+        for ms in range(512):
+            self.assertEqual(unit.offer(offer(ms, 1)).grant, 1)
+        before = unit.memory()
+        self.refused(Refusal.LOG_FULL, unit.offer, offer(1_000, 1))
+        self.refused(Refusal.BAD_TIME, unit.order, Time(510), Root(0), Reset.BOTH)
+        self.refused(Refusal.UNKNOWN, unit.offer, offer(1_000, 1, root=1))
+        self.refused(Refusal.UNKNOWN, unit.remaining, Time(1_000), 1)
+        self.assertEqual(unit.memory(), before)
+
+    def test_saved_memory_is_tested_before_it_is_taken(self) -> None:
+        unit = Unit().arm(EXAMPLE)
+        unit.offer(offer(5, 10))
+        again = Unit.adopt(unit.memory())
+        self.assertEqual((again.armed, again.clock, again.remaining(Time(5), 0)), (True, 5, 990))
+        other = unit.copy()
+        other.offer(offer(6, 990))
+        self.assertEqual((other.root_marks(Root(0)).tripped, unit.root_marks(Root(0)).tripped), (True, False))
+        self.refused(Refusal.NO_ROOM, Unit.adopt, unit.memory()[:-1])
+        damaged = bytearray(unit.memory())
+        damaged[0] = 7
+        self.refused(Refusal.UNSOUND, Unit.adopt, bytes(damaged))
+        self.assertFalse(Unit.adopt(bytes(8 * SIZE)).armed)
+        self.assertEqual(raw.status(raw.memory(0)), (1, 0, 0, 0, 0))
+
+    def test_status_and_marks_agree(self) -> None:
+        unit = Unit().arm("ABCD,abs_vol,XYZ,1000\nABCD,abs_vol,QQQ,1000\nABCD,abs_vol,SPY,1")
+        self.assertEqual(unit.roots(), [(0, "XYZ"), (1, "QQQ"), (2, "SPY")])
+        self.assertEqual((unit.root_named("SPY"), unit.root_named("IBM")), (2, None))
+        self.assertEqual(unit.status(), Status(0, 0, 0, None))
+        self.assertTrue(unit.offer(offer(5, 1_001)).cuts(Contracts(1_001)))
+        unit.lockout(Time(6), Level(Root(0)))
+        unit.lockout(Time(7), Level(Root(2)))
+        self.assertEqual(unit.status(), Status(1, 2, 2, Root(0)))
+        self.assertEqual([unit.root_marks(Root(n)) for n in range(3)], [Marks(True, True), Marks(), Marks(False, True)])
+        unit.lockout(Time(8), Level())
+        self.assertEqual((unit.firm_marks, unit.order(Time(9), Root(1))), (Marks(False, True), Verdict.FIRM_LOCKED))
+        self.assertEqual(repr(unit), "<Unit of firm ABCD, rules: 3, roots: 3, clock 00:00:00.009>")
+
+    def test_records_of_all_kinds_come_back(self) -> None:
+        events: list[Event] = [Order(Time(1), Root(63), Reset.BOTH), offer(86_399_999, 1_000_000, 63), Lockout(Time(2), Level(Root(5))), Lockout(Time(3), Level())]
+        for event in events:
+            self.assertEqual(from_record(event.to_record()), event)
+        self.assertEqual(offer(10, 200).to_record().hex(), "400000500001117000" + "0c8000")
+        stretch = b"".join(event.to_record() for event in events)
+        self.assertEqual(list(records(stretch + b"\0")), [*events, Refusal.FAULTY_RECORD])
+        self.refused(Refusal.FAULTY_RECORD, from_record, b"\xff" * 12)
+
+    def test_python_and_c_have_the_same_names_and_words(self) -> None:
+        header = (REPOSITORY / "include/mbrumzheg.h").read_text()
+        words = (REPOSITORY / "include/mbrumzheg_words.h").read_text()
+        named = {name: int(number) for name, number in re.findall(r"MBRUMZHEG_(\w+) = (\d+)", header)}
+        for refusal in Refusal:
+            self.assertEqual(named[refusal.name], refusal)
+            self.assertIn(f'case MBRUMZHEG_{refusal.name}: return "{refusal.sentence}";', words)
+        self.assertEqual([named[case.name] for case in [*UnitOfRoot, *Verdict]], [*UnitOfRoot, *Verdict])
+        self.assertEqual([named[f"RESET_{case.name}"] for case in Reset], list(Reset))
+        self.assertIn(f"#define MBRUMZHEG_SIZE {SIZE}\n", header)
+        self.assertIn(f'#define MBRUMZHEG_VERSION "{__version__}"\n', header)
