@@ -16,7 +16,7 @@ static void expect(bool holds, int line) {
 static uint64_t memory[MBRUMZHEG_SIZE];
 
 /* An order, a lockout or an offer was answered so. */
-static bool is(struct mbrumzheg_judged judged, int refusal, int verdict, uint32_t grant, bool root_trip, bool firm_trip) {
+static bool is(struct mbrumzheg_judged judged, int refusal, int verdict, uint64_t grant, bool root_trip, bool firm_trip) {
     return (int)judged.refusal == refusal && (int)judged.verdict == verdict && judged.grant == grant && judged.root_trip == root_trip &&
            judged.firm_trip == firm_trip;
 }
@@ -84,9 +84,10 @@ static void events(void) {
     struct mbrumzheg_event lockout = {MBRUMZHEG_KIND_LOCKOUT, 50, 0, 0, 0, 0, 0, MBRUMZHEG_LEVEL_FIRM};
     struct mbrumzheg_event none = {3, 60, 0, 0, 0, 0, 0, 0};
     EXPECT(is(mbrumzheg_try_event(memory, MBRUMZHEG_SIZE, order), 0, MBRUMZHEG_FREE, 0, false, false));
+    EXPECT(mbrumzheg_passes(mbrumzheg_try_event(memory, MBRUMZHEG_SIZE, order)) && !mbrumzheg_passes(offer(0, 1)));
     EXPECT(is(mbrumzheg_try_event(memory, MBRUMZHEG_SIZE, fill), 0, MBRUMZHEG_FREE, 5, false, false));
     EXPECT(is(mbrumzheg_try_event(memory, MBRUMZHEG_SIZE, lockout), 0, MBRUMZHEG_FREE, 0, false, false));
-    EXPECT(is(offer(60, 1), 0, MBRUMZHEG_FIRM_LOCKED, 0, false, false));
+    EXPECT(is(offer(60, 1), 0, MBRUMZHEG_FIRM_LOCKED, 0, false, false) && !mbrumzheg_passes(offer(60, 1)));
     EXPECT(is(mbrumzheg_try_event(memory, MBRUMZHEG_SIZE, none), MBRUMZHEG_FAULTY_RECORD, 0, 0, false, false));
 }
 

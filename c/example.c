@@ -14,17 +14,17 @@ static bool arm(const char *profile) {
     const struct mbrumzheg_armed armed = mbrumzheg_try_arm(memory, MBRUMZHEG_SIZE, profile, strlen(profile));
     char firm[9];
     if (armed.refusal != MBRUMZHEG_ACCEPTED) {
-        printf("refused %d %" PRIu32 ": %s\n", (int)armed.refusal, armed.line, mbrumzheg_refusal_text(armed.refusal));
+        printf("refused %d %" PRIu64 ": %s\n", (int)armed.refusal, armed.line, mbrumzheg_refusal_text(armed.refusal));
         return false;
     }
     mbrumzheg_name_text(armed.firm, firm);
-    printf("armed %s %" PRIu32 " %" PRIu32 "\n", firm, armed.rules, armed.roots);
+    printf("armed %s %" PRIu64 " %" PRIu64 "\n", firm, armed.rules, armed.roots);
     return true;
 }
 
 /* Prints an event's place and what it was answered: refusal, verdict, grant, root trip, firm trip. */
 static void print(int place, struct mbrumzheg_judged judged) {
-    printf("%d %d %d %" PRIu32 " %d %d\n", place, (int)judged.refusal, (int)judged.verdict, judged.grant, judged.root_trip, judged.firm_trip);
+    printf("%d %d %d %" PRIu64 " %d %d\n", place, (int)judged.refusal, (int)judged.verdict, judged.grant, judged.root_trip, judged.firm_trip);
 }
 
 /* An offered fill on the profile's first root, calls of the front month, at $7. */

@@ -30,7 +30,7 @@ private:
 namespace detail {
 
 template <class T>
-Result<T> refused(enum mbrumzheg_refusal refusal, std::uint32_t line = 0) { return {static_cast<Refusal>(refusal), line}; }
+Result<T> refused(enum mbrumzheg_refusal refusal, std::uint64_t line = 0) { return {static_cast<Refusal>(refusal), line}; }
 
 inline Result<Answer> answer(const mbrumzheg_judged& judged) {
     if (judged.refusal != MBRUMZHEG_ACCEPTED) return refused<Answer>(judged.refusal);

@@ -15,17 +15,17 @@
 /* What Arm answers: the refusal, for 6 to 11 with the first faulty line from 1; the firm's name as one number; how many rules and roots. */
 struct mbrumzheg_armed {
     enum mbrumzheg_refusal refusal;
-    uint32_t line;
+    uint64_t line;
     uint64_t firm;
-    uint32_t rules;
-    uint32_t roots;
+    uint64_t rules;
+    uint64_t roots;
 };
 
 /* What an order, a lockout or an offer is answered; of an offer also the contracts granted, and what this offer tripped. */
 struct mbrumzheg_judged {
     enum mbrumzheg_refusal refusal;
     enum mbrumzheg_verdict verdict;
-    uint32_t grant;
+    uint64_t grant;
     bool root_trip;
     bool firm_trip;
 };
@@ -39,10 +39,10 @@ struct mbrumzheg_remains {
 /* How many roots are tripped, locked by the user, locked at all; the lowest locked one, MBRUMZHEG_NO_ROOT if none. */
 struct mbrumzheg_standing {
     enum mbrumzheg_refusal refusal;
-    uint32_t tripped;
-    uint32_t locked_by_user;
-    uint32_t locked;
-    uint32_t lowest_locked;
+    uint64_t tripped;
+    uint64_t locked_by_user;
+    uint64_t locked;
+    uint64_t lowest_locked;
 };
 
 /* The text of a rejection, here with a terminating 0, and its length without it. */
@@ -86,10 +86,15 @@ static inline struct mbrumzheg_judged mbrumzheg_judged_in(const uint64_t *row) {
     struct mbrumzheg_judged judged;
     judged.refusal = mbrumzheg_refusal_in(row);
     judged.verdict = MBRUMZHEG_AS(enum mbrumzheg_verdict, row[MBRUMZHEG_ROW_VERDICT]);
-    judged.grant = MBRUMZHEG_AS(uint32_t, row[MBRUMZHEG_ROW_GRANT]);
+    judged.grant = row[MBRUMZHEG_ROW_GRANT];
     judged.root_trip = row[MBRUMZHEG_ROW_ROOT_TRIP] == 1;
     judged.firm_trip = row[MBRUMZHEG_ROW_FIRM_TRIP] == 1;
     return judged;
+}
+
+/* Whether an order or an offer may pass: it was not refused, and nothing is locked. */
+static inline bool mbrumzheg_passes(struct mbrumzheg_judged judged) {
+    return judged.refusal == MBRUMZHEG_ACCEPTED && judged.verdict == MBRUMZHEG_FREE;
 }
 
 /* mbrumzheg_arm; the text may be any bytes, as those of a string. */
@@ -98,10 +103,10 @@ static inline struct mbrumzheg_armed mbrumzheg_try_arm(uint64_t *memory, size_t 
     struct mbrumzheg_armed armed;
     mbrumzheg_arm(memory, memory_len, MBRUMZHEG_AS(const uint8_t *, text), text_len, row);
     armed.refusal = mbrumzheg_refusal_in(row);
-    armed.line = MBRUMZHEG_AS(uint32_t, row[MBRUMZHEG_ROW_LINE]);
+    armed.line = row[MBRUMZHEG_ROW_LINE];
     armed.firm = row[MBRUMZHEG_ROW_FIRM];
-    armed.rules = MBRUMZHEG_AS(uint32_t, row[MBRUMZHEG_ROW_RULES]);
-    armed.roots = MBRUMZHEG_AS(uint32_t, row[MBRUMZHEG_ROW_ROOTS]);
+    armed.rules = row[MBRUMZHEG_ROW_RULES];
+    armed.roots = row[MBRUMZHEG_ROW_ROOTS];
     return armed;
 }
 
@@ -164,10 +169,10 @@ static inline struct mbrumzheg_standing mbrumzheg_try_status(const uint64_t *mem
     struct mbrumzheg_standing standing;
     mbrumzheg_status(memory, memory_len, row);
     standing.refusal = mbrumzheg_refusal_in(row);
-    standing.tripped = MBRUMZHEG_AS(uint32_t, row[MBRUMZHEG_ROW_TRIPPED]);
-    standing.locked_by_user = MBRUMZHEG_AS(uint32_t, row[MBRUMZHEG_ROW_LOCKED_BY_USER]);
-    standing.locked = MBRUMZHEG_AS(uint32_t, row[MBRUMZHEG_ROW_LOCKED]);
-    standing.lowest_locked = MBRUMZHEG_AS(uint32_t, row[MBRUMZHEG_ROW_LOWEST_LOCKED]);
+    standing.tripped = row[MBRUMZHEG_ROW_TRIPPED];
+    standing.locked_by_user = row[MBRUMZHEG_ROW_LOCKED_BY_USER];
+    standing.locked = row[MBRUMZHEG_ROW_LOCKED];
+    standing.lowest_locked = row[MBRUMZHEG_ROW_LOWEST_LOCKED];
     return standing;
 }
 

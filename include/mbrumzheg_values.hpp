@@ -69,10 +69,10 @@ struct FirmLockout { Time time; };
 using Event = std::variant<Order, Offer, RootLockout, FirmLockout>;
 
 // What an event is answered; for orders and lockouts the grant is 0 and nothing trips.
-struct Answer { Verdict verdict; std::uint32_t grant; bool root_trip; bool firm_trip; };
+struct Answer { Verdict verdict; std::uint64_t grant; bool root_trip; bool firm_trip; };
 
 // How many roots are tripped, locked by the user, locked at all; the lowest locked one, MBRUMZHEG_NO_ROOT if none.
-struct Status { std::uint32_t tripped; std::uint32_t locked_by_user; std::uint32_t locked; std::uint32_t lowest_locked; };
+struct Status { std::uint64_t tripped; std::uint64_t locked_by_user; std::uint64_t locked; std::uint64_t lowest_locked; };
 
 using Record = std::array<std::uint8_t, MBRUMZHEG_RECORD_BYTES>;
 
@@ -81,7 +81,7 @@ template <class T>
 class [[nodiscard]] Result {
 public:
     Result(T answer) : kept_(std::in_place_type<T>, std::move(answer)) {}
-    Result(Refusal refusal, std::uint32_t line = 0) noexcept : kept_(std::in_place_type<Refusal>, refusal), line_(line) {}
+    Result(Refusal refusal, std::uint64_t line = 0) noexcept : kept_(std::in_place_type<Refusal>, refusal), line_(line) {}
 
     explicit operator bool() const noexcept { return std::holds_alternative<T>(kept_); }
 
@@ -94,7 +94,7 @@ public:
 
     // The refusal; to ask for that of an accepted call ends the program.
     Refusal refusal() const noexcept { return *kept<Refusal>(kept_); }
-    std::uint32_t line() const noexcept { return line_; }
+    std::uint64_t line() const noexcept { return line_; }
 
 private:
     template <class Which, class Kept>
@@ -105,7 +105,7 @@ private:
     }
 
     std::variant<Refusal, T> kept_;
-    std::uint32_t line_ = 0;
+    std::uint64_t line_ = 0;
 };
 
 }  // namespace mbrumzheg

@@ -1,0 +1,21 @@
+//! The header for C has each refusal's sentence in the crate's words, and the crate's record size.
+use mbrumzheg::{Refusal, RECORD_SIZE};
+
+const NUMBERS: &str = include_str!("../../../include/mbrumzheg.h");
+const WORDS: &str = include_str!("../../../include/mbrumzheg_words.h");
+
+#[test]
+fn sentences_are_the_headers() {
+    for refusal in Refusal::ALL {
+        let line = WORDS.lines().find(|line| line.ends_with(&format!(": return \"{}\";", refusal.sentence())));
+        let name = line.unwrap_or_else(|| panic!("{refusal}")).trim_start().split([' ', ':']).nth(1).expect("a name");
+        let numbered = [name, "=", &refusal.number().to_string()];
+        let of_line = |line: &str| line.replace(',', " ").split_whitespace().take(3).eq(numbered);
+        assert!(NUMBERS.lines().any(of_line), "{name} {}", refusal.number());
+    }
+}
+
+#[test]
+fn a_record_has_as_many_bytes() {
+    assert!(NUMBERS.contains(&format!("#define MBRUMZHEG_RECORD_BYTES {RECORD_SIZE}\n")));
+}
