@@ -91,20 +91,31 @@ fn a_reader_that_goes_away_ends_the_desk_quietly() {
     fs::remove_dir_all(place).expect("removed");
 }
 
-/// The profile and the commands of the dialogue in the README, run as they stand there.
+/// The dialogues in a paper: for each the profile, and what was spoken.
+fn dialogues(paper: &str) -> Vec<(String, String)> {
+    let paper = fs::read_to_string(Path::new(env!("CARGO_MANIFEST_DIR")).join("..").join(paper)).expect("a paper");
+    let blocks = paper.split("```\n$ cat profile\n").skip(1).map(|block| block.split_once("```\n").expect("a dialogue ends").0);
+    blocks
+        .map(|block| block.split_once("$ desk\n").expect("a call of the desk"))
+        .map(|(profile, spoken)| (profile.into(), spoken.into()))
+        .collect()
+}
+
 #[test]
-fn the_dialogue_in_the_readme_is_true() {
-    let readme = fs::read_to_string(Path::new(env!("CARGO_MANIFEST_DIR")).join("../README.md")).expect("the README");
-    let (_, from_profile) = readme.split_once("```\n$ cat profile\n").expect("the profile is shown");
-    let (dialogue, _) = from_profile.split_once("```\n").expect("the dialogue ends");
-    let (profile, spoken) = dialogue.split_once("$ desk\n").expect("a call of the desk");
-    let place = workplace("dialogue");
-    fs::write(place.join("profile"), profile).expect("written");
-    let commands: String = spoken.lines().filter_map(|line| line.strip_prefix("> ")).map(|line| format!("{line}\n")).collect();
-    fs::write(place.join("dialogue"), commands).expect("written");
-    let output = desk(&place).arg("dialogue").output().expect("the desk runs");
-    assert_eq!(text(&output.stdout), spoken);
-    fs::remove_dir_all(place).expect("removed");
+fn the_dialogues_in_the_papers_are_true() {
+    for paper in ["README.md", "docs/DESK.md", "docs/CALLS.md"] {
+        let shown = dialogues(paper);
+        assert!(!shown.is_empty(), "{paper} has a dialogue");
+        for (profile, spoken) in shown {
+            let place = workplace("dialogue");
+            fs::write(place.join("profile"), profile).expect("written");
+            let commands: String = spoken.lines().filter_map(|line| line.strip_prefix("> ")).map(|line| format!("{line}\n")).collect();
+            fs::write(place.join("dialogue"), commands).expect("written");
+            let output = desk(&place).arg("dialogue").output().expect("the desk runs");
+            assert_eq!(text(&output.stdout), spoken, "{paper}");
+            fs::remove_dir_all(place).expect("removed");
+        }
+    }
 }
 
 fn ended_with(place: &Path, words: &[&str], input: &str) -> (Option<i32>, String, String) {
