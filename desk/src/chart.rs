@@ -1,16 +1,24 @@
-//! What every picture on the page shares: the time axis, and the shape of each mark.
+//! What every picture on the page shares: the time axis, the lines at shares of a limit, and the shape of each mark. Places along the axis are shares of
+//! its width, so that a picture is drawn anew for every width of the page, and nothing in it is scaled but the curve.
 
-use crate::day::{Kind, Mark};
+use crate::marks::{Kind, Tally};
+use crate::scale::Scale;
+use crate::words::grouped;
 
-/// The place of a picture's time axis, in the picture's own units.
+/// Where a rule's picture has its limit and its nothing, in pixels from its top.
+pub const TOP: f64 = 22.0;
+/// Nothing used.
+pub const BOTTOM: f64 = 106.0;
+/// The height of a rule's picture.
+pub const HEIGHT: f64 = 128.0;
+
+/// The time axis.
 #[derive(Clone, Copy)]
 pub struct Axis {
-    /// Where the axis begins.
-    pub left: f64,
-    /// How long it is.
-    pub width: f64,
-    /// The first and last time, in milliseconds.
-    pub span: (u64, u64),
+    /// The buckets.
+    pub scale: Scale,
+    /// How many of them are shown.
+    pub count: u64,
 }
 
 /// Distances between ticks, in milliseconds.
@@ -20,33 +28,45 @@ const STEPS: [u64; 25] = [
 ];
 
 impl Axis {
-    /// Where a time stands.
-    pub fn x(&self, ms: u64) -> f64 {
-        let (first, last) = self.span;
-        let passed = ms.clamp(first, last) - first;
-        self.left + self.width * passed as f64 / (last - first).max(1) as f64
+    /// The axis from a scale's begin to a time.
+    pub fn to(scale: Scale, last: u64) -> Axis {
+        Axis { scale, count: scale.count(last) }
     }
 
-    /// Where the axis ends.
-    pub fn right(&self) -> f64 {
-        self.left + self.width
+    fn length(&self) -> u64 {
+        self.count * self.scale.width
+    }
+
+    /// Where a time stands, in percent of the axis.
+    pub fn percent(&self, ms: u64) -> f64 {
+        let passed = ms.saturating_sub(self.scale.first).min(self.length());
+        100.0 * passed as f64 / self.length() as f64
     }
 
     /// At most nine times with their labels.
     fn ticks(&self) -> Vec<(u64, String)> {
-        let (first, last) = self.span;
+        let (first, last) = (self.scale.first, self.scale.first + self.length());
         let step = STEPS.iter().copied().find(|step| (last - first) / step <= 8).unwrap_or(21_600_000);
         let from = first.div_ceil(step);
         (from..=last / step).map(|n| (n * step, label(n * step, step, last))).collect()
     }
 
-    /// The axis with its ticks, as lines over a height and labels below.
+    /// The ticks as lines from one height to another, and labels below. Narrow pages show every second or every fourth label.
     pub fn draw(&self, top: f64, bottom: f64) -> String {
         let mut text = String::new();
-        for (ms, label) in self.ticks() {
-            let x = self.x(ms);
-            text.push_str(&format!("<line class=\"grid\" x1=\"{x:.1}\" y1=\"{top}\" x2=\"{x:.1}\" y2=\"{bottom}\"/>"));
-            text.push_str(&format!("<text class=\"tick\" x=\"{x:.1}\" y=\"{:.1}\" text-anchor=\"middle\">{label}</text>", bottom + 19.0));
+        for (place, (ms, label)) in self.ticks().iter().enumerate() {
+            let x = self.percent(*ms);
+            let anchor = match x {
+                x if x < 4.0 => "start",
+                x if x > 96.0 => "end",
+                _ => "middle",
+            };
+            let class = ["tick", "tick odd", "tick second", "tick odd"][place % 4];
+            text.push_str(&format!("<line class=\"grid\" x1=\"{x:.2}%\" y1=\"{top}\" x2=\"{x:.2}%\" y2=\"{bottom}\"/>"));
+            text.push_str(&format!(
+                "<text class=\"{class}\" x=\"{x:.2}%\" y=\"{}\" text-anchor=\"{anchor}\">{label}</text>",
+                bottom + 17.0
+            ));
         }
         text
     }
@@ -67,55 +87,79 @@ fn label(ms: u64, step: u64, last: u64) -> String {
     }
 }
 
-/// A mark's shape at a place; kinds differ by shape as well as by colour.
-pub fn shape(kind: Kind, x: f64, y: f64) -> String {
+/// The lines at the limit, at 80 and 50 percent of it, and at nothing.
+pub fn levels() -> String {
+    let line = |class: &str, share: f64| {
+        let y = BOTTOM - (BOTTOM - TOP) * share;
+        format!("<line class=\"{class}\" x1=\"0\" y1=\"{y:.1}\" x2=\"100%\" y2=\"{y:.1}\"/>")
+    };
+    [line("limit", 1.0), line("share", 0.8), line("share", 0.5), line("base", 0.0)].concat()
+}
+
+/// A mark's shape around a place; kinds differ by shape as well as by colour.
+pub fn shape(kind: Kind) -> &'static str {
     match kind {
-        Kind::Cut => format!("<path class=\"cut\" d=\"M{:.1} {:.1}h11l-5.5 9.5z\"/>", x - 5.5, y - 4.5),
-        Kind::Trip => {
-            let (left, top) = (x - 4.5, y - 4.5);
-            format!("<path class=\"trip\" d=\"M{left:.1} {top:.1}l9 9m0 -9l-9 9\"/>")
-        }
-        Kind::Reset => format!("<circle class=\"reset\" cx=\"{x:.1}\" cy=\"{y:.1}\" r=\"4.5\"/>"),
-        Kind::Lockout => format!("<rect class=\"lockout\" x=\"{:.1}\" y=\"{:.1}\" width=\"9\" height=\"9\"/>", x - 4.5, y - 4.5),
-        Kind::Rejected => format!("<line class=\"rejected\" x1=\"{x:.1}\" y1=\"{:.1}\" x2=\"{x:.1}\" y2=\"{:.1}\"/>", y - 4.0, y + 4.0),
+        Kind::Cut => "<path class=\"cut\" d=\"M-5.5 -4.5h11l-5.5 9.5z\"/>",
+        Kind::Trip => "<path class=\"trip\" d=\"M-4.5 -4.5l9 9m0 -9l-9 9\"/>",
+        Kind::Reset => "<circle class=\"reset\" r=\"4.5\"/>",
+        Kind::Lockout => "<rect class=\"lockout\" x=\"-4.5\" y=\"-4.5\" width=\"9\" height=\"9\"/>",
+        Kind::Rejected => "<line class=\"rejected\" y1=\"-4\" y2=\"4\"/>",
     }
 }
 
-/// What a kind of mark means.
-pub fn meaning(kind: Kind) -> &'static str {
+/// The name by which a kind's shape is used.
+pub fn shape_id(kind: Kind) -> &'static str {
     match kind {
         Kind::Cut => "cut",
         Kind::Trip => "trip",
         Kind::Reset => "reset",
-        Kind::Lockout => "lockout by hand",
+        Kind::Lockout => "lockout",
         Kind::Rejected => "rejected",
     }
 }
 
-/// Marks of one kind, those that would lie on one another drawn once, with what happened as their title.
-pub fn marks(axis: &Axis, all: &[Mark], kind: Kind, y: impl Fn(&Mark) -> f64) -> String {
+/// Marks at their times, each at the height of its kind, with how many they are and in which records as their title.
+pub fn marks(axis: &Axis, tallies: &[Tally], height: impl Fn(Kind) -> f64) -> String {
     let mut text = String::new();
-    let mut rest = all.iter().filter(|mark| mark.kind == kind).peekable();
-    while let Some(first) = rest.next() {
-        let x = axis.x(first.ms);
-        let mut more = 0;
-        while rest.next_if(|next| axis.x(next.ms) - x < 6.0).is_some() {
-            more += 1;
-        }
-        let title = if more > 0 { format!("{} (and {more} more here)", first.words) } else { first.words.clone() };
-        text.push_str(&format!("<g><title>{}</title>{}</g>", escaped(&title), shape(kind, x, y(first))));
+    for tally in tallies {
+        let (first, last) = tally.places;
+        let places = if first == last {
+            format!("record {}", grouped(first as u64))
+        } else {
+            format!("records {} to {}", grouped(first as u64), grouped(last as u64))
+        };
+        text.push_str(&format!(
+            "<use href=\"#{}\" x=\"{:.2}%\" y=\"{}\"><title>{}, {places}</title></use>",
+            shape_id(tally.kind),
+            axis.percent(tally.ms),
+            height(tally.kind),
+            tally.kind.counted(tally.count)
+        ));
     }
     text
 }
 
-/// Bands in which a level was locked.
-pub fn locked(axis: &Axis, bands: &[(u64, u64)], top: f64, height: f64) -> String {
+/// Stretches of time as a path over an axis of so many buckets, one high.
+pub fn bands(axis: &Axis, stretches: &[(u64, u64)]) -> String {
     let mut text = String::new();
-    for (from, to) in bands {
-        let (x, width) = (axis.x(*from), (axis.x(*to) - axis.x(*from)).max(1.0));
-        text.push_str(&format!("<rect class=\"locked\" x=\"{x:.1}\" y=\"{top}\" width=\"{width:.1}\" height=\"{height}\"/>"));
+    for (from, to) in stretches {
+        let (first, last) = (axis.scale.bucket(*from), axis.scale.bucket(*to));
+        let width = (last - first).max(1);
+        text.push_str(&format!("M{first} 0h{width}v1h-{width}z"));
     }
     text
+}
+
+/// Draws ever coarser pictures until all of them together are short enough.
+pub fn within<T>(most: usize, draw: impl Fn(u32) -> Vec<T>, length: impl Fn(&T) -> usize) -> (u32, Vec<T>) {
+    let mut coarseness = 0;
+    loop {
+        let drawn = draw(coarseness);
+        if coarseness >= 11 || drawn.iter().map(&length).sum::<usize>() <= most {
+            return (coarseness, drawn);
+        }
+        coarseness += 1;
+    }
 }
 
 /// A text that may stand in a page.

@@ -24,8 +24,13 @@ pub enum Command {
     Status,
     /// Forget everything.
     Clear,
-    /// Write the day's events to a file.
-    Save(String),
+    /// Write the day's records to a file.
+    Save {
+        /// The file to write.
+        file: String,
+        /// Whether a file that is there already may be written over.
+        over: bool,
+    },
     /// Pass the events of a file; `quiet` shows only what did not simply pass.
     Replay {
         /// The file of records.
@@ -64,7 +69,7 @@ pub fn read(line: &str) -> Result<Command, String> {
         "remaining" | "rules" => Ok(Command::Remaining(words())),
         "status" => alone(rest, "status", Command::Status),
         "clear" => alone(rest, "clear", Command::Clear),
-        "save" => file(rest, "save FILE").map(Command::Save),
+        "save" => save(rest),
         "replay" => replay(rest),
         "report" => report(rest),
         "help" | "?" => Ok(Command::Help(Some(rest.to_string()).filter(|name| !name.is_empty()))),
@@ -88,10 +93,23 @@ fn alone(rest: &str, name: &str, command: Command) -> Result<Command, String> {
 }
 
 fn replay(rest: &str) -> Result<Command, String> {
-    let quiet = rest.split_whitespace().last().is_some_and(|word| word == "quiet") && rest.contains(char::is_whitespace);
-    let name = if quiet { rest.trim_end_matches("quiet") } else { rest };
-    let file = file(name.trim(), "replay FILE, or replay FILE quiet")?;
+    let (name, quiet) = with_last(rest, "quiet");
+    let file = file(name, "replay FILE, or replay FILE quiet")?;
     Ok(Command::Replay { file, quiet })
+}
+
+fn save(rest: &str) -> Result<Command, String> {
+    let (name, over) = with_last(rest, "over");
+    let file = file(name, "save FILE, or save FILE over to write over a file that is there")?;
+    Ok(Command::Save { file, over })
+}
+
+/// What stands before a last word, and whether that word is there.
+fn with_last<'a>(rest: &'a str, word: &str) -> (&'a str, bool) {
+    match rest.rsplit_once(char::is_whitespace) {
+        Some((name, last)) if last == word => (name.trim(), true),
+        _ => (rest, false),
+    }
 }
 
 fn report(rest: &str) -> Result<Command, String> {

@@ -6,10 +6,10 @@ use crate::check;
 use crate::command::{self, Command};
 use crate::files;
 use crate::help;
-use crate::report;
-use crate::sitting::{Passed, Sitting};
-use crate::table::{self, counted};
-use mbrumzheg::{Event, Records, Unit};
+use crate::keeping::Caution;
+use crate::sitting::Sitting;
+use crate::table;
+use mbrumzheg::{Event, Unit};
 use std::io::{self, Write};
 
 /// What stands on the desk: a unit without rules, or one with a day behind it.
@@ -18,9 +18,17 @@ enum Bench {
     Armed(Box<Sitting>),
 }
 
+impl Default for Bench {
+    fn default() -> Bench {
+        Bench::Unarmed(Unit::new())
+    }
+}
+
 /// The desk.
+#[derive(Default)]
 pub struct Desk {
     bench: Bench,
+    pub(crate) caution: Caution,
 }
 
 /// Whether the desk goes on after a line.
@@ -39,17 +47,20 @@ const RULES_SHOWN: usize = 12;
 
 const ARM_FIRST: &str = "the unit is not armed, so nothing can be passed or asked (refusal 4); type arm FILE first";
 
-impl Default for Desk {
-    fn default() -> Desk {
-        Desk { bench: Bench::Unarmed(Unit::new()) }
-    }
-}
-
 impl Desk {
+    /// A desk at a terminal: it asks before events are lost that nobody saved.
+    pub fn asking() -> Desk {
+        Desk { caution: Caution::asking(), ..Desk::default() }
+    }
+
     /// Carries out a line and writes the answer; an error only if the answer cannot be written.
     pub fn line(&mut self, line: &str, out: &mut dyn Write) -> io::Result<After> {
+        self.caution.next_line();
         let done = match command::read(line) {
-            Ok(Command::Quit) => return Ok(After::End),
+            Ok(Command::Quit) => match self.question("quit") {
+                None => return Ok(After::End),
+                Some(question) => Err(question),
+            },
             Ok(Command::Replay { file, quiet }) => self.replay(&file, quiet, out)?,
             Ok(command) => self.carry_out(command),
             Err(advice) => Err(advice),
@@ -70,8 +81,8 @@ impl Desk {
             Command::Lock(words) => self.pass(|names| names.lockout(&words)),
             Command::Remaining(words) => self.remaining(&words),
             Command::Status => table::status(self.sitting()?).map_err(|refusal| refusal.to_string()),
-            Command::Clear => Ok(self.clear()),
-            Command::Save(file) => self.save(&file),
+            Command::Clear => self.clear(),
+            Command::Save { file, over } => self.save(&file, over),
             Command::Report { file, stretch } => self.report(&file, stretch),
             Command::Help(None) => Ok(help::list()),
             Command::Help(Some(name)) => help::on(&name).ok_or_else(|| no_help(&name)),
@@ -87,7 +98,7 @@ impl Desk {
         }
     }
 
-    fn sitting(&mut self) -> Result<&mut Sitting, String> {
+    pub(crate) fn sitting(&mut self) -> Result<&mut Sitting, String> {
         match &mut self.bench {
             Bench::Armed(sitting) => Ok(sitting),
             Bench::Unarmed(_) => Err(ARM_FIRST.to_string()),
@@ -95,7 +106,7 @@ impl Desk {
     }
 
     fn arm(&mut self, file: &str) -> Result<String, String> {
-        let unit = match std::mem::take(self).bench {
+        let unit = match std::mem::take(&mut self.bench) {
             Bench::Unarmed(unit) => unit,
             Bench::Armed(sitting) => {
                 let advice = format!("armed already for {} (refusal 3); type clear first", sitting.profile.firm);
@@ -105,7 +116,7 @@ impl Desk {
         };
         let text = files::profile(file)?;
         let armed = unit.arm(&text).map_err(|refused| check::not_armed(file, &text, refused.why))?;
-        let sitting = Sitting::new(armed, &text);
+        let sitting = Sitting::new(armed, file, &text);
         let words = check::armed(&sitting.profile, RULES_SHOWN);
         self.bench = Bench::Armed(Box::new(sitting));
         Ok(words)
@@ -128,89 +139,22 @@ impl Desk {
         })
     }
 
-    fn clear(&mut self) -> String {
-        let before = std::mem::take(self).bench;
-        if let Bench::Armed(sitting) = before {
+    fn clear(&mut self) -> Result<String, String> {
+        if let Some(question) = self.question("clear") {
+            return Err(question);
+        }
+        if let Bench::Armed(sitting) = std::mem::take(&mut self.bench) {
             self.bench = Bench::Unarmed(sitting.unit.clear());
         }
-        "cleared: the unit holds no rules, and nothing may pass until it is armed  [0]".to_string()
+        Ok("cleared: the unit holds no rules, and nothing may pass until it is armed  [0]".to_string())
     }
 
-    fn save(&mut self, file: &str) -> Result<String, String> {
-        let sitting = self.sitting()?;
-        files::write_records(file, &sitting.events)?;
-        Ok(format!("saved {} to {file}", counted(sitting.events.len(), "record")))
-    }
-
-    fn report(&mut self, file: &str, stretch: Option<(String, String)>) -> Result<String, String> {
-        let sitting = self.sitting()?;
-        let names = Names { profile: &sitting.profile, clock: sitting.unit.clock() };
-        let stretch = stretch.map(|(from, to)| names.stretch(&from, &to)).transpose()?;
-        let page = report::page(&sitting.profile, &sitting.events, stretch)?;
-        files::write_page(file, &page)?;
-        Ok(format!("wrote a page on {} to {file}", counted(sitting.events.len(), "event")))
-    }
-
-    fn replay(&mut self, file: &str, quiet: bool, out: &mut dyn Write) -> io::Result<Result<String, String>> {
-        let sitting = match self.sitting() {
-            Ok(sitting) => sitting,
-            Err(advice) => return Ok(Err(advice)),
-        };
-        let bytes = match files::day(file) {
-            Ok(bytes) => bytes,
-            Err(advice) => return Ok(Err(advice)),
-        };
-        let clock = sitting.unit.clock();
-        let mut sums = Sums::default();
-        for record in Records::new(&bytes) {
-            let passed = match record {
-                Ok(event) => sitting.pass(event),
-                Err(_) => sitting.pass_faulty(),
-            };
-            sums.add(&passed);
-            if !quiet || passed.is_notable() {
-                writeln!(out, "{}", answer::replayed(sitting, &passed))?;
-            }
+    /// How many typed events would be lost now.
+    pub fn unsaved(&self) -> usize {
+        match &self.bench {
+            Bench::Armed(sitting) => sitting.unsaved,
+            Bench::Unarmed(_) => 0,
         }
-        let late = matches!(Records::new(&bytes).next(), Some(Ok(first)) if first.time() < clock);
-        let advice =
-            if late { "; that day begins before the unit's clock: type clear and arm FILE to replay it from its start" } else { "" };
-        Ok(Ok(format!("{}{advice}", sums.words())))
-    }
-}
-
-/// What a replay came to.
-#[derive(Default)]
-struct Sums {
-    all: usize,
-    cuts: usize,
-    trips: usize,
-    rejected: usize,
-    refused: usize,
-}
-
-impl Sums {
-    fn add(&mut self, passed: &Passed) {
-        self.all += 1;
-        self.cuts += usize::from(passed.is_cut());
-        match &passed.answer {
-            Ok(answer) => {
-                self.trips += usize::from(answer.root_trip) + usize::from(answer.firm_trip);
-                self.rejected += usize::from(!answer.verdict.passes());
-            }
-            Err(_) => self.refused += 1,
-        }
-    }
-
-    fn words(&self) -> String {
-        format!(
-            "replayed {}: {}, {}, {} rejected, {} refused",
-            counted(self.all, "record"),
-            counted(self.cuts, "cut"),
-            counted(self.trips, "trip"),
-            self.rejected,
-            self.refused
-        )
     }
 }
 

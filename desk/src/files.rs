@@ -1,65 +1,78 @@
-//! Files that the desk reads and writes, none of them longer than the desk can hold.
+//! Files that the desk reads and writes. None is written over by a slip, and none is left half written.
 
-use mbrumzheg::{Event, RecordWriter, Records, RECORD_SIZE};
+use crate::spool::Spool;
 use std::fs::File;
 use std::io::{self, BufWriter, Read, Write};
+use std::path::PathBuf;
 
 /// A profile is read one byte past the longest, so that the library sees that it is too long.
 pub const PROFILE_BYTES: u64 = 65_537;
-/// A day of records, four million of them.
-const DAY_BYTES: u64 = 4_000_000 * RECORD_SIZE as u64;
 
 /// The bytes of a profile.
 pub fn profile(name: &str) -> Result<Vec<u8>, String> {
-    at_most(name, PROFILE_BYTES)
-}
-
-/// The bytes of a day's records.
-pub fn day(name: &str) -> Result<Vec<u8>, String> {
-    let bytes = at_most(name, DAY_BYTES + 1)?;
-    if bytes.len() as u64 > DAY_BYTES {
-        return Err(format!("'{name}' has more than 4,000,000 records, more than the desk replays; split it"));
-    }
-    Ok(bytes)
-}
-
-fn at_most(name: &str, limit: u64) -> Result<Vec<u8>, String> {
     let mut bytes = Vec::new();
-    let read = File::open(name).and_then(|file| file.take(limit).read_to_end(&mut bytes));
-    match read {
-        Ok(_) => Ok(bytes),
-        Err(error) => Err(format!("'{name}' cannot be read ({}); type the name of a file that is there", reason(&error))),
-    }
+    let read = File::open(name).and_then(|file| file.take(PROFILE_BYTES).read_to_end(&mut bytes));
+    read.map(|_| bytes).map_err(|error| cannot_read(name, &error))
 }
 
-/// Writes events as records; a file that is there already is written over only if it holds records.
-pub fn write_records(name: &str, events: &[Event]) -> Result<(), String> {
-    replaceable(name, "records", |bytes| Records::new(bytes).all(|record| record.is_ok()))?;
-    let written = File::create(name).and_then(|file| {
-        let mut writer = RecordWriter::new(BufWriter::new(file));
-        for event in events {
-            writer.write(event)?;
-        }
-        writer.finish().map(drop)
+/// A file of records to be read from its start, and how many bytes it has, if that is known.
+pub fn records(name: &str) -> Result<(Box<dyn Read>, Option<u64>), String> {
+    let opened = File::open(name).and_then(|file| file.metadata().map(|about| (file, about)));
+    let (file, about) = opened.map_err(|error| cannot_read(name, &error))?;
+    if about.is_dir() {
+        return Err(cannot_read(name, &io::ErrorKind::IsADirectory.into()));
+    }
+    let bytes = about.is_file().then_some(about.len());
+    Ok((Box::new(file), bytes))
+}
+
+/// Writes a day's records; a file that is there already stays as it is, unless `over` says that it may be written over.
+pub fn write_records(name: &str, day: &Spool, over: bool) -> Result<(), String> {
+    let there = std::fs::symlink_metadata(name);
+    if there.as_ref().is_ok_and(|about| about.is_dir()) {
+        return Err(cannot_write(name, &io::ErrorKind::IsADirectory.into()));
+    }
+    if !over && there.is_ok() {
+        return Err(format!("'{name}' is there already and is left alone; type save {name} over to write over it, or another name"));
+    }
+    let all = |to: &mut dyn Write| day.reader().and_then(|mut from| io::copy(&mut from, to)).map(drop);
+    whole(name, all).map_err(|error| cannot_write(name, &error))
+}
+
+/// Writes a page or its figures; a file that is there already is written over only if it begins as such a one does.
+pub fn write_report(name: &str, text: &str) -> Result<(), String> {
+    let beginning: String = text.chars().take_while(|c| *c != '\n').take(15).collect();
+    let mut held = Vec::new();
+    let there = File::open(name).and_then(|file| file.take(beginning.len() as u64).read_to_end(&mut held));
+    if there.is_ok() && !held.is_empty() && held != beginning.as_bytes() {
+        return Err(format!("'{name}' is there and is no report of the desk's, so it is left alone; type another name"));
+    }
+    whole(name, |to| to.write_all(text.as_bytes())).map_err(|error| cannot_write(name, &error))
+}
+
+/// Writes a file in full under another name, and gives it its own name only then. What is no plain file, a device or a pipe, is written to.
+fn whole(name: &str, write: impl Fn(&mut dyn Write) -> io::Result<()>) -> io::Result<()> {
+    let path = std::fs::canonicalize(name).unwrap_or_else(|_| PathBuf::from(name));
+    if std::fs::metadata(&path).is_ok_and(|there| !there.is_file()) {
+        return File::options().write(true).open(&path).and_then(|mut file| write(&mut file));
+    }
+    let mut beside = path.clone().into_os_string();
+    beside.push(format!(".{}.part", std::process::id()));
+    let written = File::options().write(true).create_new(true).open(&beside).and_then(|file| {
+        let mut buffered = BufWriter::new(file);
+        write(&mut buffered)?;
+        buffered.flush()
     });
-    written.map_err(|error| cannot_write(name, &error))
+    let named = written.and_then(|()| std::fs::rename(&beside, &path));
+    if named.is_err() {
+        // what was written in part is of no use; where it cannot be removed, nothing better can be done
+        let _ = std::fs::remove_file(&beside);
+    }
+    named
 }
 
-/// Writes a page; a file that is there already is written over only if it holds a page.
-pub fn write_page(name: &str, text: &str) -> Result<(), String> {
-    replaceable(name, "a page", |bytes| bytes.is_empty() || bytes.starts_with(b"<!DOCTYPE html>"))?;
-    File::create(name).and_then(|mut file| file.write_all(text.as_bytes())).map_err(|error| cannot_write(name, &error))
-}
-
-/// Keeps a profile, or any other file of the person's, from being written over by a slip.
-fn replaceable(name: &str, wanted: &str, holds: impl Fn(&[u8]) -> bool) -> Result<(), String> {
-    if !std::fs::metadata(name).is_ok_and(|there| there.is_file()) {
-        return Ok(());
-    }
-    match at_most(name, DAY_BYTES) {
-        Ok(bytes) if !holds(&bytes) => Err(format!("'{name}' is there and does not hold {wanted}, so it is left alone; type another name")),
-        _ => Ok(()),
-    }
+fn cannot_read(name: &str, error: &io::Error) -> String {
+    format!("'{name}' cannot be read ({}); type the name of a file that is there", reason(error))
 }
 
 fn cannot_write(name: &str, error: &io::Error) -> String {

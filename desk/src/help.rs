@@ -86,10 +86,11 @@ pub const COMMANDS: [Topic; 13] = [
     },
     Topic {
         name: "save",
-        form: "save FILE",
+        form: "save FILE [over]",
         short: "write the day's events as 12-byte records",
-        long: "Writes every event of the day, refused ones too, as records that the program and replay read.",
-        examples: &["save day.records"],
+        long: "Writes every record of the day, refused and faulty ones too, byte for byte and in their places, so that the program and replay \
+               print the same lines. A file that is there already is left alone, unless over is typed after its name.",
+        examples: &["save day.records", "save day.records over"],
     },
     Topic {
         name: "replay",
@@ -103,8 +104,9 @@ pub const COMMANDS: [Topic; 13] = [
         name: "report",
         form: "report FILE [from TIME to TIME]",
         short: "write a page (HTML) on the day, or a stretch of it",
-        long: "Writes one file that any browser shows: the use of every rule against its limit over time, and what did not simply pass.",
-        examples: &["report day.html", "report day.html from 09:30 to 10:00"],
+        long: "Writes one file that any browser shows: the rules by the greatest share of their limit, locks, the use of every rule over time, \
+               and what did not simply pass. With a name that ends in .csv or .json, the same figures without pictures.",
+        examples: &["report day.html", "report day.html from 09:30 to 10:00", "report day.json"],
     },
     Topic {
         name: "clear",
@@ -120,7 +122,7 @@ pub const COMMANDS: [Topic; 13] = [
         long: "There is also help time, help numbers, help refusals and help profile.",
         examples: &["help offer", "help refusals"],
     },
-    Topic { name: "quit", form: "quit", short: "the end", long: "Ends the desk, as the end of the input does.", examples: &["quit"] },
+    Topic { name: "quit", form: "quit", short: "the end", long: "Ends the desk, as the end of the input does. At a terminal it asks first where typed events are not saved.", examples: &["quit"] },
 ];
 
 /// What help can be asked for besides commands.

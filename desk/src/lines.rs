@@ -19,6 +19,11 @@ pub enum Manner {
 pub trait Lines {
     /// The next line without its end, asked for by a prompt; nothing at the end of the input.
     fn next(&mut self, prompt: &str, desk: &Desk, out: &mut dyn Write) -> io::Result<Option<String>>;
+
+    /// Whether somebody is there to answer a question.
+    fn asked(&self) -> bool {
+        true
+    }
 }
 
 /// Lines from a file, a pipe, or a terminal that edits them itself.
@@ -46,29 +51,49 @@ impl Lines for FromInput<'_> {
         }
         Ok(Some(line))
     }
+
+    fn asked(&self) -> bool {
+        self.manner == Manner::Asked
+    }
 }
 
-/// Carries out every line to the end of the input, or to `quit`; answers how many could not be carried out.
-pub fn run(input: &mut dyn BufRead, out: &mut dyn Write, manner: Manner) -> io::Result<usize> {
+/// What a dialogue came to.
+#[derive(Clone, Copy, Debug, PartialEq, Eq)]
+pub struct Ended {
+    /// How many lines could not be carried out.
+    pub not_done: usize,
+    /// How many typed events nobody saved.
+    pub unsaved: usize,
+}
+
+/// Carries out every line to the end of the input, or to `quit`.
+pub fn run(input: &mut dyn BufRead, out: &mut dyn Write, manner: Manner) -> io::Result<Ended> {
     talk(&mut FromInput { input, manner }, out)
 }
 
 /// The same for lines that come from elsewhere.
-pub fn talk(lines: &mut dyn Lines, out: &mut dyn Write) -> io::Result<usize> {
-    let mut desk = Desk::default();
+pub fn talk(lines: &mut dyn Lines, out: &mut dyn Write) -> io::Result<Ended> {
+    let asked = lines.asked();
+    let mut desk = if asked { Desk::asking() } else { Desk::default() };
     let mut not_done = 0;
-    while let Some(line) = lines.next("> ", &desk, out)? {
-        match desk.line(&plain(&line), out)? {
+    loop {
+        let line = match lines.next("> ", &desk, out)? {
+            Some(line) => plain(&line),
+            // the end of a terminal's input is a quit, which may have to be said twice
+            None if asked => "quit".to_string(),
+            None => break,
+        };
+        match desk.line(&line, out)? {
             After::Done => {}
             After::NotDone => not_done += 1,
             After::End => break,
         }
     }
-    Ok(not_done)
+    Ok(Ended { not_done, unsaved: desk.unsaved() })
 }
 
 /// A dialogue at a terminal that edits its lines itself.
-pub fn by_the_terminal(out: &mut dyn Write) -> io::Result<usize> {
+pub fn by_the_terminal(out: &mut dyn Write) -> io::Result<Ended> {
     run(&mut io::stdin().lock(), out, Manner::Asked)
 }
 

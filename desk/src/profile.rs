@@ -3,6 +3,7 @@
 //! Whether a profile is good, the library alone decides. This reading is of accepted text and never fails: a field that is
 //! missing reads as empty.
 
+use crate::standing::level_of;
 use crate::words::{self, Amount};
 use mbrumzheg::{Offer, UnitOfRoot};
 
@@ -100,6 +101,11 @@ impl Profile {
     /// The rules that cover an offer.
     pub fn covering<'a>(&'a self, offer: &'a Offer) -> impl Iterator<Item = &'a Rule> {
         self.rules.iter().filter(|rule| rule.covers(offer))
+    }
+
+    /// The rules of a level: 0 is the firm, and a root's is one more than its own number.
+    pub fn rules_of(&self, level: usize) -> impl Iterator<Item = &Rule> {
+        self.rules.iter().filter(move |rule| level_of(rule.scope) == level)
     }
 
     /// What a rule covers, in words.

@@ -1,15 +1,17 @@
 //! The program: its arguments, and what it ends with.
 
+use crate::asked::Names;
 use crate::check;
 use crate::files;
 use crate::help;
-use crate::lines::{run, Manner};
+use crate::lines::{run, Ended, Manner};
 use crate::paint;
+use crate::profile::Profile;
+use crate::report;
+use crate::table::counted;
+use mbrumzheg::Time;
 use std::io::{self, BufReader, IsTerminal, Read, Write};
 use std::process::ExitCode;
-
-/// The library's version, with its line's end.
-const VERSION: &str = include_str!("../../VERSION");
 
 /// How the program is called.
 pub const USAGE: &str = "\
@@ -17,13 +19,14 @@ usage: desk                    lines from the terminal or a pipe
        desk SCRIPT             lines from a file; - is the standard input
        desk check PROFILE      what a profile means, or what is wrong with it
        desk report PROFILE RECORDS PAGE [from TIME to TIME]
-                               a page (HTML) on a recorded day or a part of it
+                               a page (HTML) on a recorded day or a part of it;
+                               if PAGE ends in .csv or .json, its figures
        desk help [COMMAND]     what can be typed
        desk --version
 ";
 
 /// A dialogue with a person at a terminal, for which there is more than one way.
-pub type Dialogue = fn(&mut dyn Write) -> io::Result<usize>;
+pub type Dialogue = fn(&mut dyn Write) -> io::Result<Ended>;
 
 /// What the program ends with: 0, 1 where something was refused or could not be carried out, 2 for a call that it does not understand.
 #[derive(Clone, Copy, Debug, PartialEq, Eq)]
@@ -58,7 +61,7 @@ fn call(words: &[&str], dialogue: Dialogue) -> io::Result<End> {
     let out = &mut paint::painted(io::stdout());
     match words {
         [] => from_standard_input(out, dialogue),
-        ["-V" | "--version"] => write!(out, "desk {VERSION}").map(|()| End::Done),
+        ["-V" | "--version"] => writeln!(out, "desk {}", report::VERSION).map(|()| End::Done),
         ["-h" | "--help" | "help"] => write!(out, "{USAGE}\n{}\n", help::list()).map(|()| End::Done),
         ["help", name] => match help::on(name) {
             Some(text) => writeln!(out, "{text}").map(|()| End::Done),
@@ -66,8 +69,8 @@ fn call(words: &[&str], dialogue: Dialogue) -> io::Result<End> {
         },
         ["-"] => run(&mut io::stdin().lock(), out, Manner::Shown).map(end),
         ["check", name] => checked(name, out),
-        ["report", profile, records, page] => report(profile, records, page, out),
-        ["report", profile, records, page, "from", from, "to", to] => report(profile, records, &format!("{page} from {from} to {to}"), out),
+        ["report", profile, records, page] => report(profile, records, page, None, out),
+        ["report", profile, records, page, "from", from, "to", to] => report(profile, records, page, Some((from, to)), out),
         [name @ ("check" | "report"), ..] => wrong(&format!("{name} takes other words after it")),
         [option, ..] if option.starts_with('-') => wrong(&format!("'{option}' is no option")),
         [script] => from_file(script, out),
@@ -79,8 +82,14 @@ fn wrong(why: &str) -> io::Result<End> {
     write!(io::stderr(), "desk: {why}\n{USAGE}").map(|()| End::WrongUse)
 }
 
-fn end(not_done: usize) -> End {
-    if not_done == 0 {
+/// What a script ends with; events that nobody saved are said, since nobody could be asked.
+fn end(ended: Ended) -> End {
+    if ended.unsaved > 0 {
+        let were = if ended.unsaved == 1 { "was" } else { "were" };
+        // where even this cannot be written, nobody is there to read it
+        let _ = writeln!(io::stderr(), "desk: {} {were} not saved", counted(ended.unsaved, "event"));
+    }
+    if ended.not_done == 0 {
         End::Done
     } else {
         End::NotDone
@@ -120,7 +129,11 @@ fn checked(name: &str, out: &mut dyn Write) -> io::Result<End> {
     }
 }
 
-fn report(profile: &str, records: &str, page: &str, out: &mut dyn Write) -> io::Result<End> {
-    let script = format!("arm {profile}\nreplay {records} quiet\nreport {page}\n");
-    run(&mut script.as_bytes(), out, Manner::Shown).map(end)
+fn report(profile: &str, records: &str, page: &str, stretch: Option<(&str, &str)>, out: &mut dyn Write) -> io::Result<End> {
+    let names = Names { profile: &Profile::default(), clock: Time::START };
+    let done = stretch.map(|(from, to)| names.stretch(from, to)).transpose();
+    match done.and_then(|stretch| report::of_files(profile, records, page, stretch)) {
+        Ok(words) => writeln!(out, "{words}").map(|()| End::Done),
+        Err(advice) => writeln!(io::stderr(), "desk: {advice}").map(|()| End::NotDone),
+    }
 }

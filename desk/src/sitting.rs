@@ -1,7 +1,10 @@
-//! An armed unit with the profile that it was armed from and the events that it was passed.
+//! An armed unit with the profile that it was armed from and the day that it was passed.
 
+use crate::ledger::{Ledger, Watch};
 use crate::profile::{Profile, Rule};
-use mbrumzheg::{Answer, Armed, Contracts, Event, Offer, Refusal, Time, Unit};
+use crate::spool::{event_of, Spool};
+use crate::standing::{level, reset_levels, Lock, Standing};
+use mbrumzheg::{Answer, Armed, Contracts, Event, Level, Marks, Offer, Refusal, Root, Time, Unit, Verdict};
 
 /// The unit that the desk works with.
 pub type ArmedUnit = Unit<Box<[u64]>, Armed>;
@@ -12,10 +15,28 @@ pub struct Sitting {
     pub unit: ArmedUnit,
     /// What it was armed from.
     pub profile: Profile,
-    /// Every event passed, refused ones too, so that a replay gives the same lines.
-    pub events: Vec<Event>,
-    /// How many events and faulty records there were: the place of the last.
+    /// Every record passed, refused and faulty ones too, so that a replay gives the same lines.
+    pub day: Spool,
+    /// How many records were passed: the place of the last.
     pub place: usize,
+    /// How many events were typed since the day was last saved.
+    pub unsaved: usize,
+    /// Where profile and records come from.
+    pub sources: Sources,
+    /// Which levels are locked, and which rules have tripped.
+    pub standing: Standing,
+    ledger: Ledger,
+}
+
+/// The files that a day is made of.
+#[derive(Clone, Debug, Default, PartialEq, Eq)]
+pub struct Sources {
+    /// The profile's name.
+    pub profile: String,
+    /// The names of files whose records were replayed, in order.
+    pub replayed: Vec<String>,
+    /// How many events were typed.
+    pub typed: usize,
 }
 
 /// An event with its answer, and the rules that stood behind a cut.
@@ -32,50 +53,116 @@ pub struct Passed {
     pub reached: Vec<usize>,
     /// Whether any rule covers the offer.
     pub covered: bool,
+    /// Locks that it ended.
+    pub ended: Vec<Lock>,
 }
 
 impl Sitting {
-    /// A day that begins on a unit just armed from this text.
-    pub fn new(unit: ArmedUnit, text: &[u8]) -> Sitting {
-        Sitting { unit, profile: Profile::of_accepted(text), events: Vec::new(), place: 0 }
+    /// A day that begins on a unit just armed from the text of a file.
+    pub fn new(unit: ArmedUnit, file: &str, text: &[u8]) -> Sitting {
+        let profile = Profile::of_accepted(text);
+        let (standing, ledger) = (Standing::of(&profile), Ledger::of(&profile));
+        let sources = Sources { profile: file.to_string(), ..Sources::default() };
+        Sitting { unit, profile, day: Spool::default(), place: 0, unsaved: 0, sources, standing, ledger }
     }
 
-    /// Passes an event to the unit and works out which rules cut it.
+    /// Passes an event that was typed.
     pub fn pass(&mut self, event: Event) -> Passed {
+        self.unsaved += 1;
+        self.sources.typed += 1;
+        self.pass_record(&event.to_record())
+    }
+
+    /// Passes a record of a file, and keeps it.
+    pub fn pass_record(&mut self, record: &[u8]) -> Passed {
+        self.day.add(record);
+        self.answer_record(record, &mut ())
+    }
+
+    /// Passes a record without keeping it, and tells what the rules have used.
+    pub fn answer_record(&mut self, record: &[u8], watch: &mut dyn Watch) -> Passed {
         self.place += 1;
-        self.events.push(event);
-        let before = match &event {
-            Event::Offer(offer) => self.lefts(offer),
-            _ => Vec::new(),
-        };
-        let answer = self.unit.answer(event);
-        let mut passed =
-            Passed { place: self.place, event: Some(event), answer, cut_by: Vec::new(), reached: Vec::new(), covered: !before.is_empty() };
-        if let (Event::Offer(offer), Ok(answer)) = (&event, &answer) {
-            if answer.verdict.passes() {
-                self.name_rules(offer, answer, &before, &mut passed);
-            }
+        let event = event_of(record);
+        let answer = event.map_or(Err(Refusal::FaultyRecord), |event| self.unit.answer(event));
+        let (cut_by, reached, ended) = Default::default();
+        let mut passed = Passed { place: self.place, event, answer, cut_by, reached, covered: false, ended };
+        if let (Some(event), Ok(answer)) = (event, answer) {
+            self.ledger.advance(event.time().ms(), watch);
+            self.reckon(&event, &answer, &mut passed, watch);
         }
         passed
     }
 
-    /// Counts a record that holds no event.
-    pub fn pass_faulty(&mut self) -> Passed {
-        self.place += 1;
-        Passed {
-            place: self.place,
-            event: None,
-            answer: Err(Refusal::FaultyRecord),
-            cut_by: Vec::new(),
-            reached: Vec::new(),
-            covered: false,
+    /// Follows an event that was not refused: what rules have used, which of them cut and tripped, which levels are locked.
+    fn reckon(&mut self, event: &Event, answer: &Answer, passed: &mut Passed, watch: &mut dyn Watch) {
+        let ms = event.time().ms();
+        match event {
+            Event::Offer(offer) if answer.verdict.passes() => self.fill(offer, answer, passed, watch),
+            Event::Offer(offer) => self.standing.reject(rejecting(answer, offer.root), Some(offer.contracts.count())),
+            Event::Order { root, reset, .. } => {
+                for level in reset_levels(*root, *reset) {
+                    let rules: Vec<usize> = self.profile.rules_of(level).map(|rule| rule.number).collect();
+                    rules.iter().for_each(|rule| self.ledger.forget(*rule, ms, watch));
+                    self.stand(level, ms, &[], passed);
+                }
+                if !answer.verdict.passes() {
+                    self.standing.reject(rejecting(answer, *root), None);
+                }
+            }
+            Event::Lockout { level: Level::Firm, .. } => self.stand(0, ms, &[], passed),
+            Event::Lockout { level: Level::Root(root), .. } => self.stand(level(*root, false), ms, &[], passed),
         }
     }
 
-    /// What is left, before an offer, of each rule that covers it.
-    fn lefts(&self, offer: &Offer) -> Vec<(usize, u64)> {
-        let left = |rule: &Rule| Some((rule.number, self.left(offer.time, rule.number)?));
-        self.profile.covering(offer).filter_map(left).collect()
+    fn fill(&mut self, offer: &Offer, answer: &Answer, passed: &mut Passed, watch: &mut dyn Watch) {
+        let (grant, ms) = (answer.grant, offer.time.ms());
+        for rule in self.profile.rules.iter().filter(|rule| rule.covers(offer)) {
+            let left = self.ledger.left(rule);
+            passed.covered = true;
+            if answer.cuts(offer.contracts) && rule.allowance(offer, left) == grant {
+                passed.cut_by.push(rule.number);
+            }
+            if rule.window.is_none() && rule.adds(offer, grant) == left {
+                passed.reached.push(rule.number);
+            }
+            self.ledger.add(rule, ms, rule.adds(offer, grant), watch);
+        }
+        let tripping: Vec<usize> = passed.tripping().collect();
+        for (level, tripped) in [(level(offer.root, false), answer.root_trip), (0, answer.firm_trip)] {
+            if tripped {
+                self.stand(level, ms, &tripping, passed);
+            }
+        }
+    }
+
+    /// Notes how the library says that a level stands.
+    fn stand(&mut self, level: usize, ms: u64, rules: &[usize], passed: &mut Passed) {
+        let marks = self.marks(level);
+        passed.ended.extend(self.standing.take(&self.profile, level, ms, marks, rules));
+    }
+
+    /// The library's marks of a level.
+    pub fn marks(&self, level: usize) -> Marks {
+        match level.checked_sub(1) {
+            None => self.unit.firm_marks(),
+            Some(root) => Root::new(root as u64).map(|root| self.unit.root_marks(root)).unwrap_or_default(),
+        }
+    }
+
+    /// Tells what the rules have used as fills leave their windows up to a time after the clock; nothing may be passed after this.
+    pub fn run_out(&mut self, ms: u64, watch: &mut dyn Watch) {
+        self.ledger.advance(ms, watch);
+    }
+
+    /// What the desk reckons to be left of a rule at the clock.
+    pub fn reckoned(&self, rule: &Rule) -> u64 {
+        self.ledger.left(rule)
+    }
+
+    /// The rules of which the desk reckons another amount left at the clock than the library answers.
+    pub fn differences(&self) -> Vec<usize> {
+        let differs = |rule: &&Rule| self.left(self.unit.clock(), rule.number) != Some(self.reckoned(rule));
+        self.profile.rules.iter().filter(differs).map(|rule| rule.number).collect()
     }
 
     /// What is left of a rule at a time; nothing for a time that the library refuses.
@@ -83,27 +170,24 @@ impl Sitting {
         self.unit.remaining(time, rule as u64).ok()
     }
 
-    fn name_rules(&self, offer: &Offer, answer: &Answer, before: &[(usize, u64)], passed: &mut Passed) {
-        let grant = answer.grant;
-        for (number, left) in before {
-            let Some(rule) = self.profile.rules.get(*number) else { continue };
-            if answer.cuts(offer.contracts) && rule.allowance(offer, *left) == grant {
-                passed.cut_by.push(*number);
-            }
-            if rule.window.is_none() && rule.adds(offer, grant) == *left {
-                passed.reached.push(*number);
-            }
-        }
-    }
-
-    /// The least allowance of the rules that cover an offer: what the library should grant.
+    /// The least allowance, by the library's own numbers, of the rules that cover an offer: what it should grant.
     pub fn least_allowance(&self, offer: &Offer) -> u64 {
-        let allowed = |(number, left): &(usize, u64)| self.profile.rules.get(*number).map(|rule| rule.allowance(offer, *left));
-        self.lefts(offer).iter().filter_map(allowed).min().unwrap_or(offer.contracts.count())
+        let allowed = |rule: &Rule| Some(rule.allowance(offer, self.left(offer.time, rule.number)?));
+        self.profile.covering(offer).filter_map(allowed).min().unwrap_or(offer.contracts.count())
     }
 }
 
+/// The level for whose lock an event was rejected.
+fn rejecting(answer: &Answer, root: Root) -> usize {
+    level(root, answer.verdict == Verdict::FirmLocked)
+}
+
 impl Passed {
+    /// The rules that tripped.
+    pub fn tripping(&self) -> impl Iterator<Item = usize> + '_ {
+        self.cut_by.iter().chain(self.reached.iter().filter(|rule| !self.cut_by.contains(rule))).copied()
+    }
+
     /// Whether a person who watches a replay should see it: anything but a plain pass.
     pub fn is_notable(&self) -> bool {
         match (&self.event, &self.answer) {

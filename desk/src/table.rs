@@ -5,8 +5,9 @@ use crate::asked::{listed, Shown};
 use crate::columns::{self, Row};
 use crate::profile::Rule;
 use crate::sitting::Sitting;
+use crate::standing::{level_name, Lock};
 use crate::words;
-use mbrumzheg::{Marks, Name, Refusal, Root, Time};
+use mbrumzheg::{Marks, Refusal, Time};
 
 pub use crate::columns::share;
 
@@ -38,16 +39,34 @@ fn row(sitting: &Sitting, rule: &Rule, left: u64) -> Row {
     Row { cells, used: (used, rule.limit) }
 }
 
-/// A line for each level among those shown that is locked.
+/// A line for each level among those shown that is locked: since when, and what locked it.
 fn locks(sitting: &Sitting, shown: Shown) -> Vec<String> {
-    let firm = (format!("firm {}", sitting.profile.firm), sitting.unit.firm_marks(), shown == Shown::Firm);
-    let root = |(root, name): (Root, Name)| {
-        let own = shown == Shown::Root(root.number() as usize);
-        (format!("root {name}"), sitting.unit.root_marks(root), own)
+    let is_shown = |lock: &&Lock| match shown {
+        Shown::All => true,
+        Shown::Firm => lock.level == 0,
+        Shown::Root(root) => lock.level == root + 1,
     };
-    let levels = std::iter::once(firm).chain(sitting.unit.roots().map(root));
-    let locked = levels.filter(|(_, marks, own)| marks.locked() && (*own || shown == Shown::All));
-    locked.map(|(name, marks, _)| format!("{name} is {}", why_locked(marks))).collect()
+    let words = |lock: &Lock| {
+        let since = Time::from_ms(lock.since).map(words::time).unwrap_or_default();
+        format!("{} is locked since {since}: {}", level_name(&sitting.profile, lock.level), lock.short_cause())
+    };
+    sitting.standing.locks().filter(is_shown).flat_map(|lock| wrapped(&words(lock))).collect()
+}
+
+/// A sentence in lines of at most 80 columns, those after the first set in.
+fn wrapped(text: &str) -> Vec<String> {
+    let (mut lines, mut line) = (Vec::new(), String::new());
+    for word in text.split(' ') {
+        if line.chars().count() + 1 + word.chars().count() > 80 {
+            lines.push(std::mem::replace(&mut line, "   ".to_string()));
+        }
+        if !line.is_empty() {
+            line.push(' ');
+        }
+        line.push_str(word);
+    }
+    lines.push(line);
+    lines
 }
 
 /// The clock, the firm and the roots, with Status's numbers.

@@ -4,14 +4,22 @@ use common::{event, profile, Dice};
 use desk::answer;
 use desk::asked::Names;
 use desk::command::{self, Command};
-use desk::day::{Day, Kind};
+use desk::day::Day;
+use desk::marks::Kind;
 use desk::profile::{Profile, Rule, Scope};
+use desk::progress::Progress;
 use desk::sitting::Sitting;
-use mbrumzheg::{Event, Offer, Reset, Time, Unit, Verdict};
+use desk::spool::RecordReader;
+use mbrumzheg::{Event, Level, Offer, Reset, Time, Unit, Verdict};
 
 fn sitting(text: &str) -> Sitting {
     let unit = Unit::new().arm(text).unwrap_or_else(|refused| panic!("{refused}\n{text}"));
-    Sitting::new(unit, text.as_bytes())
+    Sitting::new(unit, "profile", text.as_bytes())
+}
+
+/// The day that a sitting has passed, or a stretch of it.
+fn day(sitting: &Sitting, stretch: Option<(u64, u64)>) -> Day {
+    Day::replayed(&sitting.profile, sitting.day.reader().expect("a reader"), stretch, &mut Progress::of(None)).expect("a day")
 }
 
 #[test]
@@ -43,6 +51,7 @@ fn the_rules_that_cut_are_those_that_the_grant_shows() {
             };
             let least = sitting.least_allowance(&offer);
             let passed = sitting.pass(next);
+            assert_eq!(sitting.differences(), [], "what the desk reckons is what the library answers");
             let Ok(answer) = passed.answer else { continue };
             if answer.verdict != Verdict::Free {
                 assert!(passed.cut_by.is_empty() && passed.reached.is_empty());
@@ -74,13 +83,12 @@ fn a_replayed_day_has_the_same_answers() {
             let passed = first.pass(next);
             lines.push(answer::replayed(&first, &passed));
         }
-        let bytes: Vec<u8> = first.events.iter().flat_map(Event::to_record).collect();
-        let again: Vec<String> = mbrumzheg::Records::new(&bytes)
-            .map(|record| {
-                let passed = second.pass(record.expect("a saved record is good"));
-                answer::replayed(&second, &passed)
-            })
-            .collect();
+        let mut records = RecordReader::new(first.day.reader().expect("a reader"));
+        let mut again = Vec::new();
+        while let Some(record) = records.record().expect("read") {
+            let passed = second.pass_record(record);
+            again.push(answer::replayed(&second, &passed));
+        }
         assert_eq!(lines, again);
         assert_eq!(first.unit.memory(), second.unit.memory());
     }
@@ -127,11 +135,6 @@ fn used(rule: &Rule, fills: &[Fill], ms: u64) -> u64 {
         .sum()
 }
 
-/// The use that the page draws at a time: the last step that is not after it.
-fn drawn(steps: &[(u64, u64)], ms: u64) -> u64 {
-    steps.iter().take_while(|(at, _)| *at <= ms).last().map_or(0, |(_, used)| *used)
-}
-
 #[test]
 fn the_page_draws_the_use_that_the_grants_make() {
     for seed in 0..150 {
@@ -160,18 +163,28 @@ fn the_page_draws_the_use_that_the_grants_make() {
             seen.retain(|(ms, _)| *ms != now);
             seen.push((now, sitting.profile.rules.iter().map(|rule| used(rule, &fills, now)).collect()));
         }
-        let day = Day::replayed(&sitting.profile, &sitting.events).expect("a day");
+        // a stretch short enough has a bucket for each millisecond, so what is drawn there is exact
+        let last = sitting.unit.clock().ms();
+        for from in (0..=last).step_by(2_048) {
+            let part = day(&sitting, Some((from, from + 2_047)));
+            assert_eq!(part.curves.scale.map(|scale| scale.width), Some(1));
+            for (ms, wanted) in seen.iter().filter(|(ms, _)| from <= *ms && *ms < from + 2_048) {
+                let drawn: Vec<u64> = part.curves.rules.iter().map(|curve| curve.in_bucket(ms - from).2).collect();
+                assert_eq!(&drawn, wanted, "seed {seed} at {ms} ms\n{text}");
+            }
+        }
+        // the whole day has every amount within the range of its bucket, and reaches the same peaks
+        let whole = day(&sitting, None);
+        let Some(scale) = whole.curves.scale else { continue };
         for (ms, wanted) in &seen {
-            let drawn: Vec<u64> = day.uses.iter().map(|of_rule| drawn(&of_rule.steps, *ms)).collect();
-            assert_eq!(&drawn, wanted, "seed {seed} at {ms} ms\n{text}");
+            for (curve, used) in whole.curves.rules.iter().zip(wanted) {
+                let (least, most, _) = curve.in_bucket(scale.bucket(*ms));
+                assert!(least <= *used && *used <= most, "seed {seed} at {ms} ms: {used} is not from {least} to {most}");
+                assert!(curve.peak.1 >= *used);
+            }
         }
-        let (from, to) = (day.span.0 + dice.below(2_000), day.span.0 + 2_000 + dice.below(2_000));
-        let steps: Vec<Vec<(u64, u64)>> = day.uses.iter().map(|of_rule| of_rule.steps.clone()).collect();
-        let part = day.within(from, to);
-        for (whole, of_rule) in steps.iter().zip(&part.uses) {
-            assert!((from..=to).step_by(97).all(|ms| drawn(whole, ms) == drawn(&of_rule.steps, ms)), "a stretch draws what the day does");
-        }
-        assert!(part.uses.iter().all(|of_rule| of_rule.steps.windows(2).all(|pair| pair[0].0 <= pair[1].0)), "steps in order of time");
+        let times = seen.iter().map(|(ms, _)| *ms);
+        assert_eq!(whole.times.map(|(_, last)| last), times.max());
     }
 }
 
@@ -189,20 +202,76 @@ fn forget(fills: &mut [Fill], root: u64, reset: Reset) {
 
 #[test]
 fn the_page_marks_what_happened() {
-    let text = "ABCD,abs_vol,XYZ,1000\nABCD,abs_vol,QQQ,5";
-    let profile = Profile::of_accepted(text.as_bytes());
-    let mut made = sitting(text);
+    let mut made = sitting("ABCD,abs_vol,XYZ,1000\nABCD,abs_vol,QQQ,5");
     let mut dice = Dice::new(1);
     for _ in 0..40 {
         let next = event(&mut dice, made.unit.clock().ms(), 2);
         made.pass(next);
     }
-    let day = Day::replayed(&profile, &made.events).expect("a day");
-    let count = |kind| day.lanes.iter().flat_map(|lane| &lane.marks).filter(|mark| mark.kind == kind).count();
-    let [cuts, trips, rejected, _] = day.sums.outcomes;
-    assert_eq!((count(Kind::Cut), count(Kind::Trip), count(Kind::Rejected)), (cuts, trips, rejected));
-    assert!(cuts > 0 && trips >= cuts && rejected > 0 && count(Kind::Reset) > 0 && count(Kind::Lockout) > 0);
+    let day = day(&made, None);
+    let count = |kind| day.lanes.iter().map(|lane| lane.marks.count(kind)).sum::<u64>();
+    let sums = &day.sums;
+    assert_eq!((count(Kind::Cut), count(Kind::Trip), count(Kind::Rejected)), (sums.cuts, sums.trips, sums.rejected));
+    assert!(sums.cuts > 0 && sums.trips >= sums.cuts && sums.rejected > 0 && count(Kind::Reset) > 0 && count(Kind::Lockout) > 0);
     for lane in &day.lanes {
         assert!(lane.locked.iter().all(|(from, to)| from <= to));
     }
+}
+
+#[test]
+fn locks_have_their_begin_their_cause_and_their_rejections() {
+    let (mut tripped, mut by_hand, mut both) = (0, 0, 0);
+    for seed in 0..200 {
+        let mut dice = Dice::new(seed);
+        let mut sitting = sitting(&profile(&mut dice));
+        // since when each level is locked, by the library's marks after each event alone
+        let mut since = vec![None; sitting.profile.roots.len() + 1];
+        let mut rejected = 0;
+        for _ in 0..60 {
+            let next = event(&mut dice, sitting.unit.clock().ms(), sitting.unit.root_count());
+            let passed = sitting.pass(next);
+            let Ok(answer) = passed.answer else { continue };
+            rejected += u64::from(answer.verdict != Verdict::Free);
+            for (level, since) in since.iter_mut().enumerate() {
+                let marks = sitting.marks(level);
+                *since = marks.locked().then(|| since.unwrap_or(next.time().ms()));
+                let lock = sitting.standing.lock(level);
+                assert_eq!(lock.map(|lock| lock.since), *since, "seed {seed}");
+                let Some(lock) = lock else { continue };
+                assert_eq!((lock.tripped.is_some(), lock.by_hand.is_some()), (marks.tripped, marks.locked_by_user));
+                let rules = lock.tripped.iter().flat_map(|(_, rules)| rules).map(|rule| &sitting.profile.rules[*rule]);
+                assert!(rules.clone().all(|rule| sitting.standing.tripped(rule.number).is_some()));
+                assert!(!marks.tripped || rules.count() > 0, "a trip has a rule");
+                tripped += u64::from(marks.tripped);
+                by_hand += u64::from(marks.locked_by_user);
+                both += u64::from(marks.tripped && marks.locked_by_user);
+            }
+            // a rule is called tripped only where its own trip locked its level
+            for rule in sitting.profile.rules.iter().filter(|rule| sitting.standing.tripped(rule.number).is_some()) {
+                let level = desk::standing::level_of(rule.scope);
+                let named = sitting.standing.lock(level).and_then(|lock| lock.tripped.as_ref());
+                assert!(named.is_some_and(|(_, rules)| rules.contains(&rule.number)), "seed {seed}: {rule:?}");
+            }
+        }
+        let day = day(&sitting, None);
+        let counted: u64 = day.lanes.iter().map(|lane| lane.rejected[0] + lane.rejected[1]).sum();
+        assert_eq!((counted, day.sums.rejected), (rejected, rejected), "every rejection is counted for one lock");
+    }
+    assert!(tripped > 500 && by_hand > 500 && both > 20, "{tripped} tripped, {by_hand} by hand, {both} both");
+}
+
+#[test]
+fn the_times_of_a_page_are_those_of_events_that_were_not_refused() {
+    let mut made = sitting("ABCD,abs_vol,XYZ,1000");
+    let order = |ms: u64| Event::Lockout { time: Time::from_ms(ms).expect("a time"), level: Level::Firm };
+    made.pass_record(&[0xFF; 12]);
+    made.pass(order(34_200_000));
+    // earlier than the clock, and refused
+    made.pass(order(5));
+    made.pass(order(34_200_900));
+    made.pass(Event::Order { time: Time::LAST, root: mbrumzheg::Root::new(63).expect("a root"), reset: Reset::None });
+    let day = day(&made, None);
+    assert_eq!(day.times, Some((34_200_000, 34_200_900)));
+    assert_eq!(day.curves.scale.map(|scale| (scale.first, scale.width, scale.count(34_200_900))), Some((34_200_000, 1, 901)));
+    assert_eq!((day.sums.records, day.sums.refused, day.sums.faulty), (5, 2, 1));
 }

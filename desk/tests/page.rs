@@ -1,27 +1,43 @@
 //! The page is one well-formed file that fetches nothing, with every picture described.
 mod common;
 use common::{event, profile, Dice};
-use desk::profile::Profile;
-use desk::report;
+use desk::day::Day;
+use desk::progress::Progress;
+use desk::report::{self, Made};
 use desk::sitting::Sitting;
-use mbrumzheg::{Event, Unit};
+use mbrumzheg::{Event, Level, Time, Unit};
 
-/// A page on a random day or a stretch of it, and how many rules its profile has.
-fn page(seed: u64, stretch: Option<(u64, u64)>) -> (String, usize) {
+/// A report of a sitting's day or a stretch of it, of the kind that a name asks for.
+fn written(sitting: &Sitting, name: &str, stretch: Option<(u64, u64)>) -> String {
+    let day = Day::replayed(&sitting.profile, sitting.day.reader().expect("a reader"), stretch, &mut Progress::of(None)).expect("a day");
+    report::of_name(name, &sitting.profile, &day, &Made::at_the_desk(sitting))
+}
+
+fn armed(text: &str) -> Sitting {
+    Sitting::new(Unit::new().arm(text).expect("accepted"), "profile", text.as_bytes())
+}
+
+/// A sitting with a random day behind it.
+fn sitting(seed: u64) -> Sitting {
     let mut dice = Dice::new(seed);
-    let text = profile(&mut dice);
-    let mut sitting = Sitting::new(Unit::new().arm(&text).expect("accepted"), text.as_bytes());
+    let mut sitting = armed(&profile(&mut dice));
     for _ in 0..40 {
         let next = event(&mut dice, sitting.unit.clock().ms(), sitting.unit.root_count());
         sitting.pass(next);
     }
-    let page = report::page(&sitting.profile, &sitting.events, stretch).expect("a page");
-    (page, sitting.profile.rules.len())
+    sitting
+}
+
+/// What stands between two texts.
+fn between<'a>(text: &'a str, from: &str, to: &str) -> &'a str {
+    text.split_once(from).and_then(|(_, rest)| rest.split_once(to)).map_or("", |(inner, _)| inner)
 }
 
 /// Checks that tags are closed in the order in which they were opened; answers the names of all.
 fn tags(page: &str) -> Vec<String> {
     let body = page.strip_prefix("<!DOCTYPE html>\n").expect("the kind of document");
+    // a script may compare numbers
+    let body = body.replace(between(body, "<script>", "</script>"), "");
     let (mut open, mut all) = (Vec::new(), Vec::new());
     for piece in body.split('<').skip(1) {
         let (tag, text) = piece.split_once('>').expect("a tag ends");
@@ -44,29 +60,85 @@ fn tags(page: &str) -> Vec<String> {
 fn pages_are_well_formed_and_fetch_nothing() {
     for seed in 0..60 {
         let stretch = [None, Some((300, 1_500)), Some((0, 86_399_999)), Some((50_000_000, 50_000_001))][seed as usize % 4];
-        let (page, rules) = page(seed, stretch);
+        let sitting = sitting(seed);
+        let page = written(&sitting, "page.html", stretch);
         let all = tags(&page);
-        let count = |name: &str| all.iter().filter(|tag| *tag == name).count();
-        let pictures = page.matches("role=\"img\"").count();
-        assert_eq!(pictures, page.matches("<title id=").count(), "every picture has a title");
-        assert_eq!((pictures, count("desc")), (count("desc"), pictures), "and a description");
-        let unused = page
-            .split("Not used on this day")
-            .nth(1)
-            .map_or(0, |rest| rest.split("</section>").next().unwrap_or("").matches("<li>").count());
-        assert_eq!(pictures - 1 + unused, rules, "every rule is drawn, or named as not used");
-        for outside in ["http", "<script", "<link", "<img", "src=", "@import", "NaN", "inf"] {
-            assert!(!page.contains(outside), "{outside} in a page");
+        assert_eq!(page.matches("role=\"img\"").count(), page.matches("aria-label=\"").count(), "every picture is described");
+        let drawn = page.matches("<section class=\"rule\"").count();
+        let unused = between(&page, "<section id=\"unused\">", "</section>").matches("<li>").count();
+        assert_eq!(drawn + unused, sitting.profile.rules.len(), "every rule is drawn, or named as not used");
+        assert_eq!(between(&page, "<table id=\"rules\">", "</table>").matches("<tr>").count(), 1 + sitting.profile.rules.len());
+        for place in page.match_indices("href=\"#").map(|(at, found)| &page[at + found.len()..]) {
+            let name = place.split('"').next().expect("a name");
+            assert!(page.contains(&format!("id=\"{name}\"")), "'{name}' is linked and is there");
+        }
+        assert_eq!(all.iter().filter(|tag| *tag == "script").count(), 1, "the one script is in the page");
+        let without_figures = page.split("data:").map(|part| part.split_once('"').map_or(part, |(_, rest)| rest)).collect::<String>();
+        for outside in ["http", "<link", "<img", "src=", "@import", "url(", "fetch(", "NaN", "inf"] {
+            assert!(!without_figures.contains(outside), "{outside} in a page");
         }
     }
 }
 
 #[test]
-fn a_day_without_events_or_with_too_many_has_no_page() {
-    let profile = Profile::of_accepted(b"ABCD,abs_vol,XYZ,1000");
-    assert!(report::page(&profile, &[], None).is_err());
-    let lock = Event::Lockout { time: mbrumzheg::Time::START, level: mbrumzheg::Level::Firm };
-    assert!(report::page(&profile, &vec![lock; 200_001], None).is_err());
-    let page = report::page(&profile, &[lock], None).expect("one event is enough");
-    assert!(page.contains("lockouts by hand</dt><dd>1</dd>"));
+fn a_page_names_what_it_was_made_from() {
+    let mut sitting = armed("ABCD,abs_vol,XYZ,1000");
+    sitting.pass(Event::Lockout { time: Time::START, level: Level::Firm });
+    sitting.pass_record(&[0xFF; 5]);
+    let page = written(&sitting, "page.html", None);
+    let record = Event::Lockout { time: Time::START, level: Level::Firm }.to_record();
+    let sums = [desk::sha256::hex(b"ABCD,abs_vol,XYZ,1000"), desk::sha256::hex(&[&record[..], &[0xFF; 5]].concat())];
+    let footer = between(&page, "<footer>", "</footer>");
+    for wanted in [sums[0].as_str(), sums[1].as_str(), report::VERSION, report::KIT, "profile", "1 typed at the desk"] {
+        assert!(footer.contains(wanted), "{wanted} is in the footer");
+    }
+    for wanted in [
+        "lockouts by hand</dt><dd>1</dd>",
+        "faulty records</dt><dd>1</dd>",
+        "records</dt><dd>2</dd>",
+        "<td class=\"numbers\">2 16 0 0 0 0</td>",
+    ] {
+        assert!(page.contains(wanted), "{wanted} is in the page");
+    }
+}
+
+#[test]
+fn json_and_csv_have_the_figures_of_the_page() {
+    for seed in 0..40 {
+        let sitting = sitting(seed);
+        let [page, json, csv] = ["page.html", "day.json", "day.csv"].map(|name| written(&sitting, name, None));
+        let number = |key: &str| between(&json, &format!("\"{key}\":"), ",").trim_end_matches('}').to_string();
+        for (name, key) in [("records", "records"), ("cuts", "cuts"), ("rejected", "rejected"), ("faulty records", "faulty_records")] {
+            let counts = between(&json, "\"counts\":", "\n");
+            let of_json = between(counts, &format!("\"{key}\":"), ",").trim_end_matches('}');
+            assert!(csv.contains(&format!("\r\n{name},{of_json}\r\n")), "{name} is {of_json} in both");
+            assert!(page.contains(&format!("<dt>{name}</dt><dd>{of_json}</dd>")), "and in the page");
+        }
+        assert!(!number("share_percent").is_empty());
+        let rules = |text: &str, each: &str| text.matches(each).count();
+        assert_eq!(rules(&json, "{\"rule\":"), sitting.profile.rules.len());
+        // rules stand in the same order in all three: the greatest share first
+        let order: Vec<&str> = json.split("{\"rule\":").skip(1).map(|rest| rest.split(',').next().expect("a number")).collect();
+        let table = between(&page, "<table id=\"rules\">", "</table>");
+        let of_page: Vec<&str> = table.split("rule ").skip(1).map(|rest| rest.split(' ').next().expect("a number")).collect();
+        let (_, rows) = csv.split_once("\r\nrule,").expect("a table of rules");
+        let of_csv: Vec<&str> =
+            rows.lines().skip(1).take_while(|line| !line.is_empty()).map(|line| line.split(',').next().expect("a number")).collect();
+        assert_eq!((&order, &order), (&of_page, &of_csv));
+        let shares: Vec<f64> = json
+            .split("\"share_percent\":")
+            .skip(1)
+            .map(|rest| rest.split(',').next().and_then(|n| n.parse().ok()).expect("a share"))
+            .collect();
+        assert!(shares.windows(2).all(|pair| pair[0] >= pair[1]), "{shares:?}");
+    }
+}
+
+#[test]
+fn a_day_of_faulty_records_alone_has_a_page() {
+    let mut sitting = armed("ABCD,abs_vol,XYZ,1000");
+    sitting.pass_record(&[0xFF; 12]);
+    let page = written(&sitting, "page.html", None);
+    tags(&page);
+    assert!(page.contains("No record of this day holds an event that was not refused."));
 }

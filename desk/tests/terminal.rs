@@ -14,7 +14,7 @@ use std::io::Write;
 
 fn sitting(text: &str) -> Sitting {
     let unit = Unit::new().arm(text).unwrap_or_else(|refused| panic!("{refused}\n{text}"));
-    Sitting::new(unit, text.as_bytes())
+    Sitting::new(unit, "profile", text.as_bytes())
 }
 
 fn widest(text: &str) -> usize {
@@ -94,10 +94,10 @@ fn lines_are_painted_by_what_they_say() {
     assert_eq!(String::from_utf8_lossy(&out), "> \x1b[32mgranted all 1\x1b[0m\nstatus\n");
 }
 
-/// The desk at a terminal of its own, until it was asked to quit.
+/// The desk at a terminal of its own, until it was asked to quit: twice, since an order was not saved.
 fn at_a_terminal(environment: &[(&str, &str)]) -> Option<String> {
     let place = std::path::Path::new(env!("CARGO_MANIFEST_DIR")).join("tests/scripts");
-    let steps = [("> ", "arm example-profile\n"), ("armed for", "order 0ms XYZ\n"), ("may pass", "quit\n")];
+    let steps = [("> ", "arm example-profile\n"), ("armed for", "order 0ms XYZ\n"), ("may pass", "quit\n"), ("not saved", "quit\n")];
     terminal::said(env!("CARGO_BIN_EXE_desk"), &place, environment, &steps)
 }
 

@@ -2,7 +2,7 @@
 
 use desk::complete;
 use desk::desk::Desk;
-use desk::lines::{talk, Lines};
+use desk::lines::{talk, Ended, Lines};
 use rustyline::completion::{Completer, Pair};
 use rustyline::error::ReadlineError;
 use rustyline::highlight::Highlighter;
@@ -16,7 +16,7 @@ use std::path::PathBuf;
 const MOST_LINES: usize = 1_000;
 
 /// A dialogue at a terminal.
-pub fn dialogue(out: &mut dyn Write) -> io::Result<usize> {
+pub fn dialogue(out: &mut dyn Write) -> io::Result<Ended> {
     let config = Config::builder().max_history_size(MOST_LINES).completion_type(CompletionType::List).auto_add_history(true).build();
     let mut editor = Editor::with_config(config);
     editor.set_helper(Some(Known::default()));

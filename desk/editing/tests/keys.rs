@@ -21,6 +21,8 @@ fn tab_completes_commands_files_and_roots() {
         ("  rule 1", "of\t0ms x\tc\tf\t7.00 450\r"),
         ("granted all 450", "ord\tnow X\tres\ts\t\r"),
         ("may pass", "\x04"),
+        // the end of the input asks first, since nothing is saved
+        ("2 events are not saved", "\x04"),
     ];
     let Some(said) = terminal::said(DESK, &place, &[], &steps) else { return };
     assert!(said.contains("> offer 0ms XYZ call front "), "{said:?}");

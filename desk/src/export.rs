@@ -1,0 +1,211 @@
+//! The figures of a page as JSON and as CSV.
+
+use crate::day::Day;
+use crate::figures::{self, RuleFigures};
+use crate::lane::{Lane, Told};
+use crate::profile::{Measure, Profile};
+use crate::report::Made;
+use crate::standing::level_name;
+
+/// All figures as JSON. Amounts of rules that count notional are in ten-thousandths of a dollar, times in milliseconds from midnight.
+pub fn json(profile: &Profile, day: &Day, made: &Made) -> String {
+    let times = |span: Option<(u64, u64)>| span.map_or("null".to_string(), |(from, to)| format!("{{\"from_ms\":{from},\"to_ms\":{to}}}"));
+    let counts: Vec<String> = figures::counts(profile, day).iter().map(|(name, count)| format!("{}:{count}", quoted(&key(name)))).collect();
+    let objects = |all: Vec<String>| format!("[\n{}\n]", all.join(",\n"));
+    let rules = figures::rules(profile, day).iter().map(|figures| object(&RULE_FIELDS, &rule_values(profile, figures))).collect();
+    let levels = levels(day).iter().map(|(level, lane)| object(&LEVEL_FIELDS, &level_values(profile, *level, lane))).collect();
+    let locks = told(day).iter().map(|told| object(&LOCK_FIELDS, &lock_values(profile, told))).collect();
+    let files: Vec<String> = made.records.iter().map(|name| quoted(name)).collect();
+    let lines = [
+        format!("\"firm\":{}", quoted(&profile.firm)),
+        format!("\"version\":{}", quoted(made.version)),
+        format!("\"kit\":{}", quoted(made.kit)),
+        format!("\"profile\":{{\"file\":{},\"sha256\":{}}}", quoted(&made.profile), quoted(&made.profile_sum)),
+        format!("\"records\":{{\"files\":[{}],\"typed\":{},\"sha256\":{}}}", files.join(","), made.typed, quoted(&made.records_sum)),
+        format!("\"times\":{}", times(day.times)),
+        format!("\"stretch\":{}", times(day.stretch)),
+        format!("\"counts\":{{{}}}", counts.join(",")),
+        format!("\"rules\":{}", objects(rules)),
+        format!("\"levels\":{}", objects(levels)),
+        format!("\"locks\":{}", objects(locks)),
+    ];
+    format!("{{\"report\":\"desk\",\n{}\n}}\n", lines.join(",\n"))
+}
+
+/// Names and values as an object.
+fn object(names: &[&str], values: &[Value]) -> String {
+    let fields: Vec<String> = names.iter().zip(values).map(|(name, value)| format!("\"{name}\":{}", value.json())).collect();
+    format!("{{{}}}", fields.join(","))
+}
+
+/// The same figures as tables of commas: counts, rules, levels and locks, an empty line between them.
+pub fn csv(profile: &Profile, day: &Day, made: &Made) -> String {
+    let mut lines = vec!["report,desk".to_string()];
+    let mut pair = |name: &str, value: String| lines.push(format!("{},{}", cell(name), cell(&value)));
+    pair("firm", profile.firm.clone());
+    pair("version", made.version.to_string());
+    pair("kit", made.kit.to_string());
+    pair("profile file", made.profile.clone());
+    pair("profile sha256", made.profile_sum.clone());
+    made.records.iter().for_each(|name| pair("records file", name.clone()));
+    pair("events typed", made.typed.to_string());
+    pair("records sha256", made.records_sum.clone());
+    for (name, span) in [("times", day.times), ("stretch", day.stretch)] {
+        if let Some((from, to)) = span {
+            pair(&format!("{name} from ms"), from.to_string());
+            pair(&format!("{name} to ms"), to.to_string());
+        }
+    }
+    figures::counts(profile, day).iter().for_each(|(name, count)| pair(name, count.to_string()));
+    lines.push(String::new());
+    lines.push(RULE_FIELDS.join(","));
+    lines.extend(figures::rules(profile, day).iter().map(|figures| row(&rule_values(profile, figures))));
+    lines.push(String::new());
+    lines.push(LEVEL_FIELDS.join(","));
+    lines.extend(levels(day).iter().map(|(level, lane)| row(&level_values(profile, *level, lane))));
+    lines.push(String::new());
+    lines.push(LOCK_FIELDS.join(","));
+    lines.extend(told(day).iter().map(|told| row(&lock_values(profile, told))));
+    lines.join("\r\n") + "\r\n"
+}
+
+/// A figure: a text, a number, or none.
+enum Value {
+    Text(String),
+    Number(String),
+    None,
+}
+
+impl Value {
+    fn of(number: Option<u64>) -> Value {
+        number.map_or(Value::None, |number| Value::Number(number.to_string()))
+    }
+
+    fn json(&self) -> String {
+        match self {
+            Value::Text(text) => quoted(text),
+            Value::Number(digits) => digits.clone(),
+            Value::None => "null".to_string(),
+        }
+    }
+
+    fn csv(&self) -> String {
+        match self {
+            Value::Text(text) => cell(text),
+            Value::Number(digits) => digits.clone(),
+            Value::None => String::new(),
+        }
+    }
+}
+
+const RULE_FIELDS: [&str; 13] = [
+    "rule",
+    "type",
+    "of",
+    "counts",
+    "limit",
+    "window_ms",
+    "most_used",
+    "most_used_at_ms",
+    "share_percent",
+    "used_at_end",
+    "left_at_end",
+    "cuts",
+    "trips",
+];
+
+fn rule_values(profile: &Profile, figures: &RuleFigures) -> [Value; 13] {
+    let rule = figures.rule;
+    let number = |number: u64| Value::of(Some(number));
+    let counts = match rule.measure {
+        Measure::Notional => "ten-thousandths of a dollar",
+        Measure::Volume => "contracts",
+        Measure::Count => "executions",
+    };
+    [
+        number(rule.number as u64),
+        Value::Text(rule.kind.clone()),
+        Value::Text(profile.scope_words(rule.scope)),
+        Value::Text(counts.to_string()),
+        number(rule.limit),
+        Value::of(rule.window),
+        number(figures.most),
+        Value::of(figures.most_at),
+        Value::Number(figures.share_words().trim_end_matches('%').to_string()),
+        number(figures.last),
+        number(figures.left()),
+        number(figures.cuts),
+        number(figures.trips),
+    ]
+}
+
+const LOCK_FIELDS: [&str; 7] = ["locked", "since_ms", "until_ms", "cause", "orders_rejected", "offers_rejected", "contracts_rejected"];
+
+fn lock_values(profile: &Profile, told: &Told) -> [Value; 7] {
+    let lock = &told.lock;
+    let [orders, offers, contracts] = lock.rejected.map(|count| Value::of(Some(count)));
+    [
+        Value::Text(level_name(profile, lock.level)),
+        Value::of(Some(lock.since)),
+        Value::of(told.until),
+        Value::Text(lock.cause(profile)),
+        orders,
+        offers,
+        contracts,
+    ]
+}
+
+/// So many locks are told one by one.
+const MOST_TOLD: usize = 300;
+
+/// The first locks one by one, in order of time.
+pub fn told(day: &Day) -> Vec<&Told> {
+    let mut all: Vec<&Told> = day.lanes.iter().flat_map(|lane| &lane.locks).collect();
+    all.sort_by_key(|told| (told.lock.since, told.lock.level));
+    all.truncate(MOST_TOLD);
+    all
+}
+
+const LEVEL_FIELDS: [&str; 5] = ["level", "locks", "orders_rejected", "offers_rejected", "contracts_rejected"];
+
+fn level_values(profile: &Profile, level: usize, lane: &Lane) -> [Value; 5] {
+    let [orders, offers, contracts] = lane.rejected.map(|count| Value::of(Some(count)));
+    [Value::Text(level_name(profile, level)), Value::of(Some(lane.count)), orders, offers, contracts]
+}
+
+/// The levels that were ever locked, with what all of their locks come to.
+pub fn levels(day: &Day) -> Vec<(usize, &Lane)> {
+    day.lanes.iter().enumerate().filter(|(_, lane)| lane.count > 0).collect()
+}
+
+fn row(values: &[Value]) -> String {
+    values.iter().map(Value::csv).collect::<Vec<_>>().join(",")
+}
+
+fn key(name: &str) -> String {
+    name.replace(' ', "_")
+}
+
+/// A text between JSON's quotes.
+fn quoted(text: &str) -> String {
+    let mut out = String::from("\"");
+    for c in text.chars() {
+        match c {
+            '"' | '\\' => out.extend(['\\', c]),
+            c if c < ' ' => out.push_str(&format!("\\u{:04x}", c as u32)),
+            c => out.push(c),
+        }
+    }
+    out.push('"');
+    out
+}
+
+/// A text as a cell of a table of commas; none that a spreadsheet would take for a formula.
+fn cell(text: &str) -> String {
+    let text = if text.starts_with(['=', '+', '-', '@']) { format!("'{text}") } else { text.to_string() };
+    if text.contains([',', '"', '\n', '\r']) {
+        format!("\"{}\"", text.replace('"', "\"\""))
+    } else {
+        text
+    }
+}

@@ -1,0 +1,107 @@
+//! The figures of a day, once for the page, its CSV and its JSON.
+
+use crate::day::Day;
+use crate::marks::Kind;
+use crate::profile::{Profile, Rule};
+use crate::words;
+use mbrumzheg::Time;
+
+/// A rule's day in figures.
+pub struct RuleFigures<'a> {
+    /// The rule.
+    pub rule: &'a Rule,
+    /// The most that was used, and when first.
+    pub most: u64,
+    /// That time, in milliseconds; none where nothing was used.
+    pub most_at: Option<u64>,
+    /// What was used at the end.
+    pub last: u64,
+    /// How often it cut.
+    pub cuts: u64,
+    /// How often it tripped.
+    pub trips: u64,
+}
+
+impl RuleFigures<'_> {
+    /// The most that was used, in tenths of a percent of the limit, rounded down.
+    pub fn share(&self) -> u64 {
+        crate::table::share(self.most, self.rule.limit, 1_000)
+    }
+
+    /// That share in words.
+    pub fn share_words(&self) -> String {
+        format!("{}.{}%", self.share() / 10, self.share() % 10)
+    }
+
+    /// What was left at the end.
+    pub fn left(&self) -> u64 {
+        self.rule.limit.saturating_sub(self.last)
+    }
+
+    /// Whether anything of the rule was used.
+    pub fn is_used(&self) -> bool {
+        self.most > 0 || self.cuts + self.trips > 0
+    }
+}
+
+/// Every rule's figures, the greatest share of its limit first.
+pub fn rules<'a>(profile: &'a Profile, day: &Day) -> Vec<RuleFigures<'a>> {
+    let each = profile.rules.iter().zip(day.curves.rules.iter().zip(&day.marks));
+    let mut all: Vec<RuleFigures> = each
+        .map(|(rule, (curve, marks))| RuleFigures {
+            rule,
+            most: curve.peak.1,
+            most_at: (curve.peak.1 > 0).then_some(curve.peak.0),
+            last: curve.cells.last().map_or(curve.start, |cell| cell.last),
+            cuts: marks.count(Kind::Cut),
+            trips: marks.count(Kind::Trip),
+        })
+        .collect();
+    all.sort_by_key(|figures| {
+        let exact = u128::from(figures.most) * u128::from(u64::MAX) / u128::from(figures.rule.limit.max(1));
+        (std::cmp::Reverse(exact), figures.rule.number)
+    });
+    all
+}
+
+/// The day's counts by name.
+pub fn counts(profile: &Profile, day: &Day) -> Vec<(&'static str, u128)> {
+    let sums = &day.sums;
+    let of = u128::from;
+    vec![
+        ("rules", profile.rules.len() as u128),
+        ("roots", profile.roots.len() as u128),
+        ("records", of(sums.records)),
+        ("orders", of(sums.orders)),
+        ("offers", of(sums.offers)),
+        ("lockouts by hand", of(sums.lockouts)),
+        ("contracts offered", of(sums.offered)),
+        ("contracts granted", of(sums.granted)),
+        (NOTIONAL, sums.notional),
+        ("cuts", of(sums.cuts)),
+        ("trips", of(sums.trips)),
+        ("rejected", of(sums.rejected)),
+        ("refused", of(sums.refused)),
+        ("faulty records", of(sums.faulty)),
+    ]
+}
+
+/// The one count that is an amount of money, in ten-thousandths of a dollar.
+pub const NOTIONAL: &str = "notional granted";
+
+/// A count as people read it.
+pub fn count_words(name: &str, count: u128) -> String {
+    let digits = if name == NOTIONAL { count / 10_000 } else { count };
+    let grouped = digits.to_string().as_bytes().rchunks(3).rev().map(String::from_utf8_lossy).collect::<Vec<_>>().join(",");
+    match count % 10_000 {
+        _ if name != NOTIONAL => grouped,
+        0 => format!("${grouped}"),
+        rest if rest % 100 == 0 => format!("${grouped}.{:02}", rest / 100),
+        rest => format!("${grouped}.{rest:04}"),
+    }
+}
+
+/// A time of the day as people read it.
+pub fn face(ms: u64) -> String {
+    Time::from_ms(ms).map(words::time).unwrap_or_default()
+}

@@ -1,0 +1,126 @@
+//! What the desk keeps: saving a day, replaying one, writing its report, and asking before any of it is lost.
+
+use crate::answer;
+use crate::asked::Names;
+use crate::day::Day;
+use crate::desk::Desk;
+use crate::files;
+use crate::progress::Progress;
+use crate::report;
+use crate::sitting::Sitting;
+use crate::spool::{event_of, RecordReader};
+use crate::sums::Sums;
+use crate::table::counted;
+use crate::words;
+use mbrumzheg::RECORD_SIZE;
+use std::io::{self, Write};
+
+/// Whether the desk asks before typed events are lost, and whether it just did.
+#[derive(Default)]
+pub(crate) struct Caution {
+    asks: bool,
+    asked: Option<&'static str>,
+    now: Option<&'static str>,
+}
+
+impl Caution {
+    /// Somebody is there to answer.
+    pub(crate) fn asking() -> Caution {
+        Caution { asks: true, ..Caution::default() }
+    }
+
+    /// A question counts as answered by the line after it alone.
+    pub(crate) fn next_line(&mut self) {
+        self.asked = self.now.take();
+    }
+}
+
+impl Desk {
+    /// What to ask before a command loses typed events; nothing where there are none, nobody is there, or the command was just typed.
+    pub(crate) fn question(&mut self, command: &'static str) -> Option<String> {
+        let lost = self.unsaved();
+        if lost == 0 || !self.caution.asks || self.caution.asked == Some(command) {
+            return None;
+        }
+        self.caution.now = Some(command);
+        let (are, them) = if lost == 1 { ("is", "it") } else { ("are", "them") };
+        Some(format!("{} {are} not saved: type save FILE, or {command} again to lose {them}", counted(lost, "event")))
+    }
+
+    pub(crate) fn save(&mut self, file: &str, over: bool) -> Result<String, String> {
+        let sitting = self.sitting()?;
+        files::write_records(file, &sitting.day, over)?;
+        sitting.unsaved = 0;
+        let mut text = format!("saved {} to {file}", counted(sitting.day.records() as usize, "record"));
+        if let Some(place) = sitting.day.filled().first() {
+            text.push_str(&format!(
+                "; record {place} came short, and was filled up with bytes 255 so that those after it keep their places: it is faulty as before"
+            ));
+        }
+        Ok(text)
+    }
+
+    pub(crate) fn report(&mut self, file: &str, stretch: Option<(String, String)>) -> Result<String, String> {
+        let sitting = self.sitting()?;
+        let names = Names { profile: &sitting.profile, clock: sitting.unit.clock() };
+        let stretch = stretch.map(|(from, to)| names.stretch(&from, &to)).transpose()?;
+        if sitting.place == 0 {
+            return Err("there is nothing to report yet; type offer, order, lock or replay first".to_string());
+        }
+        let reader = sitting.day.reader().map_err(|error| format!("the day's records cannot be read again: {error}"))?;
+        let mut progress = Progress::of(Some(sitting.day.records()));
+        let day = Day::replayed(&sitting.profile, reader, stretch, &mut progress)?;
+        let made = report::Made::at_the_desk(sitting);
+        files::write_report(file, &report::of_name(file, &sitting.profile, &day, &made))?;
+        Ok(format!("wrote {} on {} to {file}", report::kind(file), counted(sitting.place, "record")))
+    }
+
+    pub(crate) fn replay(&mut self, file: &str, quiet: bool, out: &mut dyn Write) -> io::Result<Result<String, String>> {
+        match self.sitting().and_then(|sitting| files::records(file).map(|opened| (sitting, opened))) {
+            Ok((sitting, (from, bytes))) => replay(sitting, file, from, bytes, quiet, out),
+            Err(advice) => Ok(Err(advice)),
+        }
+    }
+}
+
+/// Passes the records of a file, and shows their answers.
+fn replay(
+    sitting: &mut Sitting,
+    file: &str,
+    from: Box<dyn io::Read>,
+    bytes: Option<u64>,
+    quiet: bool,
+    out: &mut dyn Write,
+) -> io::Result<Result<String, String>> {
+    let clock = sitting.unit.clock();
+    let mut progress = Progress::of(bytes.map(|bytes| bytes.div_ceil(RECORD_SIZE as u64)));
+    let (mut sums, mut late) = (Sums::default(), false);
+    sitting.sources.replayed.push(file.to_string());
+    let mut records = RecordReader::new(from);
+    loop {
+        let record = match records.record() {
+            Ok(Some(record)) => record,
+            Ok(None) => break,
+            Err(error) => {
+                return Ok(Err(format!(
+                    "'{file}' cannot be read to its end: {error}; {} were passed",
+                    counted(sums.records as usize, "record")
+                )))
+            }
+        };
+        late |= sums.records == 0 && event_of(record).is_some_and(|event| event.time() < clock);
+        let passed = sitting.pass_record(record);
+        sums.take(&passed);
+        progress.step();
+        if !quiet || passed.is_notable() {
+            progress.hide();
+            writeln!(out, "{}", answer::replayed(sitting, &passed))?;
+        }
+    }
+    let advice = if late {
+        format!("; that day begins before the unit's clock, {}: type clear and arm FILE to replay it from its start", words::time(clock))
+    } else {
+        String::new()
+    };
+    Ok(Ok(format!("replayed {}{advice}", sums.words())))
+}

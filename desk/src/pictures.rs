@@ -1,0 +1,172 @@
+//! The pictures of a day: one with a lane for the firm and each root, and one for every rule that was used.
+
+use crate::chart::{bands, escaped, marks, within, Axis, BOTTOM, HEIGHT, TOP};
+use crate::day::Day;
+use crate::figures::{self, face, RuleFigures};
+use crate::marks::{Kind, Tally};
+use crate::plot::{plot, Plot};
+use crate::profile::{Measure, Profile};
+use crate::scale::Curve;
+use crate::standing::{level_name, level_of};
+use crate::table::counted;
+
+/// The height of a lane.
+const LANE: f64 = 24.0;
+/// So many bytes the curves and the bands may take: a page stays below three million whatever the day.
+const CURVE_BYTES: usize = 1_100_000;
+const BAND_BYTES: usize = 100_000;
+/// So many marks the lanes and the rules may have, each; a mark takes some hundred bytes, and a level's resets and lockouts are there twice.
+const MOST_MARKS: usize = 2_000;
+
+/// The pictures, and what they share.
+#[derive(Default)]
+pub struct Pictures {
+    /// How many buckets the curves have, and how wide each is, in milliseconds.
+    pub buckets: (u64, u64),
+    /// When each level was locked, to be used by several pictures.
+    pub shared: String,
+    /// The lanes.
+    pub lanes: String,
+    /// The rules, each in a section of its own.
+    pub rules: String,
+}
+
+/// Draws a day.
+pub fn draw(profile: &Profile, day: &Day, axis: &Axis) -> Pictures {
+    let (_, shared) = within(BAND_BYTES, |coarse| all_bands(day, axis, coarse), String::len);
+    let level_marks =
+        |coarse: u32| -> Vec<Vec<Tally>> { day.lanes.iter().map(|lane| lane.marks.joined(axis.scale, 8 << coarse)).collect() };
+    let rule_marks = |coarse: u32| -> Vec<Vec<Tally>> { day.marks.iter().map(|marks| marks.joined(axis.scale, 8 << coarse)).collect() };
+    let (_, lane_marks) = within(MOST_MARKS, level_marks, Vec::len);
+    let (_, own_marks) = within(MOST_MARKS, rule_marks, Vec::len);
+    let used: Vec<RuleFigures> = in_order(figures::rules(profile, day)).into_iter().filter(RuleFigures::is_used).collect();
+    let (halvings, plots) = within(CURVE_BYTES, |coarse| plots(&used, day, axis, coarse), |plot| plot.path.len());
+    let drawn = Drawn { profile, day, axis, lane_marks: &lane_marks };
+    let sections = used.iter().zip(&plots).map(|(figures, plot)| drawn.rule(figures, plot, &own_marks[figures.rule.number]));
+    let buckets = (axis.count.div_ceil(1 << halvings), axis.scale.width << halvings);
+    Pictures { buckets, shared: shared.concat() + &drawn.level_marks(), lanes: drawn.lanes(), rules: sections.collect() }
+}
+
+/// By number, as the profile has them.
+fn in_order(mut rules: Vec<RuleFigures>) -> Vec<RuleFigures> {
+    rules.sort_by_key(|figures| figures.rule.number);
+    rules
+}
+
+fn all_bands(day: &Day, axis: &Axis, coarse: u32) -> Vec<String> {
+    let joining = crate::scale::Scale { width: axis.scale.width << coarse, ..axis.scale };
+    let each = day.lanes.iter().enumerate().filter(|(_, lane)| !lane.locked.is_empty());
+    each.map(|(level, lane)| {
+        format!(
+            "<symbol id=\"band{level}\" viewBox=\"0 0 {} 1\" preserveAspectRatio=\"none\"><path class=\"locked\" d=\"{}\"/></symbol>",
+            axis.count,
+            bands(axis, &lane.bands(joining))
+        )
+    })
+    .collect()
+}
+
+fn plots(used: &[RuleFigures], day: &Day, axis: &Axis, halvings: u32) -> Vec<Plot> {
+    let each = used.iter().filter_map(|figures| Some((figures.rule, day.curves.rules.get(figures.rule.number)?)));
+    each.map(|(rule, curve)| {
+        let coarser = (0..halvings).fold(None::<Curve>, |before, _| Some(before.as_ref().unwrap_or(curve).halved()));
+        plot(rule, coarser.as_ref().unwrap_or(curve), axis.count.div_ceil(1 << halvings))
+    })
+    .collect()
+}
+
+/// What all pictures are drawn with.
+struct Drawn<'a> {
+    profile: &'a Profile,
+    day: &'a Day,
+    axis: &'a Axis,
+    lane_marks: &'a [Vec<Tally>],
+}
+
+impl Drawn<'_> {
+    /// The firm's lane and the roots', with what happened to each.
+    fn lanes(&self) -> String {
+        let bottom = 4.0 + LANE * self.day.lanes.len() as f64;
+        let mut inner = self.axis.draw(4.0, bottom);
+        let mut names = String::new();
+        for (level, tallies) in self.lane_marks.iter().enumerate() {
+            let top = 4.0 + LANE * level as f64;
+            let middle = top + LANE / 2.0;
+            inner.push_str(&self.band(level, top + 3.0, LANE - 6.0));
+            inner.push_str(&format!("<line class=\"base\" x1=\"0\" y1=\"{middle}\" x2=\"100%\" y2=\"{middle}\"/>"));
+            inner.push_str(&marks(self.axis, tallies, |kind| match kind {
+                Kind::Cut => middle - 6.0,
+                Kind::Rejected => middle + 7.0,
+                _ => middle,
+            }));
+            names.push_str(&format!("<b>{}</b>", escaped(&level_name(self.profile, level))));
+        }
+        let about =
+            format!("The firm and {} over time: when each was locked, and what happened to it.", counted(self.profile.roots.len(), "root"));
+        format!(
+            "<div class=\"chart lanes\"><div class=\"names\" aria-hidden=\"true\">{names}</div>\
+             <svg class=\"plot\" height=\"{}\" role=\"img\" aria-label=\"{}\">{inner}</svg></div>",
+            bottom + 22.0,
+            escaped(&about)
+        )
+    }
+
+    /// The resets and lockouts of each level, which all of its rules show.
+    fn level_marks(&self) -> String {
+        let of_level = |(level, tallies): (usize, &Vec<Tally>)| {
+            let shared: Vec<Tally> = tallies.iter().copied().filter(|tally| matches!(tally.kind, Kind::Reset | Kind::Lockout)).collect();
+            format!("<g id=\"level{level}\">{}</g>", marks(self.axis, &shared, |_| BOTTOM))
+        };
+        self.lane_marks.iter().enumerate().map(of_level).collect()
+    }
+
+    /// When a level was locked, if it ever was.
+    fn band(&self, level: usize, top: f64, height: f64) -> String {
+        let locked = self.day.lanes.get(level).is_some_and(|lane| !lane.locked.is_empty());
+        if !locked {
+            return String::new();
+        }
+        format!("<use href=\"#band{level}\" y=\"{top}\" width=\"100%\" height=\"{height}\"/>")
+    }
+
+    /// A rule's use over time against its limit.
+    fn rule(&self, figures: &RuleFigures, plot: &Plot, own: &[Tally]) -> String {
+        let rule = figures.rule;
+        let words = escaped(&self.profile.rule_words(rule));
+        let summary = summary(figures);
+        let money = if rule.measure == Measure::Notional { " data-money" } else { "" };
+        let share = (BOTTOM - TOP) * 0.03;
+        format!(
+            "<section class=\"rule\" id=\"rule{number}\"><h3>{words}</h3><p>{summary}</p><div class=\"chart\"><div class=\"g\" aria-hidden=\"true\">\
+             <i>limit</i><i>80%</i><i>50%</i><i>0</i></div><svg class=\"plot\" height=\"{HEIGHT}\" role=\"img\" tabindex=\"0\" aria-label=\"Use of {words}. \
+             {summary}\" data-limit=\"{}\" data-unit=\"{}\"{money}><use href=\"#ticks\"/>{}<svg class=\"curve\" y=\"{:.2}\" width=\"100%\" height=\"{:.2}\" \
+             viewBox=\"{}\" preserveAspectRatio=\"none\"><path class=\"use\" d=\"{}\"/></svg><use href=\"#levels\"/><use href=\"#level{}\"/>{}</svg></div></section>",
+            rule.limit,
+            plot.unit,
+            self.band(level_of(rule.scope), TOP, BOTTOM - TOP),
+            TOP - share,
+            (BOTTOM - TOP) * 1.06,
+            plot.view,
+            plot.path,
+            level_of(rule.scope),
+            marks(self.axis, own, |kind| if kind == Kind::Cut { 8.0 } else { TOP }),
+            number = rule.number,
+        )
+    }
+}
+
+/// The rule's day in a sentence.
+fn summary(figures: &RuleFigures) -> String {
+    let mut text = match figures.most_at {
+        None => "Nothing used.".to_string(),
+        Some(ms) => {
+            format!("Most used: {} ({} of the limit), first at {}.", figures.rule.amount(figures.most), figures.share_words(), face(ms))
+        }
+    };
+    for (count, kind) in [(figures.cuts, Kind::Cut), (figures.trips, Kind::Trip)] {
+        if count > 0 {
+            text.push_str(&format!(" {}.", kind.counted(count)));
+        }
+    }
+    text
+}

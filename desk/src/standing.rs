@@ -1,0 +1,143 @@
+//! How the levels stand: which are locked, since when and by what, and which rules have tripped.
+
+use crate::profile::{Profile, Scope};
+use crate::words;
+use mbrumzheg::{Marks, Reset, Root, Time};
+
+/// A level's number: 0 is the firm, and a root's is one more than its own.
+pub fn level_of(scope: Scope) -> usize {
+    match scope {
+        Scope::Firm => 0,
+        Scope::Root(root) | Scope::Unit(root, _) => root + 1,
+    }
+}
+
+/// The level of a root, or of the firm.
+pub fn level(root: Root, firm: bool) -> usize {
+    if firm {
+        0
+    } else {
+        root.number() as usize + 1
+    }
+}
+
+/// The levels that a reset frees.
+pub fn reset_levels(root: Root, reset: Reset) -> Vec<usize> {
+    match reset {
+        Reset::None => Vec::new(),
+        Reset::Symbol => vec![level(root, false)],
+        Reset::Firm => vec![0],
+        Reset::Both => vec![level(root, false), 0],
+    }
+}
+
+/// The name of a level.
+pub fn level_name(profile: &Profile, level: usize) -> String {
+    match level {
+        0 => format!("firm {}", profile.firm),
+        _ => format!("root {}", profile.root_name(level as u64 - 1)),
+    }
+}
+
+/// A lock of a level, from its first cause to the time at which the level is free again.
+#[derive(Clone, Debug, Default, PartialEq, Eq)]
+pub struct Lock {
+    /// Which level.
+    pub level: usize,
+    /// Since when, in milliseconds.
+    pub since: u64,
+    /// The rules whose trip is a cause, and when they tripped.
+    pub tripped: Option<(u64, Vec<usize>)>,
+    /// When a user's lockout became a cause.
+    pub by_hand: Option<u64>,
+    /// Orders, offers and contracts that were rejected for it.
+    pub rejected: [u64; 3],
+}
+
+impl Lock {
+    /// What locked the level, its rules by all their words.
+    pub fn cause(&self, profile: &Profile) -> String {
+        self.cause_by(|number| profile.rules.get(number).map(|rule| profile.rule_words(rule)).unwrap_or_default())
+    }
+
+    /// What locked the level, its rules by their numbers.
+    pub fn short_cause(&self) -> String {
+        self.cause_by(|number| format!("rule {number}"))
+    }
+
+    /// A cause that came later than the lock is said with its time.
+    fn cause_by(&self, name: impl Fn(usize) -> String) -> String {
+        let later = |ms: u64| match Time::from_ms(ms) {
+            Ok(time) if ms > self.since => format!(" at {}", words::time(time)),
+            _ => String::new(),
+        };
+        let trip = self.tripped.as_ref().map(|(at, rules)| {
+            let names: Vec<String> = rules.iter().map(|number| name(*number)).collect();
+            format!("{} tripped{}", names.join(" and "), later(*at))
+        });
+        let hand = self.by_hand.map(|at| format!("locked by hand{}", later(at)));
+        trip.into_iter().chain(hand).collect::<Vec<_>>().join("; ")
+    }
+}
+
+/// The levels' locks and the rules' trips.
+pub struct Standing {
+    locks: Vec<Option<Lock>>,
+    tripped: Vec<Option<u64>>,
+}
+
+impl Standing {
+    /// Everything free.
+    pub fn of(profile: &Profile) -> Standing {
+        Standing { locks: vec![None; profile.roots.len() + 1], tripped: vec![None; profile.rules.len()] }
+    }
+
+    /// The lock of a level, if it is locked.
+    pub fn lock(&self, level: usize) -> Option<&Lock> {
+        self.locks.get(level)?.as_ref()
+    }
+
+    /// When a rule tripped, if its level is still locked for it.
+    pub fn tripped(&self, rule: usize) -> Option<u64> {
+        self.tripped.get(rule).copied().flatten()
+    }
+
+    /// All locks that hold.
+    pub fn locks(&self) -> impl Iterator<Item = &Lock> {
+        self.locks.iter().flatten()
+    }
+
+    /// Takes what the library says of a level's marks at a time, and the rules that tripped it then; answers the lock that has ended.
+    pub fn take(&mut self, profile: &Profile, level: usize, ms: u64, marks: Marks, rules: &[usize]) -> Option<Lock> {
+        for number in rules {
+            if let Some(tripped) = self.tripped.get_mut(*number) {
+                *tripped = Some(ms);
+            }
+        }
+        let of_level = |number: usize| profile.rules.get(number).is_some_and(|rule| level_of(rule.scope) == level);
+        if !marks.tripped {
+            let rules = self.tripped.iter_mut().enumerate().filter(|(number, _)| of_level(*number));
+            rules.for_each(|(_, tripped)| *tripped = None);
+        }
+        let place = self.locks.get_mut(level)?;
+        if !marks.locked() {
+            return place.take();
+        }
+        let lock = place.get_or_insert_with(|| Lock { level, since: ms, ..Lock::default() });
+        lock.tripped = match (marks.tripped, lock.tripped.take()) {
+            (false, _) => None,
+            (true, Some(before)) => Some(before),
+            (true, None) => Some((ms, rules.iter().copied().filter(|number| of_level(*number)).collect())),
+        };
+        lock.by_hand = marks.locked_by_user.then(|| lock.by_hand.unwrap_or(ms));
+        None
+    }
+
+    /// Counts an order, or an offer of so many contracts, that was rejected for a level's lock.
+    pub fn reject(&mut self, level: usize, contracts: Option<u64>) {
+        if let Some(Some(lock)) = self.locks.get_mut(level) {
+            lock.rejected[usize::from(contracts.is_some())] += 1;
+            lock.rejected[2] += contracts.unwrap_or(0);
+        }
+    }
+}

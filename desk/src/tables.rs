@@ -1,0 +1,114 @@
+//! The tables of a page: the rules by the greatest share of their limit, the locks with what was rejected for each, and what did not simply pass.
+
+use crate::chart::escaped;
+use crate::day::Day;
+use crate::entries::{Entry, Group};
+use crate::export;
+use crate::figures::{face, RuleFigures};
+use crate::profile::Profile;
+use crate::standing::level_name;
+use crate::words::grouped;
+
+/// A table with a class for each column: `n` for numbers, `more` for what a narrow page leaves out.
+fn table(id: &str, heads: &[(&str, &str)], rows: impl Iterator<Item = Vec<String>>) -> String {
+    let open = |tag: &str, class: &str| if class.is_empty() { format!("<{tag}") } else { format!("<{tag} class=\"{class}\"") };
+    let head: String = heads.iter().map(|(name, class)| format!("{} scope=\"col\">{name}</th>", open("th", class))).collect();
+    let row = |cells: Vec<String>| {
+        let cells: String = cells.iter().zip(heads).map(|(cell, (_, class))| format!("{}>{cell}</td>", open("td", class))).collect();
+        format!("<tr>{cells}</tr>")
+    };
+    let body: String = rows.map(row).collect();
+    format!("<div class=\"scroll\"><table id=\"{id}\"><thead><tr>{head}</tr></thead><tbody>{body}</tbody></table></div>")
+}
+
+/// The rules, the greatest share of its limit first, each with a link to its picture.
+pub fn overview(profile: &Profile, rules: &[RuleFigures]) -> String {
+    let heads = [
+        ("Rule, the greatest share of its limit first", ""),
+        ("Most used", ""),
+        ("Share", "n"),
+        ("Amount", "n more"),
+        ("First at", "n more"),
+        ("Left at the end", "n more"),
+        ("Cuts", "n"),
+        ("Trips", "n"),
+    ];
+    table("rules", &heads, rules.iter().map(|figures| overview_row(profile, figures)))
+}
+
+fn overview_row(profile: &Profile, figures: &RuleFigures) -> Vec<String> {
+    let rule = figures.rule;
+    let words = escaped(&profile.rule_words(rule));
+    let class = match figures.share() {
+        1_000.. => "full",
+        800.. => "high",
+        500.. => "half",
+        _ => "low",
+    };
+    vec![
+        if figures.is_used() { format!("<a href=\"#rule{}\">{words}</a>", rule.number) } else { words },
+        format!("<span class=\"bar {class}\"><i style=\"width:{}\"></i></span>", figures.share_words()),
+        figures.share_words(),
+        rule.amount(figures.most).to_string(),
+        figures.most_at.map_or_else(String::new, face),
+        rule.amount(figures.left()).to_string(),
+        grouped(figures.cuts),
+        grouped(figures.trips),
+    ]
+}
+
+/// What the locks of each level come to, and the locks one by one, with what was rejected for each.
+pub fn locks(profile: &Profile, day: &Day) -> String {
+    let (levels, told) = (export::levels(day), export::told(day));
+    if levels.is_empty() {
+        return "<p>Nothing was locked.</p>".to_string();
+    }
+    let rejected = |counts: [u64; 3]| counts.into_iter().map(grouped);
+    let rejections = [("Orders rejected", "n"), ("Offers rejected", "n"), ("Contracts", "n more")];
+    let sums = levels.iter().map(|(level, lane)| {
+        let name = escaped(&level_name(profile, *level));
+        [name, grouped(lane.count)].into_iter().chain(rejected(lane.rejected)).collect()
+    });
+    let each = told.iter().map(|told| {
+        let until = told.until.map_or_else(|| "holds".to_string(), face);
+        let about = [level_name(profile, told.lock.level), face(told.lock.since), until, told.lock.cause(profile)];
+        about.iter().map(|text| escaped(text)).chain(rejected(told.lock.rejected)).collect()
+    });
+    let count: u64 = levels.iter().map(|(_, lane)| lane.count).sum();
+    let rest = match count - told.len() as u64 {
+        0 => String::new(),
+        rest => format!("<p>The first {} locks are told one by one; {} more are in the sums above.</p>", told.len(), grouped(rest)),
+    };
+    let sums = table("levels", &[&[("Level", ""), ("Locks", "n")], &rejections[..]].concat(), sums);
+    let heads = [("Locked", ""), ("Since", ""), ("Until", ""), ("Cause", "")];
+    format!("{sums}{}{rest}", table("lock-list", &[&heads[..], &rejections[..]].concat(), each))
+}
+
+/// What did not simply pass: cuts and trips, locks and refusals before rejections.
+pub fn events(day: &Day) -> String {
+    let groups: String = Group::ALL.iter().map(|group| event_group(*group, day.entries.of(*group))).collect();
+    if groups.is_empty() {
+        return "<p>Nothing: everything passed.</p>".to_string();
+    }
+    groups
+}
+
+fn event_group(group: Group, (entries, count): (&[Entry], u64)) -> String {
+    if entries.is_empty() {
+        return String::new();
+    }
+    let heads = [("Record", "n"), ("What was asked", ""), ("Answer", ""), ("Numbers", "numbers")];
+    let rows = table(group.id(), &heads, entries.iter().map(event_row));
+    let more = if count > entries.len() as u64 {
+        format!("<p>The first {} of {} are shown.</p>", grouped(entries.len() as u64), grouped(count))
+    } else {
+        String::new()
+    };
+    format!("<h3>{}: {}</h3>{rows}{more}", group.heading(), grouped(count))
+}
+
+fn event_row(entry: &Entry) -> Vec<String> {
+    let (asked, rest) = entry.words.split_once(": ").unwrap_or(("", &entry.words));
+    let (answer, numbers) = rest.split_once("  [").unwrap_or((rest, ""));
+    vec![grouped(entry.place as u64), escaped(asked), escaped(answer), escaped(numbers.trim_end_matches(']'))]
+}

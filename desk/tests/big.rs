@@ -1,0 +1,76 @@
+//! Days of any size: the desk's memory does not grow with the day, its page stays small, and a stretch of a long day is the stretch alone.
+use std::fs;
+use std::path::{Path, PathBuf};
+use std::process::{Command, Stdio};
+use std::time::Duration;
+
+/// A folder with a profile and a day that the example `big_day` draws.
+fn drawn(name: &str, records: u64, rules: u64) -> PathBuf {
+    let place = std::env::temp_dir().join(format!("desk-big-{name}-{}", std::process::id()));
+    fs::create_dir_all(&place).expect("a folder");
+    let desk = Path::new(env!("CARGO_BIN_EXE_desk"));
+    let example = desk.with_file_name("examples").join("big_day");
+    let done = Command::new(example).args(["7", &records.to_string(), &rules.to_string()]).arg(&place).status();
+    assert!(done.expect("cargo test builds the examples").success());
+    place
+}
+
+/// Reports a day and answers what was said, and the most memory that the desk had, in kilobytes, where the system tells it.
+fn report(place: &Path, words: &[&str]) -> (String, Option<u64>) {
+    let mut child = Command::new(env!("CARGO_BIN_EXE_desk"))
+        .args(["report", "profile", "records"])
+        .args(words)
+        .current_dir(place)
+        .stdout(Stdio::piped())
+        .spawn()
+        .expect("the desk runs");
+    let status = format!("/proc/{}/status", child.id());
+    let mut most = None;
+    while child.try_wait().expect("waited").is_none() {
+        let text = fs::read_to_string(&status).unwrap_or_default();
+        let peak = text.lines().find_map(|line| line.strip_prefix("VmHWM:")).and_then(|rest| rest.trim().split(' ').next()?.parse().ok());
+        most = most.max(peak);
+        std::thread::sleep(Duration::from_millis(5));
+    }
+    let output = child.wait_with_output().expect("ended");
+    assert!(output.status.success());
+    (String::from_utf8(output.stdout).expect("text"), most)
+}
+
+#[test]
+fn memory_does_not_grow_with_the_day() {
+    let (short, long) = (drawn("short", 20_000, 24), drawn("long", 200_000, 24));
+    let (_, little) = report(&short, &["page.html"]);
+    let (said, much) = report(&long, &["page.html"]);
+    assert!(said.starts_with("wrote a page on 200,000 records to page.html"), "{said}");
+    if let (Some(little), Some(much)) = (little, much) {
+        assert!(much < little + little / 4 + 4_096, "{little} kilobytes for a tenth of the day, {much} for all of it");
+    }
+    for place in [short, long] {
+        fs::remove_dir_all(place).expect("removed");
+    }
+}
+
+#[test]
+fn a_page_of_256_rules_is_below_3_million_bytes() {
+    let place = drawn("rules", 60_000, 256);
+    report(&place, &["page.html"]);
+    let page = fs::read_to_string(place.join("page.html")).expect("a page");
+    assert_eq!(page.matches("<section class=\"rule\"").count(), 256, "every rule is drawn");
+    assert!(page.len() < 3_000_000, "{} bytes", page.len());
+    fs::remove_dir_all(place).expect("removed");
+}
+
+#[test]
+fn a_stretch_of_a_long_day_is_the_stretch_alone() {
+    let place = drawn("stretch", 40_000, 16);
+    report(&place, &["whole.json"]);
+    report(&place, &["part.json", "from", "10:00", "to", "10:01"]);
+    let [whole, part] = ["whole.json", "part.json"].map(|name| fs::read_to_string(place.join(name)).expect("figures"));
+    assert!(part.contains("\"stretch\":{\"from_ms\":36000000,\"to_ms\":36060000}") && whole.contains("\"stretch\":null"));
+    let line = |text: &str, name: &str| text.lines().find(|line| line.starts_with(&format!("\"{name}\":"))).map(str::to_string);
+    assert_eq!(line(&whole, "counts"), line(&part, "counts"), "counts are the whole day's");
+    let times: Vec<u64> = part.split("\"most_used_at_ms\":").skip(1).filter_map(|rest| rest.split(',').next()?.parse().ok()).collect();
+    assert!(times.len() > 10 && times.iter().all(|ms| (36_000_000..=36_060_000).contains(ms)), "{times:?}");
+    fs::remove_dir_all(place).expect("removed");
+}
