@@ -1,0 +1,70 @@
+/* Runs the same day on several threads at the same time, each on memory of its own: each must end with the memory that the day leaves when it runs alone.
+ * Then all threads read one memory at the same time, by Status and Remaining, and must get what one alone gets. Ends with 0 if it is so. */
+#include <pthread.h>
+#include <stdio.h>
+#include <string.h>
+
+#include "mbrumzheg.h"
+
+enum { THREADS = 4, EVENTS = 20000 };
+
+static uint64_t memories[THREADS + 1][MBRUMZHEG_SIZE];
+static uint64_t sums[THREADS + 1];
+
+/* The next of a row of numbers that look drawn at random. */
+static uint64_t next(uint64_t *seed) {
+    *seed = *seed * 6364136223846793005u + 1442695040888963407u;
+    return *seed >> 33;
+}
+
+/* A day of offers, orders with resets and lockouts, over rate and absolute rules. */
+static void *run_day(void *memory) {
+    static const char profile[] = "AB,rate_vol,X,5000,1000\nAB,abs_vol,Y,90000\nAB,rate_ntnl,,900000,200,T\nAB,rate_count,Y,20,500,,P,F\n";
+    uint64_t seed = 7, time = 0;
+    mbrumzheg_try_arm((uint64_t *)memory, MBRUMZHEG_SIZE, profile, strlen(profile));
+    for (int n = 0; n < EVENTS; n++) {
+        const uint64_t drawn = next(&seed), root = drawn % 2;
+        time += drawn % 30;
+        if (drawn % 16 == 3) mbrumzheg_try_order((uint64_t *)memory, MBRUMZHEG_SIZE, time, root, next(&seed) % 4);
+        else if (drawn % 256 == 5) mbrumzheg_try_lockout((uint64_t *)memory, MBRUMZHEG_SIZE, time, 0, root);
+        else mbrumzheg_try_offer((uint64_t *)memory, MBRUMZHEG_SIZE, time, root, next(&seed) % 4, 1 + drawn % 90000, 1 + next(&seed) % 400);
+    }
+    return NULL;
+}
+
+/* What reading the last memory over and over adds up to. */
+static void *read_all(void *sum) {
+    const uint64_t *memory = memories[THREADS], time = MBRUMZHEG_LAST_TIME;
+    *(uint64_t *)sum = 0;
+    for (uint64_t n = 0; n < EVENTS; n++) {
+        const struct mbrumzheg_remains remains = mbrumzheg_try_remaining(memory, MBRUMZHEG_SIZE, time, n % 4);
+        const struct mbrumzheg_standing standing = mbrumzheg_try_status(memory, MBRUMZHEG_SIZE);
+        *(uint64_t *)sum += n * remains.amount + standing.locked + remains.refusal + standing.refusal;
+    }
+    return NULL;
+}
+
+/* Does one thing on every thread at the same time; whether they could be started. */
+static bool at_once(void *(*what)(void *), void *of[THREADS]) {
+    pthread_t threads[THREADS];
+    for (int n = 0; n < THREADS; n++)
+        if (pthread_create(&threads[n], NULL, what, of[n]) != 0) return false;
+    for (int n = 0; n < THREADS; n++) pthread_join(threads[n], NULL);
+    return true;
+}
+
+int main(void) {
+    void *own[THREADS], *own_sum[THREADS];
+    bool so;
+    for (int n = 0; n < THREADS; n++) own[n] = memories[n];
+    for (int n = 0; n < THREADS; n++) own_sum[n] = &sums[n];
+    run_day(memories[THREADS]);
+    read_all(&sums[THREADS]);
+    so = at_once(run_day, own) && at_once(read_all, own_sum) && memories[THREADS][1] > 0 && sums[THREADS] > 0;
+    for (int n = 0; n < THREADS; n++) {
+        so = so && memcmp(memories[n], memories[THREADS], sizeof memories[n]) == 0;
+        so = so && sums[n] == sums[THREADS];
+    }
+    if (!so) fprintf(stderr, "c/threads.c: a thread has another memory or other answers than the day alone\n");
+    return so ? 0 : 1;
+}
