@@ -82,3 +82,6 @@ class Values(unittest.TestCase):
             done = doctest.testmod(module)
             self.assertEqual(done.failed, 0)
             self.assertGreater(done.attempted, 0)
+        done = doctest.testfile("../README.md")
+        self.assertEqual(done.failed, 0)
+        self.assertGreater(done.attempted, 10)
