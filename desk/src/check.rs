@@ -22,6 +22,11 @@ pub fn check(name: &str, text: &[u8]) -> Result<String, String> {
     }
 }
 
+/// Why a profile arms no unit, with the library's numbers.
+pub fn refused(text: &[u8], why: ArmRefusal) -> String {
+    format!("{}\nnot armed  {}", explain::refused(text, why), numbers(why))
+}
+
 /// What a unit was armed with, with at most so many rules in words.
 pub fn armed(profile: &Profile, most: usize) -> String {
     let (firm, rules, roots) = (&profile.firm, profile.rules.len(), profile.roots.len());

@@ -29,6 +29,7 @@ pub mod program;
 pub mod progress;
 pub mod report;
 pub mod scale;
+pub mod serve;
 pub mod sha256;
 pub mod sitting;
 pub mod spool;

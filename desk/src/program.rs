@@ -8,6 +8,7 @@ use crate::lines::{run, Ended, Manner};
 use crate::paint;
 use crate::profile::Profile;
 use crate::report;
+use crate::serve;
 use crate::table::counted;
 use mbrumzheg::Time;
 use std::io::{self, BufReader, IsTerminal, Read, Write};
@@ -21,6 +22,7 @@ usage: desk                    lines from the terminal or a pipe
        desk report PROFILE RECORDS PAGE [from TIME to TIME]
                                a page (HTML) on a recorded day or a part of it;
                                if PAGE ends in .csv or .json, its figures
+       desk serve [PROFILE]    the desk as a page in the browser of this machine
        desk help [COMMAND]     what can be typed
        desk --version
 ";
@@ -71,7 +73,9 @@ fn call(words: &[&str], dialogue: Dialogue) -> io::Result<End> {
         ["check", name] => checked(name, out),
         ["report", profile, records, page] => report(profile, records, page, None, out),
         ["report", profile, records, page, "from", from, "to", to] => report(profile, records, page, Some((from, to)), out),
-        [name @ ("check" | "report"), ..] => wrong(&format!("{name} takes other words after it")),
+        ["serve"] => served(None, out),
+        ["serve", profile] => served(Some(profile), out),
+        [name @ ("check" | "report" | "serve"), ..] => wrong(&format!("{name} takes other words after it")),
         [option, ..] if option.starts_with('-') => wrong(&format!("'{option}' is no option")),
         [script] => from_file(script, out),
         _ => wrong("too many words"),
@@ -125,6 +129,13 @@ fn checked(name: &str, out: &mut dyn Write) -> io::Result<End> {
     match text.map(|text| check::check(name, &text)) {
         Ok(Ok(words)) => writeln!(out, "{words}").map(|()| End::Done),
         Ok(Err(words)) => writeln!(out, "{words}").map(|()| End::NotDone),
+        Err(advice) => writeln!(io::stderr(), "desk: {advice}").map(|()| End::WrongUse),
+    }
+}
+
+fn served(profile: Option<&str>, out: &mut dyn Write) -> io::Result<End> {
+    match serve::serve(profile, out)? {
+        Ok(()) => Ok(End::Done),
         Err(advice) => writeln!(io::stderr(), "desk: {advice}").map(|()| End::WrongUse),
     }
 }

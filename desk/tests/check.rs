@@ -202,3 +202,12 @@ fn what_may_not_be_meant_is_warned_of() {
         assert_eq!(explain::warnings(quiet.as_bytes()), [], "{quiet}");
     }
 }
+
+#[test]
+fn the_check_in_the_paper_on_the_desk_is_true() {
+    let paper = include_str!("../../docs/DESK.md");
+    let (_, from_profile) = paper.split_once("```\n$ cat limits\n").expect("a profile");
+    let (profile, after) = from_profile.split_once("$ desk check limits\n").expect("a call");
+    let (said, _) = after.split_once("\n```\n").expect("the block ends");
+    assert_eq!(check("limits", profile.as_bytes()).as_deref(), Ok(said));
+}

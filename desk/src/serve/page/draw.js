@@ -1,0 +1,165 @@
+// Draws the desk's state. Texts are set as texts, never as markup.
+
+const $ = (id) => document.getElementById(id);
+
+export function element(name, text, className) {
+  const made = document.createElement(name);
+  if (text !== undefined) made.textContent = text;
+  if (className) made.className = className;
+  return made;
+}
+
+export function draw(state, sort) {
+  const armed = state.armed;
+  $("work").hidden = !armed;
+  $("profile").hidden = !!armed;
+  $("back").hidden = !state.canBringBack;
+  $("version").textContent = "Version " + state.version + ".";
+  $("where").textContent = armed ? `firm ${armed.firm}, clock ${armed.clock}` : "not armed";
+  document.title = armed ? `Desk: ${armed.firm}` : "Desk";
+  able("undo", state.place > 0);
+  able("redo", state.undone > 0);
+  able("clear", !!armed);
+  able("save", state.place > 0);
+  able("report", state.place > 0);
+  $("save").classList.toggle("main", state.unsaved);
+  levels(armed ? armed.levels : []);
+  if (!armed) return;
+  roots(armed.roots);
+  locks(armed);
+  rules(armed, sort);
+  $("armed-from").textContent = `The profile, ${state.profile.name}`;
+  $("armed-text").textContent = state.profile.text;
+  lines(state);
+}
+
+function able(id, is) {
+  const own = $(id);
+  if (own.tagName === "A") {
+    own.setAttribute("aria-disabled", String(!is));
+    own.tabIndex = is ? 0 : -1;
+  } else own.disabled = !is;
+}
+
+function levels(all) {
+  const chips = all.map((level) => {
+    const chip = element("li", level.locked ? `${level.name}: ${level.why}` : `${level.name}: free`);
+    if (level.locked) {
+      chip.className = level.why === "locked by hand" ? "locked hand" : "locked";
+      chip.title = `since ${level.since}: ${level.cause}`;
+    }
+    return chip;
+  });
+  $("levels").replaceChildren(...chips);
+}
+
+// What is locked, since when and by what, and the library's status.
+function locks(armed) {
+  const locked = armed.levels.filter((level) => level.locked);
+  const lines = locked.map((level) => element("li", `${level.name} is locked since ${level.since}: ${level.cause}`, "locked"));
+  const [tripped, hand, all, lowest] = armed.status;
+  const words = `roots tripped ${tripped}, locked by hand ${hand}, locked at all ${all}`;
+  lines.push(element("li", `${words} [${[tripped, hand, all, lowest].join(" ")}]`));
+  $("locks").replaceChildren(...lines);
+}
+
+// The roots to choose from; the one that was chosen stays so.
+function roots(names) {
+  const own = $("root");
+  const now = own.value;
+  if ([...own.options].map((option) => option.value).join() === names.join()) return;
+  own.replaceChildren(...names.map((name) => new Option(name, name)));
+  if (names.includes(now)) own.value = now;
+  document.querySelectorAll("#offer button, [data-reset], [data-lock=root]").forEach((button) => (button.disabled = names.length === 0));
+}
+
+// A gauge for each rule, kept from one state to the next so that it moves.
+function rules(armed, sort) {
+  const list = $("rules");
+  const sorted = [...armed.rules];
+  if (sort === "share") sorted.sort((a, b) => b.thousandths - a.thousandths || a.number - b.number);
+  const known = new Map([...list.children].map((own) => [own.dataset.rule, own]));
+  const drawn = sorted.map((rule) => {
+    const key = `${rule.number} ${rule.kind} ${rule.of} ${rule.limit}`;
+    const own = known.get(key) || gauge(key);
+    fill(own, rule);
+    return own;
+  });
+  if (drawn.length !== list.children.length || drawn.some((own, place) => list.children[place] !== own)) list.replaceChildren(...drawn);
+}
+
+function gauge(key) {
+  const own = element("li");
+  own.dataset.rule = key;
+  const top = element("div", undefined, "top");
+  top.append(element("b"), element("span"), element("i"));
+  const bar = element("div", undefined, "bar");
+  bar.append(element("i"));
+  bar.setAttribute("role", "meter");
+  bar.setAttribute("aria-valuemin", "0");
+  bar.setAttribute("aria-valuemax", "100");
+  const bottom = element("div", undefined, "bottom");
+  bottom.append(element("span", "", "used"), element("span", "", "left"), element("span", "", "trip"));
+  own.append(top, bar, bottom);
+  return own;
+}
+
+function fill(own, rule) {
+  const [top, bar, bottom] = own.children;
+  top.children[0].textContent = `rule ${rule.number}`;
+  top.children[1].textContent = `${rule.kind}, ${rule.meaning}`;
+  top.children[2].textContent = `${rule.percent}%`;
+  const share = rule.thousandths;
+  bar.className = "bar" + (share >= 1000 ? " full" : share >= 800 ? " high" : share >= 500 ? " half" : "");
+  bar.setAttribute("aria-label", `use of rule ${rule.number}`);
+  bar.setAttribute("aria-valuenow", String(rule.percent));
+  bar.firstChild.style.width = `${share / 10}%`;
+  bottom.children[0].textContent = `used ${rule.used} of ${rule.limit}`;
+  bottom.children[1].textContent = `left ${rule.left} [${rule.remaining}]`;
+  bottom.children[2].textContent = rule.tripped ? `tripped at ${rule.tripped}` : "";
+}
+
+export function drawLine(entry, place) {
+  const row = element("tr");
+  row.dataset.place = entry.place;
+  if (entry.place === place) row.className = "now";
+  row.append(element("td", entry.place), element("td", entry.asked), element("td", entry.words, entry.tone));
+  row.append(element("td", entry.numbers.join(" ")));
+  const cell = element("td");
+  if (entry.place !== place) {
+    const button = element("button", "back to here");
+    button.dataset.go = entry.place;
+    button.setAttribute("aria-label", `back to event ${entry.place}`);
+    cell.append(button);
+  }
+  row.append(cell);
+  return row;
+}
+
+function lines(state) {
+  $("lines").replaceChildren(...state.log.map((entry) => drawLine(entry, state.place)).reverse());
+  $("earlier").hidden = state.log.length === 0 || state.log[0].place <= 1;
+  const undone = state.undone > 0 ? `, ${state.undone} undone (a new event drops them)` : "";
+  $("counts").textContent = `${state.place} ${state.place === 1 ? "event" : "events"}${undone}${state.unsaved ? ", not saved" : ""}`;
+}
+
+// Says what came of an event, or shows words.
+export function say(said) {
+  const entry = said.event;
+  const block = said.words && said.words.includes("\n");
+  $("asked").textContent = entry ? entry.asked : "";
+  $("words").className = entry ? entry.tone : "";
+  $("words").textContent = entry ? entry.words : block ? "" : said.words;
+  $("shown").hidden = !block;
+  $("shown").className = "";
+  $("shown").textContent = block ? said.words : "";
+  $("numbers").hidden = !entry;
+  if (entry) [...$("numbers").querySelectorAll("dd")].forEach((cell, place) => (cell.textContent = entry.numbers[place]));
+}
+
+// Says what is wrong with what was asked; nothing was changed.
+export function advise(advice) {
+  say({ words: advice });
+  (advice.includes("\n") ? $("shown") : $("words")).className = "advice";
+  if ($("work").hidden) $("check").textContent = advice;
+}

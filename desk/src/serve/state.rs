@@ -1,0 +1,95 @@
+//! The desk as JSON, for the page to draw.
+
+use super::bench::Bench;
+use super::json::{list, maybe, object, text};
+use crate::answer::why_locked;
+use crate::asked::Names;
+use crate::check::meaning;
+use crate::profile::Rule;
+use crate::sitting::Sitting;
+use crate::standing::{level_name, level_of};
+use crate::table::share;
+use crate::words;
+use mbrumzheg::Time;
+
+/// So many lines of the log come with a state; older ones are asked for.
+const MOST_LINES: usize = 200;
+
+/// The desk as it stands, its gauges at a time that was asked for, if there is one.
+pub fn of(bench: &Bench, at: &str) -> Result<String, String> {
+    let armed = match &bench.sitting {
+        Some(sitting) => armed(sitting, at)?,
+        None => "null".to_string(),
+    };
+    Ok(object(&[
+        ("version", text(crate::report::VERSION)),
+        ("profile", object(&[("name", text(&bench.profile.0)), ("text", text(&String::from_utf8_lossy(&bench.profile.1)))])),
+        ("armed", armed),
+        ("place", bench.place().to_string()),
+        ("undone", bench.undone.len().to_string()),
+        ("unsaved", bench.is_unsaved().to_string()),
+        ("canBringBack", bench.has_before().to_string()),
+        ("log", log(bench, bench.log.len())),
+    ]))
+}
+
+/// The lines of the log up to a place.
+pub fn log(bench: &Bench, to: usize) -> String {
+    let to = to.min(bench.log.len());
+    list(bench.log[to.saturating_sub(MOST_LINES)..to].iter().map(super::log::Entry::json))
+}
+
+fn armed(sitting: &Sitting, at: &str) -> Result<String, String> {
+    let clock = sitting.unit.clock();
+    let names = Names { profile: &sitting.profile, clock };
+    let typed: Vec<String> = if at.is_empty() { Vec::new() } else { vec![at.to_string()] };
+    let (time, _) = names.table(&typed)?;
+    let mut rules = Vec::new();
+    for rule in &sitting.profile.rules {
+        let left = sitting.unit.remaining(time, rule.number as u64).map_err(|refusal| refusal.to_string())?;
+        rules.push(of_rule(sitting, rule, left));
+    }
+    let levels = (0..=sitting.profile.roots.len()).map(|level| of_level(sitting, level));
+    let status = sitting.unit.status().map_err(|refusal| refusal.to_string())?;
+    let lowest = status.lowest_locked.map_or(64, |root| root.number());
+    Ok(object(&[
+        ("firm", text(&sitting.profile.firm)),
+        ("roots", list(sitting.profile.roots.iter().map(|name| text(name)))),
+        ("clock", text(&words::time(clock))),
+        ("at", text(&words::time(time))),
+        ("status", list([status.tripped, status.locked_by_user, status.locked, lowest].map(|number| number.to_string()))),
+        ("levels", list(levels)),
+        ("rules", list(rules)),
+    ]))
+}
+
+fn of_level(sitting: &Sitting, level: usize) -> String {
+    let lock = sitting.standing.lock(level);
+    let since = lock.and_then(|lock| Time::from_ms(lock.since).ok()).map(words::time);
+    object(&[
+        ("name", text(&level_name(&sitting.profile, level))),
+        ("why", text(why_locked(sitting.marks(level)))),
+        ("locked", sitting.marks(level).locked().to_string()),
+        ("since", maybe(since)),
+        ("cause", maybe(lock.map(|lock| lock.cause(&sitting.profile)))),
+    ])
+}
+
+fn of_rule(sitting: &Sitting, rule: &Rule, left: u64) -> String {
+    let used = rule.limit.saturating_sub(left);
+    let tripped = sitting.standing.tripped(rule.number).and_then(|ms| Time::from_ms(ms).ok()).map(words::time);
+    object(&[
+        ("number", rule.number.to_string()),
+        ("kind", text(&rule.kind)),
+        ("of", text(&sitting.profile.scope_words(rule.scope))),
+        ("meaning", text(&meaning(&sitting.profile, rule))),
+        ("limit", text(&rule.limit_words())),
+        ("used", text(&rule.amount(used).to_string())),
+        ("left", text(&rule.amount(left).to_string())),
+        ("remaining", left.to_string()),
+        ("percent", share(used, rule.limit, 100).to_string()),
+        ("thousandths", share(used, rule.limit, 1_000).to_string()),
+        ("level", level_of(rule.scope).to_string()),
+        ("tripped", maybe(tripped)),
+    ])
+}

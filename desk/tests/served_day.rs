@@ -1,0 +1,79 @@
+//! The day on the served page is the desk's own, and undoing is a replay.
+mod common;
+use common::{event, profile, Dice};
+use desk::answer;
+use desk::serve::{Bench, Said};
+use desk::sitting::Sitting;
+use mbrumzheg::Unit;
+
+const PROFILE: &str = "ABCD,rate_vol,XYZ,500,1000\nABCD,abs_vol,QQQ,5\n";
+
+/// The day on the page is the desk's: the same words and numbers, the same memory, and undoing is a replay of what is left.
+#[test]
+fn the_pages_day_is_the_desks_own() {
+    for seed in 0..60 {
+        let mut dice = Dice::new(seed);
+        let text = profile(&mut dice);
+        let mut plain = Sitting::new(Unit::new().arm(&text).expect("accepted"), "profile", text.as_bytes());
+        let mut bench = Bench::default();
+        bench.arm("profile", text.as_bytes()).expect("armed");
+        let mut memories = vec![plain.unit.memory().to_vec()];
+        let mut lines = Vec::new();
+        for _ in 0..40 {
+            let next = event(&mut dice, plain.unit.clock().ms(), plain.unit.root_count());
+            if next.root().is_some_and(|root| root.number() >= plain.unit.root_count()) {
+                continue;
+            }
+            let passed = plain.pass(next);
+            let Ok(Said::Event(entry)) = bench.line(&answer::typed(&plain.profile, &next)) else { panic!("an event") };
+            assert_eq!(format!("{}  [{}]", entry.words, entry.numbers), answer::answer(&plain, &passed));
+            memories.push(plain.unit.memory().to_vec());
+            lines.push(entry);
+        }
+        if lines.is_empty() {
+            continue;
+        }
+        let last = lines.len();
+        let saved = bench.save().expect("saved");
+        for _ in 0..6 {
+            let place = dice.below(last as u64 + 1) as usize;
+            bench.go(place).expect("there is such a place");
+            let sitting = bench.sitting.as_ref().expect("armed");
+            assert_eq!(sitting.unit.memory(), &memories[place][..], "seed {seed}, place {place}");
+            assert_eq!((bench.log.as_slice(), bench.undone.len(), sitting.sources.typed), (&lines[..place], last - place, place));
+            assert_eq!(bench.is_unsaved(), place > 0 && place < last);
+        }
+        bench.go(last).expect("forth again");
+        assert_eq!(bench.save().expect("saved"), saved);
+        bench.clear().expect("cleared");
+        bench.bring_back().expect("brought back");
+        assert_eq!(bench.sitting.as_ref().expect("armed").unit.memory(), &memories[last][..]);
+        // a file's records give the same day
+        let mut again = Bench::default();
+        again.arm("profile", text.as_bytes()).expect("armed");
+        again.replay("day.records", &saved).expect("replayed");
+        assert_eq!((again.log, again.sitting.expect("armed").sources.replayed), (lines, vec!["day.records".to_string()]));
+    }
+}
+
+/// Faulty records keep their places, also where they are undone and done again.
+#[test]
+fn faulty_records_keep_their_places() {
+    let mut bench = Bench::default();
+    bench.arm("profile", PROFILE.as_bytes()).expect("armed");
+    let Ok(Said::Event(_)) = bench.line("offer 0ms XYZ call front 7.00 1") else { panic!("an event") };
+    let bytes = bench.save().expect("saved");
+    let day = [&bytes[..], &[0xFF; 12], &bytes[..], &[1, 2, 3]].concat();
+    bench.clear().expect("cleared");
+    bench.arm("profile", PROFILE.as_bytes()).expect("armed");
+    bench.replay("day", &day).expect("replayed");
+    let refusals = |bench: &Bench| bench.log.iter().map(|entry| entry.numbers.clone()).collect::<Vec<_>>();
+    let all = ["1 0 0 1 0 0", "2 16 0 0 0 0", "3 0 0 1 0 0", "4 16 0 0 0 0"];
+    assert_eq!(refusals(&bench), all);
+    assert_eq!(bench.save().expect("saved"), day);
+    for place in [2, 4, 0, 4, 1, 3, 4] {
+        bench.go(place).expect("there is such a place");
+        assert_eq!(refusals(&bench), all[..place]);
+    }
+    assert_eq!(bench.save().expect("saved"), day);
+}
