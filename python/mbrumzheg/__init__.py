@@ -15,6 +15,7 @@ from . import raw
 from .event import RECORD_SIZE, Answer, Event, Lockout, Offer, Order, from_record, records
 from .raw import SIZE
 from .refusal import Refusal, Refused
+from .rule import Measure, Rule, Scope
 from .unit import Status, Unit
 from .values import Contracts, Level, ParseError, Premium, Reset, Root, Time, UnitOfRoot, Verdict
 from .view import Marks
@@ -30,6 +31,7 @@ __all__ = [
     "Level",
     "Lockout",
     "Marks",
+    "Measure",
     "Offer",
     "Order",
     "ParseError",
@@ -38,6 +40,8 @@ __all__ = [
     "Refused",
     "Reset",
     "Root",
+    "Rule",
+    "Scope",
     "Status",
     "Time",
     "Unit",

@@ -1,4 +1,5 @@
-"""What may be read from an armed unit's memory beside the calls: clock, names and marks. The map is in docs/MEMORY.md."""
+"""What may be read from an armed unit's memory beside the calls: clock, names, marks and rules. The map is in docs/MEMORY.md;
+the reading is tested against the second program, not proved."""
 
 from __future__ import annotations
 
@@ -6,6 +7,7 @@ from dataclasses import dataclass
 from typing import TYPE_CHECKING, Optional
 
 from .refusal import Refusal, Refused
+from .rule import RULES, Rule, rule_of
 from .values import Root, Time
 
 if TYPE_CHECKING:
@@ -68,6 +70,10 @@ class View:
     def root_count(self) -> int:
         """How many roots the profile has."""
         return self._at(_ROOTS)
+
+    def rules(self) -> list[Rule]:
+        """The rules of the profile, by number."""
+        return [rule_of(number, self._at(RULES + 2 * number), self._at(RULES + 2 * number + 1)) for number in range(self.rule_count)]
 
     def roots(self) -> list[tuple[Root, str]]:
         """The roots with their names, by number."""

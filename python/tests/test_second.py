@@ -11,9 +11,9 @@ import tempfile
 import unittest
 from collections import Counter
 from pathlib import Path
-from typing import Callable, Optional
+from typing import Callable, Optional, Tuple
 
-from mbrumzheg import Event, Level, Lockout, Marks, Offer, Order, Refusal, Refused, Unit, raw, records
+from mbrumzheg import Event, Level, Lockout, Marks, Measure, Offer, Order, Refusal, Refused, Rule, Unit, raw, records
 from mbrumzheg import Contracts, Premium, Reset, Root, Time, UnitOfRoot
 
 SECOND = Path(os.environ.get("SECOND", Path(__file__).parents[2] / "target/cargo/release"))
@@ -83,7 +83,7 @@ class Pair:
     def run_typed(self, word: str, rest: list[str], row: raw.Row) -> None:
         """The same call by the class; one that it has no values for was refused, and changed nothing."""
         if word == "arm":
-            self.same(lambda: [0, *row[1:]] if self.unit.arm(profile(rest[0])) else [], row)
+            self.same(lambda: self.armed(profile(rest[0])), row)
         elif word == "clear":
             self.unit.clear()
         elif word == "status":
@@ -97,6 +97,14 @@ class Pair:
             else:
                 self.seen["typed"] += 1
                 self.test.assertEqual(row_of(self.unit, happened), list(row), happened)
+
+    def armed(self, text: bytes) -> list[int]:
+        """Arms the unit, whose rules are then those of the lines; gives the row."""
+        self.unit.arm(text)
+        names = [name for _, name in self.unit.roots()]
+        lines = text.decode("latin-1").rstrip("\n").split("\n")
+        self.test.assertEqual([fields(rule, names) for rule in self.unit.rules()], list(map(written, lines)))
+        return [0, 0, int.from_bytes(self.unit.firm.encode(), "big"), self.unit.rule_count, self.unit.root_count]
 
     def status(self) -> list[int]:
         status = self.unit.status()
@@ -122,6 +130,23 @@ class Pair:
         own = [(name, self.unit.root_marks(root)) for root, name in self.unit.roots()]
         self.test.assertEqual([(self.unit.firm, self.unit.firm_marks), *own], marks)
         self.seen["stands armed"] += 1
+
+
+Fields = Tuple[str, str, int, Optional[int], str, str]
+
+
+def fields(rule: Rule, names: list[str]) -> Fields:
+    """A rule's type, root, limit, window, call/put and month."""
+    root = "" if rule.scope.root is None else names[rule.scope.root]
+    call_put, month = ("", "") if rule.scope.unit is None else ("CCPP"[rule.scope.unit], "FTFT"[rule.scope.unit])
+    limit = rule.limit // 10_000 if rule.measure is Measure.NOTIONAL else rule.limit
+    return rule.type_name, root, limit, rule.window, call_put, month
+
+
+def written(line: str) -> Fields:
+    """The same of a line of an accepted profile."""
+    _, kind, root, limit, window, _, call_put, month = (line.split(",") + [""] * 8)[:8]
+    return kind, root, int(limit), max(int(window or 0), 100) if kind.startswith("rate_") else None, call_put, month
 
 
 def profile(word: str) -> bytes:

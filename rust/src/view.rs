@@ -1,4 +1,5 @@
-//! What may be read from an armed unit's memory beside the calls: clock, names and marks. The map is in `docs/MEMORY.md`.
+//! What may be read from an armed unit's memory beside the calls: clock, names and marks. The map is in `docs/MEMORY.md`; the reading is tested against
+//! the second program, not proved.
 
 use crate::memory::Memory;
 use crate::unit::{Armed, Unit};

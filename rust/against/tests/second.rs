@@ -1,5 +1,6 @@
 //! The typed calls against the independent second program, on random days: answers, Remaining, Status, clock, names and marks.
-use mbrumzheg::{Armed, Contracts, Event, Level, Offer, Premium, Reset, Root, Time, Unit, UnitOfRoot};
+use mbrumzheg::{Armed, Contracts, Event, Level, Offer, Premium, Reset, Root, Scope, Time, Unit, UnitOfRoot};
+use second::profile::Level as SecondLevel;
 
 /// Numbers that look random and are the same on every run.
 struct Dice(u64);
@@ -84,6 +85,23 @@ fn compare(unit: &Unit<Box<[u64]>, Armed>, other: &second::unit::Unit) {
     }
 }
 
+/// The rules are the second program's, each with the name that its line has.
+fn same_rules(unit: &Unit<Box<[u64]>, Armed>, other: &second::unit::Unit) {
+    let known = &other.armed.as_ref().expect("armed").profile.rules;
+    assert_eq!(unit.rules().count(), known.len());
+    for (place, (rule, known)) in unit.rules().zip(known).enumerate() {
+        assert_eq!((rule.number, rule.limit, rule.window), (place as u64, known.limit, known.window));
+        assert_eq!(format!("{:?}", rule.measure), format!("{:?}", known.measure));
+        let level = match rule.scope {
+            Scope::Firm => SecondLevel::Firm,
+            Scope::Root(root) => SecondLevel::Root { root: root.number(), unit: None },
+            Scope::Unit(root, of_root) => SecondLevel::Root { root: root.number(), unit: Some(of_root.number()) },
+        };
+        assert_eq!(level, known.level);
+        assert_eq!(unit.remaining(Time::START, rule.number), Ok(rule.limit));
+    }
+}
+
 #[test]
 fn random_days_are_answered_as_the_second_program_answers_them() {
     let mut seen = [0; 5];
@@ -93,6 +111,7 @@ fn random_days_are_answered_as_the_second_program_answers_them() {
         let mut unit = Unit::new().arm(&text).unwrap_or_else(|refused| panic!("{refused}\n{text}"));
         let mut other = second::unit::Unit::new();
         assert_eq!(other.arm(text.as_bytes()).refusal, 0);
+        same_rules(&unit, &other);
         for _ in 0..60 {
             let next = event(&mut dice, unit.clock().ms());
             let row = match unit.answer(next) {
@@ -105,4 +124,23 @@ fn random_days_are_answered_as_the_second_program_answers_them() {
         }
     }
     assert!(seen.iter().all(|count| *count > 100), "refusals, verdicts, grants and trips came up: {seen:?}");
+}
+
+#[test]
+fn the_rules_of_generated_profiles_are_the_second_programs() {
+    let mut types = std::collections::BTreeSet::new();
+    for seed in 0..2_000 {
+        let text = second::gen::valid_profile(seed);
+        let mut other = second::unit::Unit::new();
+        assert_eq!(other.arm(&text).refusal, 0);
+        let unit = Unit::new().arm(&text).unwrap_or_else(|refused| panic!("{refused}"));
+        same_rules(&unit, &other);
+        let lines = text.split(|byte| *byte == b'\n');
+        for (rule, line) in unit.rules().zip(lines) {
+            let named = line.split(|byte| *byte == b',').nth(1).expect("a type");
+            assert_eq!(rule.type_name().as_bytes(), named);
+            types.insert((rule.type_name(), matches!(rule.scope, Scope::Firm), matches!(rule.scope, Scope::Unit(..))));
+        }
+    }
+    assert_eq!(types.len(), 18, "each type for the firm, a root and a unit: {types:?}");
 }
