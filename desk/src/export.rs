@@ -131,7 +131,7 @@ fn rule_values(profile: &Profile, figures: &RuleFigures) -> [Value; 13] {
         Value::of(rule.window),
         number(figures.most),
         Value::of(figures.most_at),
-        Value::Number(figures.share_words().trim_end_matches('%').to_string()),
+        Value::Number(figures.percent()),
         number(figures.last),
         number(figures.left()),
         number(figures.cuts),

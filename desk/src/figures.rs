@@ -28,9 +28,17 @@ impl RuleFigures<'_> {
         crate::table::share(self.most, self.rule.limit, 1_000)
     }
 
-    /// That share in words.
+    /// That share as a number.
+    pub fn percent(&self) -> String {
+        format!("{}.{}", self.share() / 10, self.share() % 10)
+    }
+
+    /// That share in words; what is used, however little, is not called nothing.
     pub fn share_words(&self) -> String {
-        format!("{}.{}%", self.share() / 10, self.share() % 10)
+        match self.share() {
+            0 if self.most > 0 => "below 0.1%".to_string(),
+            _ => format!("{}%", self.percent()),
+        }
     }
 
     /// What was left at the end.

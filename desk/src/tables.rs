@@ -43,11 +43,12 @@ fn overview_row(profile: &Profile, figures: &RuleFigures) -> Vec<String> {
         1_000.. => "full",
         800.. => "high",
         500.. => "half",
-        _ => "low",
+        _ if figures.most > 0 => "low",
+        _ => "none",
     };
     vec![
         if figures.is_used() { format!("<a href=\"#rule{}\">{words}</a>", rule.number) } else { words },
-        format!("<span class=\"bar {class}\"><i style=\"width:{}\"></i></span>", figures.share_words()),
+        format!("<span class=\"bar {class}\"><i style=\"width:{}%\"></i></span>", figures.percent()),
         figures.share_words(),
         rule.amount(figures.most).to_string(),
         figures.most_at.map_or_else(String::new, face),
@@ -64,7 +65,7 @@ pub fn locks(profile: &Profile, day: &Day) -> String {
         return "<p>Nothing was locked.</p>".to_string();
     }
     let rejected = |counts: [u64; 3]| counts.into_iter().map(grouped);
-    let rejections = [("Orders rejected", "n"), ("Offers rejected", "n"), ("Contracts", "n more")];
+    let rejections = [("Orders", "n"), ("Offers", "n"), ("Contracts", "n more")];
     let sums = levels.iter().map(|(level, lane)| {
         let name = escaped(&level_name(profile, *level));
         [name, grouped(lane.count)].into_iter().chain(rejected(lane.rejected)).collect()
@@ -81,7 +82,8 @@ pub fn locks(profile: &Profile, day: &Day) -> String {
     };
     let sums = table("levels", &[&[("Level", ""), ("Locks", "n")], &rejections[..]].concat(), sums);
     let heads = [("Locked", ""), ("Since", ""), ("Until", ""), ("Cause", "")];
-    format!("{sums}{}{rest}", table("lock-list", &[&heads[..], &rejections[..]].concat(), each))
+    let each = table("lock-list", &[&heads[..], &rejections[..]].concat(), each);
+    format!("<h3>Rejected while locked, by level</h3>{sums}<h3>Rejected while locked, by lock</h3>{each}{rest}")
 }
 
 /// What did not simply pass: cuts and trips, locks and refusals before rejections.
