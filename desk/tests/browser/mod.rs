@@ -1,17 +1,21 @@
 //! A real browser for tests: chromium without a window, driven by chromedriver over its own protocol.
 #![allow(dead_code)]
 pub mod json;
+mod wire;
 
 use json::{quoted, Json};
-use std::io::{BufRead, BufReader, Read, Write};
-use std::net::TcpStream;
 use std::path::{Path, PathBuf};
 use std::process::{Child, Command, Stdio};
+use std::sync::{Mutex, MutexGuard, PoisonError};
 use std::time::{Duration, Instant};
+use wire::{from_base64, port_of, spoken};
 
 /// The name under which the protocol hands out elements.
 const ELEMENT: &str = "element-6066-11e4-a52e-4f735466cecf";
-const PATIENCE: Duration = Duration::from_secs(20);
+const PATIENCE: Duration = Duration::from_secs(60);
+
+/// One browser at a time is enough for a machine.
+static ONE: Mutex<()> = Mutex::new(());
 
 /// A browser, until it is dropped.
 pub struct Browser {
@@ -19,6 +23,7 @@ pub struct Browser {
     port: u16,
     session: String,
     folder: PathBuf,
+    _turn: MutexGuard<'static, ()>,
 }
 
 /// How a browser looks at pages.
@@ -31,24 +36,23 @@ pub struct Looks {
 impl Browser {
     /// Begins; nothing where the machine has no chromium with its driver, which is said.
     pub fn begin(folder: &Path, looks: &Looks) -> Option<Browser> {
-        let there = |program: &str| {
-            Command::new(program).arg("--version").stdout(Stdio::null()).stderr(Stdio::null()).status().is_ok_and(|s| s.success())
-        };
+        let turn = ONE.lock().unwrap_or_else(PoisonError::into_inner);
         if !there("chromium") || !there("chromedriver") {
             eprintln!("skipped: there is no chromium with chromedriver here, so no page is looked at in a browser");
             return None;
         }
-        let mut driver = Command::new("chromedriver")
-            .arg("--port=0")
-            .stdin(Stdio::null())
-            .stdout(Stdio::piped())
-            .stderr(Stdio::null())
-            .spawn()
-            .expect("chromedriver runs");
+        let mut command = Command::new("chromedriver");
+        command.arg("--port=0").stdin(Stdio::null()).stdout(Stdio::piped()).stderr(Stdio::null());
+        let mut driver = command.spawn().expect("chromedriver runs");
         let port = port_of(&mut driver);
-        let mut browser = Browser { driver, port, session: String::new(), folder: folder.to_path_buf() };
-        let answer = browser.post("/session", &capabilities(folder, looks));
-        browser.session = answer.get("sessionId").text().to_string();
+        let mut browser = Browser { driver, port, session: String::new(), folder: folder.to_path_buf(), _turn: turn };
+        match browser.tried("/session", &capabilities(folder, looks)) {
+            Ok(answer) => browser.session = answer.get("sessionId").text().to_string(),
+            Err(why) => {
+                eprintln!("skipped: chromium does not start here, so no page is looked at in a browser: {why}");
+                return None;
+            }
+        }
         Some(browser)
     }
 
@@ -57,11 +61,17 @@ impl Browser {
     }
 
     fn post(&self, path: &str, body: &str) -> Json {
-        let (status, text) =
-            spoken(self.port, &format!("POST {path} HTTP/1.1\r\nContent-Type: application/json\r\nContent-Length: {}", body.len()), body);
-        let answer = Json::of(&text);
-        assert!(status.contains(" 200 "), "{path}: {text}");
-        answer.get("value").clone()
+        self.tried(path, body).unwrap_or_else(|why| panic!("{path}: {why}"))
+    }
+
+    fn tried(&self, path: &str, body: &str) -> Result<Json, String> {
+        let head = format!("POST {path} HTTP/1.1\r\nContent-Type: application/json\r\nContent-Length: {}", body.len());
+        let (status, text) = spoken(self.port, &head, body);
+        if status.contains(" 200 ") {
+            Ok(Json::of(&text).get("value").clone())
+        } else {
+            Err(text)
+        }
     }
 
     /// Goes to an address.
@@ -179,6 +189,11 @@ impl Drop for Browser {
     }
 }
 
+fn there(program: &str) -> bool {
+    let asked = Command::new(program).arg("--version").stdout(Stdio::null()).stderr(Stdio::null()).status();
+    asked.is_ok_and(|status| status.success())
+}
+
 fn capabilities(folder: &Path, looks: &Looks) -> String {
     let size = format!("--window-size={},{}", looks.width, looks.height);
     let profile = format!("--user-data-dir={}", folder.join("browser").display());
@@ -196,53 +211,4 @@ fn capabilities(folder: &Path, looks: &Looks) -> String {
          \"prefs\":{{\"download.default_directory\":{downloads},\"download.prompt_for_download\":false}}}}}}}}}}",
         arguments.join(",")
     )
-}
-
-/// The port that a driver says it has taken.
-fn port_of(driver: &mut Child) -> u16 {
-    let mut lines = BufReader::new(driver.stdout.take().expect("a pipe")).lines();
-    let said = lines.by_ref().map_while(Result::ok).find(|line| line.contains("successfully on port ")).expect("the driver says its port");
-    // what it says later is read too, so that it never waits
-    std::thread::spawn(move || lines.for_each(drop));
-    let digits: String = said.split("on port ").nth(1).unwrap_or("").chars().take_while(char::is_ascii_digit).collect();
-    digits.parse().unwrap_or_else(|_| panic!("no port in {said:?}"))
-}
-
-/// Sends a request to this machine, and answers the status line and the body.
-pub fn spoken(port: u16, head: &str, body: &str) -> (String, String) {
-    let mut stream = TcpStream::connect(("127.0.0.1", port)).expect("connected");
-    stream.set_read_timeout(Some(Duration::from_secs(60))).expect("set");
-    write!(stream, "{head}\r\nHost: 127.0.0.1:{port}\r\nConnection: close\r\n\r\n{body}").expect("sent");
-    let mut bytes = Vec::new();
-    let mut piece = [0; 65_536];
-    // the length decides, since a driver may keep the connection
-    loop {
-        let text = String::from_utf8_lossy(&bytes).into_owned();
-        if let Some((head, body)) = text.split_once("\r\n\r\n") {
-            let length =
-                head.lines().find_map(|line| line.to_ascii_lowercase().strip_prefix("content-length:").map(|n| n.trim().parse::<usize>()));
-            if length.and_then(Result::ok).is_none_or(|length| body.len() >= length) {
-                return (head.lines().next().unwrap_or("").to_string() + " ", body.to_string());
-            }
-        }
-        match stream.read(&mut piece).expect("read") {
-            0 => return (String::new(), String::new()),
-            length => bytes.extend_from_slice(&piece[..length]),
-        }
-    }
-}
-
-fn from_base64(text: &str) -> Vec<u8> {
-    let value = |byte: u8| b"ABCDEFGHIJKLMNOPQRSTUVWXYZabcdefghijklmnopqrstuvwxyz0123456789+/".iter().position(|own| *own == byte);
-    let (mut out, mut bits, mut count) = (Vec::new(), 0u32, 0);
-    for digit in text.bytes().filter_map(value) {
-        bits = bits << 6 | digit as u32;
-        count += 6;
-        if count >= 8 {
-            count -= 8;
-            out.push((bits >> count) as u8);
-            bits &= (1 << count) - 1;
-        }
-    }
-    out
 }

@@ -101,6 +101,7 @@ export async function earlier() {
 wire();
 await refresh();
 $("text").value = state.profile.text;
+if (state.log.length > 0) say({ event: state.log[state.log.length - 1] });
 check();
 // another window may have worked at the same desk
 document.addEventListener("visibilitychange", () => document.visibilityState === "visible" && refresh());

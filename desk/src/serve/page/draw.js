@@ -41,15 +41,21 @@ function able(id, is) {
   } else own.disabled = !is;
 }
 
+// A chip for the firm and each root; of many roots those that are locked, and how many are free.
+const MOST_CHIPS = 8;
+
 function levels(all) {
-  const chips = all.map((level) => {
-    const chip = element("li", level.locked ? `${level.name}: ${level.why}` : `${level.name}: free`);
+  const many = all.length > MOST_CHIPS;
+  const shown = all.filter((level, place) => !many || place === 0 || level.locked);
+  const chips = shown.map((level) => {
+    const chip = element("li", `${level.name}: ${level.why}`);
     if (level.locked) {
       chip.className = level.why === "locked by hand" ? "locked hand" : "locked";
       chip.title = `since ${level.since}: ${level.cause}`;
     }
     return chip;
   });
+  if (many) chips.push(element("li", `${all.length - shown.length} roots: free`));
   $("levels").replaceChildren(...chips);
 }
 
@@ -76,7 +82,8 @@ function roots(names) {
 // A gauge for each rule, kept from one state to the next so that it moves.
 function rules(armed, sort) {
   const list = $("rules");
-  const sorted = [...armed.rules];
+  const root = armed.roots.indexOf($("root").value) + 1;
+  const sorted = armed.rules.filter((rule) => sort !== "root" || rule.level === root || rule.level === 0);
   if (sort === "share") sorted.sort((a, b) => b.thousandths - a.thousandths || a.number - b.number);
   const known = new Map([...list.children].map((own) => [own.dataset.rule, own]));
   const drawn = sorted.map((rule) => {

@@ -94,6 +94,7 @@ export function wire() {
   on("line", "keydown", recall);
   on("at", "change", refresh);
   on("sort", "change", redraw);
+  on("root", "change", redraw);
   on("day", "change", fileOf(replay));
   on("earlier", "click", earlier);
   on("lines", "click", (event) => event.target.dataset.go && go(event.target.dataset.go));
