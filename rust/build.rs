@@ -57,6 +57,7 @@ fn installed() -> Result<PathBuf, String> {
         );
     }
     let version = pkg_config("--modversion")?;
+    println!("cargo:rerun-if-changed={}/mbrumzheg.pc", pkg_config("--variable=pcfiledir")?);
     if version != VERSION {
         return Err(format!("the installed library has version {version}, and this crate is for {VERSION}"));
     }
