@@ -18,7 +18,11 @@ pub fn check(name: &str, text: &[u8]) -> Result<String, String> {
             let said = said(&profile, profile.rules.len());
             Ok(format!("{name} is good: firm {}, {}\n{said}", profile.firm, sizes(&profile)))
         }
-        Err(refused) => Err(format!("{}\n{name} arms no unit  {}", explain::refused(text, refused.why), numbers(refused.why))),
+        Err(refused) => {
+            let first = explain::refused(text, refused.why);
+            let all: Vec<String> = std::iter::once(first).chain(explain::further(text, refused.why)).collect();
+            Err(format!("{}\n{name} arms no unit  {}", all.join("\n"), numbers(refused.why)))
+        }
     }
 }
 

@@ -130,6 +130,38 @@ fn profiles_that_are_too_long_are_explained() {
     assert!(check("profile", &[b'A'; 65_537]).expect_err("long").contains("it is too long"));
 }
 
+/// The further lines that are named are those that the library refuses, one after the other, when they are taken out.
+#[test]
+fn further_lines_are_judged_by_the_library() {
+    let text =
+        "ABCD,abs_vol,XYZ,0\nABCD,abs_vol,XYZ,5\nABCD,abs_volume,XYZ,5\nABCE,abs_vol,XYZ,5\n\nABCD,abs_vol,,5\nABCD,abs_vol,XYZ,5,,,C\nX";
+    let said = check("profile", text.as_bytes()).expect_err("refused");
+    let named: Vec<&str> =
+        said.lines().filter(|line| line.contains("refused with")).map(|line| line.split(':').next().unwrap_or("")).collect();
+    let then = |line: u32, number: u32| format!("line {line} would then be refused with {number}");
+    let wanted = ["refused with 8 at line 1".to_string(), then(3, 6), then(4, 7), then(5, 6), then(6, 9), then(7, 10)];
+    assert_eq!(named, wanted, "{said}");
+    assert!(said.ends_with("\n  and more\nprofile arms no unit  [refused 8 1]"), "{said}");
+    // taking out what is named leaves what the library takes
+    let mut several = 0;
+    for seed in 0..3_000 {
+        let text = mutated(&mut Dice::new(seed));
+        let Some(why) = refusal(&text) else { continue };
+        let further = explain::further(&text, why);
+        if why.line.is_none() || why.refusal.number() == 11 || further.len() > 4 {
+            continue;
+        }
+        let number = |said: &String| said.split(' ').nth(1).and_then(|word| word.parse::<usize>().ok());
+        let out: Vec<usize> = why.line.map(|line| line as usize).into_iter().chain(further.iter().filter_map(number)).collect();
+        let kept = explain::lines(&text).into_iter().enumerate().filter(|(place, _)| !out.contains(&(place + 1)));
+        let rest: Vec<u8> = kept.flat_map(|(_, line)| [line, b"\n"].concat()).collect();
+        let is_good = rest.is_empty() || refusal(&rest).is_none_or(|why| why.refusal.number() == 11);
+        assert!(is_good, "{}", String::from_utf8_lossy(&text));
+        several += usize::from(out.len() > 1);
+    }
+    assert!(several > 100, "{several} had several faulty lines");
+}
+
 /// A text, the marks under its faulty line from the line's first column on, and a part of the words.
 const FAULTS: [(&str, &str, &str); 34] = [
     ("ABCD,abs_volume,XYZ,1000", "     ^^^^^^^^^^", "not known; the nearest is abs_vol"),

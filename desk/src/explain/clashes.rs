@@ -16,7 +16,7 @@ pub fn faults(fields: &Fields, first: &str) -> Vec<Fault> {
 }
 
 fn other_firm(fields: &Fields, first: &str) -> Option<Fault> {
-    let words = format!("this line is for firm {}, and line 1 is for {first}: a profile is for one firm", fields.text(FIRM));
+    let words = format!("this line is for firm {}, and those before it are for {first}: a profile is for one firm", fields.text(FIRM));
     (fields.text(FIRM) != first).then(|| Fault::new(OtherFirm, fields.span(FIRM), words))
 }
 

@@ -7,11 +7,13 @@ mod characters;
 mod clashes;
 mod counts;
 mod fields;
+mod further;
 mod malformed;
 mod nearest;
 mod show;
 mod warn;
 
+pub use further::further;
 pub use nearest::nearest;
 pub use show::{shown, wrapped};
 pub use warn::{warnings, Warning};
