@@ -14,6 +14,7 @@ pub mod explain;
 pub mod export;
 pub mod figures;
 pub mod files;
+pub mod given;
 pub mod help;
 mod keeping;
 pub mod lane;

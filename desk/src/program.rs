@@ -2,7 +2,7 @@
 
 use crate::asked::Names;
 use crate::check;
-use crate::files;
+use crate::given;
 use crate::help;
 use crate::lines::{run, Ended, Manner};
 use crate::paint;
@@ -11,7 +11,7 @@ use crate::report;
 use crate::serve;
 use crate::table::counted;
 use mbrumzheg::Time;
-use std::io::{self, BufReader, IsTerminal, Read, Write};
+use std::io::{self, BufReader, IsTerminal, Write};
 use std::process::ExitCode;
 
 /// How the program is called.
@@ -71,6 +71,7 @@ fn call(words: &[&str], dialogue: Dialogue) -> io::Result<End> {
         },
         ["-"] => run(&mut io::stdin().lock(), out, Manner::Shown).map(end),
         ["check", name] => checked(name, out),
+        ["report", "-", "-", ..] => wrong("profile and records cannot both be the standard input"),
         ["report", profile, records, page] => report(profile, records, page, None, out),
         ["report", profile, records, page, "from", from, "to", to] => report(profile, records, page, Some((from, to)), out),
         ["serve"] => served(None, out),
@@ -117,16 +118,8 @@ fn from_file(name: &str, out: &mut dyn Write) -> io::Result<End> {
 }
 
 fn checked(name: &str, out: &mut dyn Write) -> io::Result<End> {
-    let text = match name {
-        "-" => {
-            let mut bytes = Vec::new();
-            io::stdin().lock().take(files::PROFILE_BYTES).read_to_end(&mut bytes)?;
-            Ok(bytes)
-        }
-        _ => files::profile(name),
-    };
-    let name = if name == "-" { "the profile" } else { name };
-    match text.map(|text| check::check(name, &text)) {
+    let shown = given::shown(name);
+    match given::profile(name).map(|text| check::check(shown, &text)) {
         Ok(Ok(words)) => writeln!(out, "{words}").map(|()| End::Done),
         Ok(Err(words)) => writeln!(out, "{words}").map(|()| End::NotDone),
         Err(advice) => writeln!(io::stderr(), "desk: {advice}").map(|()| End::WrongUse),

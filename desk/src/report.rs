@@ -3,6 +3,7 @@
 use crate::day::Day;
 use crate::export;
 use crate::files;
+use crate::given;
 use crate::page;
 use crate::profile::Profile;
 use crate::progress::Progress;
@@ -71,10 +72,10 @@ pub fn of_name(file: &str, profile: &Profile, day: &Day, made: &Made) -> String 
 
 /// Reports a day of files, reading each record once; answers what to say of it.
 pub fn of_files(profile_file: &str, records_file: &str, to: &str, stretch: Option<(u64, u64)>) -> Result<String, String> {
-    let text = files::profile(profile_file)?;
+    let text = given::profile(profile_file)?;
     let unit = Unit::new().arm(&text);
     unit.map_err(|refused| format!("'{profile_file}' is refused: {}; desk check {profile_file} says more", refused.why))?;
-    let (from, bytes) = files::records(records_file)?;
+    let (from, bytes) = given::records(records_file)?;
     let mut summed = Summed { from, sum: Sha256::default() };
     let profile = Profile::of_accepted(&text);
     let mut progress = Progress::of(bytes.map(|bytes| bytes.div_ceil(RECORD_SIZE as u64)));
@@ -84,9 +85,9 @@ pub fn of_files(profile_file: &str, records_file: &str, to: &str, stretch: Optio
         return Err(format!("'{records_file}' holds no records, so there is nothing to report"));
     }
     let made = Made {
-        profile: profile_file.to_string(),
+        profile: given::shown(profile_file).to_string(),
         profile_sum: sha256::hex(&text),
-        records: vec![records_file.to_string()],
+        records: vec![given::shown(records_file).to_string()],
         typed: 0,
         records_sum: summed.sum.hex(),
         version: VERSION,

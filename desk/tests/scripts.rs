@@ -130,7 +130,8 @@ fn ended_with(place: &Path, words: &[&str], input: &str) -> (Option<i32>, String
 #[test]
 fn calls_end_with_0_1_or_2() {
     let place = workplace("calls");
-    let calls: [(&[&str], &str, i32); 18] = [
+    let calls: [(&[&str], &str, i32); 19] = [
+        (&["report", "-", "-", "page.html"], "", 2),
         (&["--version"], "", 0),
         (&["--help"], "", 0),
         (&["help", "offer"], "", 0),
@@ -167,6 +168,17 @@ fn the_page_of_recorded_events_can_be_had_in_one_call() {
     let output = desk(&place).args(["report", "example-profile", "example.records", "page.html"]).output().expect("the desk runs");
     assert!(output.status.success());
     assert!(fs::read_to_string(place.join("page.html")).expect("a page").contains("<h1>Risk day of firm ABCD</h1>"));
+    // the same records from the standard input make the same figures
+    for (profile, records, input) in [("example-profile", "-", "example.records"), ("-", "example.records", "example-profile")] {
+        let input = fs::File::open(place.join(input)).expect("a file");
+        let output =
+            desk(&place).args(["report", profile, records, "piped.csv"]).stdin(Stdio::from(input)).output().expect("the desk runs");
+        assert!(output.status.success(), "{}", text(&output.stderr));
+        let figures = fs::read_to_string(place.join("piped.csv")).expect("figures");
+        desk(&place).args(["report", "example-profile", "example.records", "named.csv"]).output().expect("the desk runs");
+        let named = fs::read_to_string(place.join("named.csv")).expect("figures");
+        assert_eq!(figures.replace("standard input", if records == "-" { "example.records" } else { "example-profile" }), named);
+    }
     let output = desk(&place).args(["report", "example-profile"]).output().expect("the desk runs");
     assert!(!output.status.success() && text(&output.stderr).contains("usage: desk"));
     fs::remove_dir_all(place).expect("removed");
