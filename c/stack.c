@@ -1,6 +1,6 @@
 /* Measures how much stack each call takes: the call runs on a stack that was painted before, and what is no longer painted was used. It is done
  * with two colours, since a call may write the one. Prints the most that each call took over all its tries, less what an empty call takes, and
- * ends with 1 if one took more than MBRUMZHEG_STACK_BYTES.
+ * ends with 1 if Arm took more than MBRUMZHEG_STACK_BYTES, or another call more than MBRUMZHEG_CALL_STACK_BYTES.
  *
  * The tries: memory that is short, unarmed, unsound; armed with one rule, with 256 rules and 64 roots, with 16 covering rules and a log of 512
  * entries; profiles that are refused by their last line, and one of 65,536 bytes; every reset, level and unit. */
@@ -176,7 +176,7 @@ int main(void) {
     for (int call = EMPTY + 1; call < CALLS; call++) {
         const size_t took = most[call] - most[EMPTY];
         printf("%-12s %6zu\n", names[call], took);
-        so &= took <= MBRUMZHEG_STACK_BYTES;
+        so &= took <= (call == ARM ? MBRUMZHEG_STACK_BYTES : MBRUMZHEG_CALL_STACK_BYTES);
     }
     return so ? 0 : 1;
 }

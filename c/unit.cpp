@@ -11,6 +11,7 @@ static_assert(std::is_move_constructible_v<Unit> && std::is_move_assignable_v<Un
 static_assert(!std::is_copy_constructible_v<Unit> && !std::is_copy_assignable_v<Unit>, "and not copied");
 static_assert(!std::is_copy_constructible_v<LentUnit> && std::is_nothrow_move_constructible_v<LentUnit>, "on lent memory too");
 static_assert(!std::is_default_constructible_v<Unit>, "there is no unit without rules");
+static_assert(!std::is_constructible_v<bool, Result<Verdict>>, "that a call was accepted is not that its order passes");
 
 static void expect(bool holds, int line) {
     if (holds) return;
@@ -26,27 +27,28 @@ static Offer at(std::uint64_t ms, std::uint64_t contracts) {
 
 static void cuts_and_locks() {
     auto unit = arm("ABCD,abs_vol,XYZ,1000,0");
-    EXPECT(unit && unit.line() == 0);
+    EXPECT(unit.accepted() && unit.line() == 0);
     const auto first = unit->offer(at(0, 950));
-    EXPECT(first && first->verdict == Verdict::Free && first->grant == 950 && !first->root_trip && !first->firm_trip);
+    EXPECT(first.accepted() && passes(first) && first->verdict == Verdict::Free && first->grant == 950 && !first->root_trip && !first->firm_trip);
     EXPECT(*unit->remaining(Time{0}, 0) == 50);
     EXPECT(unit->remaining(Time{0}, 1).refusal() == Refusal::Unknown);
     const auto second = unit->offer(at(10, 200));
-    EXPECT(second && second->grant == 50 && second->root_trip && !second->firm_trip);
+    EXPECT(second.accepted() && second->grant == 50 && second->root_trip && !second->firm_trip);
     const auto verdict = unit->order({Time{20}, Root{0}, Reset::None});
-    EXPECT(verdict && !passes(*verdict) && Text(*verdict).view() == "s: RiskMgmtSymLevel");
+    EXPECT(verdict.accepted() && !passes(verdict) && Text(*verdict).view() == "s: RiskMgmtSymLevel");
     const auto status = unit->status();
-    EXPECT(status && status->tripped == 1 && status->locked_by_user == 0 && status->locked == 1 && status->lowest_locked == 0);
+    EXPECT(status.accepted() && status->tripped == 1 && status->locked_by_user == 0 && status->locked == 1 && status->lowest_locked == 0);
     EXPECT(*unit->order({Time{30}, Root{0}, Reset::Symbol}) == Verdict::Free);
-    EXPECT(unit->offer(at(29, 1)).refusal() == Refusal::BadTime);
-    EXPECT(unit->lock(FirmLockout{Time{40}}) && Text(*unit->order({Time{40}, Root{0}, Reset::None})).view() == "f: RiskMgmtFirmLevel");
+    EXPECT(unit->offer(at(29, 1)).refusal() == Refusal::BadTime && !passes(unit->offer(at(29, 1))));
+    EXPECT(passes(unit->order({Time{30}, Root{0}, Reset::None})) && !passes(unit->order({Time{29}, Root{0}, Reset::None})));
+    EXPECT(unit->lock(FirmLockout{Time{40}}).accepted() && Text(*unit->order({Time{40}, Root{0}, Reset::None})).view() == "f: RiskMgmtFirmLevel");
     EXPECT(*unit->lock(RootLockout{Time{40}, Root{0}}) == Verdict::Free && unit->status()->locked_by_user == 1);
     EXPECT(*unit->order({Time{40}, Root{0}, Reset::Both}) == Verdict::Free && unit->status()->lowest_locked == MBRUMZHEG_NO_ROOT);
 }
 
 static void refusals_say_why() {
     const auto refused = arm("ABCD,abs_vol,XYZ,1000\nABCD,abs_vol,XYZ,0\n");
-    EXPECT(!refused && refused.refusal() == Refusal::OutOfRange && refused.line() == 2);
+    EXPECT(!refused.accepted() && refused.refusal() == Refusal::OutOfRange && refused.line() == 2);
     EXPECT(std::string_view(sentence(refused.refusal())) == "the line's limit or time limit is out of range");
     EXPECT(arm({}).refusal() == Refusal::ProfileLength);
 }
@@ -57,7 +59,7 @@ static void a_unit_moves() {
     EXPECT(moved.offer(at(0, 1))->grant == 1);
     EXPECT(unit->offer(at(0, 1)).refusal() == Refusal::NoRoom && unit->status().refusal() == Refusal::NoRoom);
     auto adopted = Unit::adopt(moved.memory());
-    EXPECT(adopted && *adopted->remaining(Time{0}, 0) == 999);
+    EXPECT(adopted.accepted() && *adopted->remaining(Time{0}, 0) == 999);
     auto saved = std::move(moved).memory();
     saved[0] = 7;
     EXPECT(Unit::adopt(saved).refusal() == Refusal::Unsound);
@@ -71,7 +73,7 @@ static void a_unit_stands_on_lent_memory() {
     const auto lent = [] { return Lent(room, MBRUMZHEG_SIZE + 1); };
     EXPECT(LentUnit::arm(lent(), "ABCD,rate_count,,10,1000,T").refusal() == Refusal::ArmedAlready);
     auto unit = LentUnit::arm(*LentUnit::cleared(lent()), "ABCD,rate_count,,10,1000,T");
-    EXPECT(unit && room[0] == 1 && room[MBRUMZHEG_SIZE] == 9);
+    EXPECT(unit.accepted() && room[0] == 1 && room[MBRUMZHEG_SIZE] == 9);
     EXPECT(unit->offer(at(0, 1)).refusal() == Refusal::Unknown);
     EXPECT(LentUnit::cleared(Lent(room, 3)).refusal() == Refusal::NoRoom);
 }
@@ -79,13 +81,13 @@ static void a_unit_stands_on_lent_memory() {
 static void events_have_records() {
     const Record bytes{0x40, 0, 0, 0x50, 0, 1, 0x11, 0x70, 0, 0x0C, 0x80, 0};
     const auto event = read_record(bytes);
-    EXPECT(event && std::get<Offer>(*event).time.ms == 10 && std::get<Offer>(*event).contracts.count == 200);
+    EXPECT(event.accepted() && std::get<Offer>(*event).time.ms == 10 && std::get<Offer>(*event).contracts.count == 200);
     EXPECT(*write_record(*event) == bytes);
     auto unit = arm("ABCD,abs_vol,XYZ,1000,0");
     EXPECT(unit->answer(*event)->grant == 200);
     for (const Event& one : {Event{Order{Time{9}, Root{3}, Reset::Both}}, Event{RootLockout{Time{8}, Root{63}}}, Event{FirmLockout{Time{7}}}}) {
         const auto again = read_record(*write_record(one));
-        EXPECT(again && again->index() == one.index() && *write_record(*again) == *write_record(one));
+        EXPECT(again.accepted() && again->index() == one.index() && *write_record(*again) == *write_record(one));
     }
     EXPECT(write_record(Order{Time{86400000}, Root{0}, Reset::None}).refusal() == Refusal::FaultyRecord);
     EXPECT(read_record(Record{0xFF}).refusal() == Refusal::FaultyRecord);

@@ -1,7 +1,8 @@
 /* Mbrumzheg: a risk library for order gateways, for C99 and later and for C++17 and later (mbrumzheg.hpp has a class over it).
  *
  * Link libmbrumzheg.a; pkg-config and CMake know it as mbrumzheg. It needs memcpy and memset and nothing else, takes no memory from the
- * system, and keeps nothing between two calls. A call takes at most MBRUMZHEG_STACK_BYTES of stack (measured, not proved: c/stack.c).
+ * system, and keeps nothing between two calls. Arm takes at most MBRUMZHEG_STACK_BYTES of stack, every other call at most
+ * MBRUMZHEG_CALL_STACK_BYTES (measured, not proved: c/stack.c).
  *
  * What is lent. The state is MBRUMZHEG_SIZE numbers of 64 bits that the caller lends to each call; they start at 0. More may be lent, and the
  * rest is neither read nor written. Whatever stands there, the call has an answer: unarmed or damaged numbers are refused. A part is lent as a
@@ -50,8 +51,9 @@ extern "C" {
 #define MBRUMZHEG_RECORD_BYTES 12
 #define MBRUMZHEG_TEXT_BYTES 20
 
-/* How many bytes of stack a call takes at most, by measurement on x86-64 and aarch64. */
+/* How many bytes of stack Arm takes at most, and how many every other call, by measurement on x86-64 and aarch64. */
 #define MBRUMZHEG_STACK_BYTES 16384
+#define MBRUMZHEG_CALL_STACK_BYTES 4096
 
 /* Ranges: the last millisecond of the day, ten-thousandths of a dollar, contracts, a profile's bytes, rules and roots, places of the log. */
 #define MBRUMZHEG_LAST_TIME 86399999

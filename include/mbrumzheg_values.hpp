@@ -37,9 +37,6 @@ inline const char* sentence(Refusal refusal) noexcept { return mbrumzheg_refusal
 
 enum class Verdict : std::uint64_t { Free = MBRUMZHEG_FREE, FirmLocked = MBRUMZHEG_FIRM_LOCKED, RootLocked = MBRUMZHEG_ROOT_LOCKED };
 
-// Whether an order or offer may pass.
-constexpr bool passes(Verdict verdict) noexcept { return verdict == Verdict::Free; }
-
 // What an order resets before it is judged.
 enum class Reset : std::uint64_t {
     None = MBRUMZHEG_RESET_NONE,
@@ -83,7 +80,8 @@ public:
     Result(T answer) : kept_(std::in_place_type<T>, std::move(answer)) {}
     Result(Refusal refusal, std::uint64_t line = 0) noexcept : kept_(std::in_place_type<Refusal>, refusal), line_(line) {}
 
-    explicit operator bool() const noexcept { return std::holds_alternative<T>(kept_); }
+    // Whether the call was not refused. It says nothing of the verdict, so a Result is no condition by itself; passes() asks both.
+    bool accepted() const noexcept { return std::holds_alternative<T>(kept_); }
 
     // The answer; to ask for that of a refused call ends the program.
     T& operator*() & noexcept { return *kept<T>(kept_); }
@@ -107,6 +105,10 @@ private:
     std::variant<Refusal, T> kept_;
     std::uint64_t line_ = 0;
 };
+
+// Whether an order or an offer may pass: it was not refused, and nothing is locked.
+inline bool passes(const Result<Verdict>& result) noexcept { return result.accepted() && *result == Verdict::Free; }
+inline bool passes(const Result<Answer>& result) noexcept { return result.accepted() && result->verdict == Verdict::Free; }
 
 }  // namespace mbrumzheg
 
