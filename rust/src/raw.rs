@@ -46,6 +46,7 @@ mod exported {
 // row that it writes is five numbers.
 
 /// Arms memory from a profile: refusal, line, firm's name as a number, rules, roots.
+#[inline]
 pub fn arm(memory: &mut [u64], profile: &[u8]) -> Row {
     let mut row = [0; 5];
     unsafe { exported::mbrumzheg_arm(memory.as_mut_ptr(), memory.len(), profile.as_ptr(), profile.len(), &mut row) };
@@ -53,6 +54,7 @@ pub fn arm(memory: &mut [u64], profile: &[u8]) -> Row {
 }
 
 /// Sets the state to zeros, whatever it held: refusal.
+#[inline]
 pub fn clear(memory: &mut [u64]) -> Row {
     let mut row = [0; 5];
     unsafe { exported::mbrumzheg_clear(memory.as_mut_ptr(), memory.len(), &mut row) };
@@ -60,6 +62,7 @@ pub fn clear(memory: &mut [u64]) -> Row {
 }
 
 /// An order: refusal, verdict.
+#[inline]
 pub fn order(memory: &mut [u64], time: u64, root: u64, reset: u64) -> Row {
     let mut row = [0; 5];
     unsafe { exported::mbrumzheg_order(memory.as_mut_ptr(), memory.len(), time, root, reset, &mut row) };
@@ -67,6 +70,7 @@ pub fn order(memory: &mut [u64], time: u64, root: u64, reset: u64) -> Row {
 }
 
 /// A lockout by the user: refusal, verdict.
+#[inline]
 pub fn lockout(memory: &mut [u64], time: u64, level: u64, root: u64) -> Row {
     let mut row = [0; 5];
     unsafe { exported::mbrumzheg_lockout(memory.as_mut_ptr(), memory.len(), time, level, root, &mut row) };
@@ -74,6 +78,7 @@ pub fn lockout(memory: &mut [u64], time: u64, level: u64, root: u64) -> Row {
 }
 
 /// An offered fill: refusal, verdict, grant, root trip, firm trip.
+#[inline]
 pub fn offer(memory: &mut [u64], time: u64, root: u64, unit: u64, premium: u64, contracts: u64) -> Row {
     let mut row = [0; 5];
     let (start, len) = (memory.as_mut_ptr(), memory.len());
@@ -82,6 +87,7 @@ pub fn offer(memory: &mut [u64], time: u64, root: u64, unit: u64, premium: u64, 
 }
 
 /// What remains of a rule's limit: refusal, the number.
+#[inline]
 pub fn remaining(memory: &[u64], time: u64, rule: u64) -> Row {
     let mut row = [0; 5];
     unsafe { exported::mbrumzheg_remaining(memory.as_ptr(), memory.len(), time, rule, &mut row) };
@@ -89,6 +95,7 @@ pub fn remaining(memory: &[u64], time: u64, rule: u64) -> Row {
 }
 
 /// How the roots stand: refusal, tripped, locked by the user, locked at all, the lowest locked root (64 if none).
+#[inline]
 pub fn status(memory: &[u64]) -> Row {
     let mut row = [0; 5];
     unsafe { exported::mbrumzheg_status(memory.as_ptr(), memory.len(), &mut row) };
@@ -96,6 +103,7 @@ pub fn status(memory: &[u64]) -> Row {
 }
 
 /// Writes the text for verdict 1 or 2 into the room: refusal, how many bytes.
+#[inline]
 pub fn text(verdict: u64, room: &mut [u8]) -> Row {
     let mut row = [0; 5];
     unsafe { exported::mbrumzheg_text(verdict, room.as_mut_ptr(), room.len(), &mut row) };
@@ -103,6 +111,7 @@ pub fn text(verdict: u64, room: &mut [u8]) -> Row {
 }
 
 /// Reads an event record: refusal, and the event's numbers (zeros if refused).
+#[inline]
 pub fn read_record(bytes: &[u8]) -> (u64, EventNumbers) {
     let mut row = [0; 9];
     unsafe { exported::mbrumzheg_read_record(bytes.as_ptr(), bytes.len(), &mut row) };
@@ -111,6 +120,7 @@ pub fn read_record(bytes: &[u8]) -> (u64, EventNumbers) {
 }
 
 /// Writes an event's record to the first 12 bytes of the room: refusal.
+#[inline]
 pub fn write_record(event: EventNumbers, room: &mut [u8]) -> Row {
     let mut row = [0; 5];
     let [kind, time, root, unit, premium, contracts, reset, level] = event;
