@@ -183,12 +183,24 @@ fn undo_keys_and_errors() {
     // a later time, at which the window has passed over the fill
     browser.fill("#at", "+2s\u{E007}");
     browser.wait("document.querySelector('#rules li .used').innerText === 'used 0 of 500 in 1 s'");
+    browser.wait_text("#drawn", "at 2010ms");
     // a line as at the desk
     browser.fill("#line", "order now XYZ reset symbol\u{E007}");
     browser.wait_text("#words", "root XYZ reset; the order on XYZ may pass");
     // reloading the page loses nothing
     browser.open(&serving.address);
     browser.wait("document.querySelectorAll('#lines tr').length === 2");
+    // a cleared day can be brought back
+    browser.click("#clear");
+    browser.accept();
+    browser.wait("document.querySelector('#work').hidden");
+    browser.click("#back");
+    browser.wait("document.querySelectorAll('#lines tr').length === 2");
+    // a file of records goes on where the day stands
+    fs::write(place.join("day"), [0xFF; 12]).expect("written");
+    browser.keys("#day", &place.join("day").to_string_lossy());
+    browser.wait("document.querySelectorAll('#lines tr').length === 3");
+    assert!(browser.text("#lines tr").contains("refused with 16"), "{}", browser.text("#lines tr"));
     let complaints = browser.complaints();
     assert!(matches!(&complaints[..], [one] if one.contains("/line") && one.contains("422")), "only of the wrong offer: {complaints:?}");
     drop(browser);

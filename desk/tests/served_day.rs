@@ -77,3 +77,23 @@ fn faulty_records_keep_their_places() {
     }
     assert_eq!(bench.save().expect("saved"), day);
 }
+
+/// A file whose records were undone and replaced is no source of the day.
+#[test]
+fn what_was_replaced_is_no_source() {
+    let mut bench = Bench::default();
+    bench.arm("profile", PROFILE.as_bytes()).expect("armed");
+    bench.line("order 0ms XYZ").expect("an event");
+    bench.replay("faulty", &[0xFF; 24]).expect("replayed");
+    let sources = |bench: &Bench| bench.sitting.as_ref().map(|sitting| (sitting.sources.replayed.clone(), sitting.sources.typed));
+    assert_eq!(sources(&bench), Some((vec!["faulty".to_string()], 1)));
+    bench.go(1).expect("undone");
+    assert_eq!(sources(&bench), Some((vec![], 1)));
+    bench.go(2).expect("done again");
+    assert_eq!(sources(&bench), Some((vec!["faulty".to_string()], 1)));
+    bench.go(1).expect("undone");
+    bench.line("order 1ms XYZ").expect("an event");
+    bench.line("order 2ms XYZ").expect("an event");
+    bench.go(3).expect("here");
+    assert_eq!(sources(&bench), Some((vec![], 3)));
+}

@@ -116,7 +116,7 @@ impl Bench {
     /// Passes an event; what was undone before is then given up.
     fn event(&mut self, event: Event) -> Result<Entry, String> {
         self.has_room(1)?;
-        self.undone.clear();
+        self.give_up_undone();
         Ok(self.pass(&event.to_record(), true))
     }
 
@@ -124,11 +124,18 @@ impl Bench {
     pub fn replay(&mut self, name: &str, bytes: &[u8]) -> Result<String, String> {
         self.armed()?;
         self.has_room(bytes.len().div_ceil(RECORD_SIZE))?;
-        self.undone.clear();
+        self.give_up_undone();
         self.files.push((self.place() + 1, name.to_string()));
         bytes.chunks(RECORD_SIZE).for_each(|record| drop(self.pass(record, false)));
         self.name_files();
         Ok(format!("replayed {} of {name}", counted(bytes.len().div_ceil(RECORD_SIZE), "record")))
+    }
+
+    /// What was undone cannot be done again once another event stands in its place.
+    fn give_up_undone(&mut self) {
+        let place = self.place();
+        self.undone.clear();
+        self.files.retain(|(first, _)| *first <= place);
     }
 
     fn has_room(&self, more: usize) -> Result<(), String> {

@@ -11,6 +11,8 @@ const MOST_OF_HEAD: usize = 16 * 1024;
 pub const MOST_OF_BODY: usize = 100_000 * mbrumzheg::RECORD_SIZE;
 /// From the first byte to the last.
 const PATIENCE: Duration = Duration::from_secs(10);
+/// For what comes after an answer.
+const MOMENT: Duration = Duration::from_millis(500);
 
 /// The first lines of a request.
 pub struct Head {
@@ -178,13 +180,10 @@ pub fn write(mut stream: &TcpStream, reply: &Reply) -> io::Result<()> {
     stream.write_all(&reply.body)?;
     stream.shutdown(Shutdown::Write)?;
     // what of the request was not read is let pass for a moment, since an end with unread bytes would take the answer away
-    stream.set_read_timeout(Some(Duration::from_millis(500)))?;
+    stream.set_read_timeout(Some(MOMENT))?;
+    let end = Instant::now() + MOMENT;
     let mut piece = [0; 16 * 1024];
-    for _ in 0..128 {
-        if stream.read(&mut piece)? == 0 {
-            break;
-        }
-    }
+    while Instant::now() < end && stream.read(&mut piece)? > 0 {}
     Ok(())
 }
 

@@ -117,6 +117,11 @@ impl Browser {
         self.command("/actions", &format!("{{\"actions\":[{{\"type\":\"key\",\"id\":\"keys\",\"actions\":[{}]}}]}}", each.join(",")));
     }
 
+    /// Says yes to a question that the page asks.
+    pub fn accept(&self) {
+        self.command("/alert/accept", "{}");
+    }
+
     /// The text that what a selector finds shows.
     pub fn text(&self, selector: &str) -> String {
         self.script(&format!("return document.querySelector({}).innerText", quoted(selector))).text().to_string()

@@ -30,6 +30,8 @@ export async function send(path, body) {
     return false;
   }
   take(answer);
+  // the gauges stay at the time that was asked for
+  if ($("at").value.trim()) await refresh();
   return true;
 }
 

@@ -28,6 +28,7 @@ export function draw(state, sort) {
   roots(armed.roots);
   locks(armed);
   rules(armed, sort);
+  $("drawn").textContent = `at ${armed.at}`;
   $("armed-from").textContent = `The profile, ${state.profile.name}`;
   $("armed-text").textContent = state.profile.text;
   lines(state);

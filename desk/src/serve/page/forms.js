@@ -37,10 +37,12 @@ const focus = (id) => () => {
   $(id).select();
 };
 
+const follow = (id) => () => $(id).getAttribute("aria-disabled") !== "true" && $(id).click();
+
 const KEYS = {
   o: offer, r: () => order(""), 1: () => order("symbol"), 2: () => order("firm"), 3: () => order("both"),
   l: () => lock("root"), f: () => lock("firm"), u: () => back(), y: () => forth(),
-  t: focus("time"), c: focus("contracts"), "/": focus("line"), s: () => $("save").click(), g: () => $("report").click(),
+  t: focus("time"), c: focus("contracts"), "/": focus("line"), s: follow("save"), g: follow("report"),
 };
 
 function key(event) {
