@@ -28,6 +28,14 @@ struct Count {
     inside: VecDeque<(u64, u64)>,
 }
 
+impl Count {
+    /// Takes out the first fill, if its window ends up to a time.
+    fn leaving(&mut self, ms: u64) -> Option<(u64, u64)> {
+        self.inside.front().filter(|(end, _)| *end <= ms)?;
+        self.inside.pop_front()
+    }
+}
+
 impl Ledger {
     /// Nothing counted yet.
     pub fn of(profile: &Profile) -> Ledger {
@@ -47,11 +55,7 @@ impl Ledger {
     /// Lets the fills leave whose windows end up to a time.
     pub fn advance(&mut self, ms: u64, watch: &mut dyn Watch) {
         for (rule, count) in self.counts.iter_mut().enumerate() {
-            while let Some((end, amount)) = count.inside.pop_front() {
-                if end > ms {
-                    count.inside.push_front((end, amount));
-                    break;
-                }
+            while let Some((end, amount)) = count.leaving(ms) {
                 count.used -= amount;
                 if count.inside.front().is_none_or(|(next, _)| *next > end) {
                     watch.used(rule, end, count.used);

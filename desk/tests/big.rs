@@ -1,4 +1,6 @@
 //! Days of any size: the desk's memory does not grow with the day, its page stays small, and a stretch of a long day is the stretch alone.
+#[path = "common/terminal.rs"]
+mod terminal;
 use std::fs;
 use std::path::{Path, PathBuf};
 use std::process::{Command, Stdio};
@@ -72,5 +74,34 @@ fn a_stretch_of_a_long_day_is_the_stretch_alone() {
     assert_eq!(line(&whole, "counts"), line(&part, "counts"), "counts are the whole day's");
     let times: Vec<u64> = part.split("\"most_used_at_ms\":").skip(1).filter_map(|rest| rest.split(',').next()?.parse().ok()).collect();
     assert!(times.len() > 10 && times.iter().all(|ms| (36_000_000..=36_060_000).contains(ms)), "{times:?}");
+    fs::remove_dir_all(place).expect("removed");
+}
+
+#[test]
+fn a_day_that_memory_does_not_keep_is_saved_and_reported_as_it_was_read() {
+    let place = drawn("kept", 120_000, 8);
+    fs::write(place.join("script"), "arm profile\nreplay records quiet\nsave copy\nreport desk.json\n").expect("written");
+    let output = Command::new(env!("CARGO_BIN_EXE_desk")).arg("script").current_dir(&place).output().expect("the desk runs");
+    assert!(output.status.success() && output.stderr.is_empty(), "{}", String::from_utf8_lossy(&output.stderr));
+    assert!(String::from_utf8_lossy(&output.stdout).contains("saved 120,000 records to copy"));
+    let [records, copy] = ["records", "copy"].map(|name| fs::read(place.join(name)).expect("records"));
+    assert!(records == copy, "byte for byte");
+    report(&place, &["files.json"]);
+    let [at_the_desk, of_files] = ["desk.json", "files.json"].map(|name| fs::read_to_string(place.join(name)).expect("figures"));
+    assert_eq!(at_the_desk, of_files, "the same figures, files and sums either way");
+    fs::remove_dir_all(place).expect("removed");
+}
+
+#[test]
+fn a_terminal_is_told_how_far_it_is() {
+    let place = drawn("told", 200_000, 24);
+    let program = format!("{} report profile records page.html", env!("CARGO_BIN_EXE_desk"));
+    let said = terminal::said(&program, &place, &[], &[("wrote a page on 200,000 records", "")]);
+    // elsewhere nothing is said of it
+    let output = Command::new(env!("CARGO_BIN_EXE_desk")).args(["report", "profile", "records", "page.html"]).current_dir(&place).output();
+    assert!(output.expect("the desk runs").stderr.is_empty());
+    if let Some(said) = said {
+        assert!(said.contains(" of 200,000 records") && said.contains("\r\x1b[K"), "{said:?}");
+    }
     fs::remove_dir_all(place).expect("removed");
 }
