@@ -55,6 +55,11 @@ extern crate alloc;
 #[cfg(feature = "std")]
 extern crate std;
 
+/// The examples of the paper beside this crate are run with its tests.
+#[cfg(doctest)]
+#[doc = include_str!("../README.md")]
+struct Paper;
+
 mod event;
 mod memory;
 pub mod raw;

@@ -159,13 +159,46 @@ impl Error for ArmRefusal {
     }
 }
 
-/// A refusal together with what was handed in, so that nothing is lost by it.
+impl From<ArmRefusal> for Refusal {
+    fn from(why: ArmRefusal) -> Refusal {
+        why.refusal
+    }
+}
+
+/// A refusal together with what was handed in, so that nothing is lost by it. `?` turns it into the refusal alone.
+///
+/// ```
+/// use mbrumzheg::{ArmRefusal, Refusal, Unit};
+/// fn rules(lent: &mut [u64], profile: &str) -> Result<u64, ArmRefusal> {
+///     Ok(Unit::cleared(lent)?.arm(profile)?.rule_count())
+/// }
+/// assert_eq!(rules(&mut [0; 9], "ABCD,abs_vol,XYZ,1000").unwrap_err().refusal, Refusal::NoRoom);
+/// assert_eq!(rules(&mut [0; mbrumzheg::SIZE], "ABCD,abs_vol,XYZ,0").unwrap_err().line, Some(1));
+/// ```
 #[derive(Debug)]
 pub struct Refused<U, E = Refusal> {
     /// Why.
     pub why: E,
     /// What was handed in, as it was.
     pub kept: U,
+}
+
+impl<U> From<Refused<U>> for Refusal {
+    fn from(refused: Refused<U>) -> Refusal {
+        refused.why
+    }
+}
+
+impl<U> From<Refused<U>> for ArmRefusal {
+    fn from(refused: Refused<U>) -> ArmRefusal {
+        ArmRefusal { refusal: refused.why, line: None }
+    }
+}
+
+impl<U> From<Refused<U, ArmRefusal>> for ArmRefusal {
+    fn from(refused: Refused<U, ArmRefusal>) -> ArmRefusal {
+        refused.why
+    }
 }
 
 impl<U, E: fmt::Display> fmt::Display for Refused<U, E> {

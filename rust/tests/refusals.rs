@@ -38,6 +38,7 @@ fn every_refusal_has_a_number_a_name_and_a_sentence_of_its_own() {
             assert!(other.name() != refusal.name() && other.sentence() != refusal.sentence());
         }
     }
+    assert!(Refusal::NoRoom.sentence().replace(',', "").contains(&format!("fewer than {SIZE} numbers")));
     assert_eq!((Refusal::from_number(0), Refusal::from_number(17)), (None, None));
     assert_eq!(Refusal::from_number(u64::MAX), None);
 }
