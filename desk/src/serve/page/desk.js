@@ -1,5 +1,5 @@
 // Asks the desk, draws what it answers, and carries out what buttons and keys ask for.
-import { draw, drawLine, say, advise } from "./draw.js";
+import { advise, draw, drawLine, paragraphs, say } from "./draw.js";
 import { wire } from "./forms.js";
 
 const $ = (id) => document.getElementById(id);
@@ -88,7 +88,7 @@ export async function check() {
   const verdict = $("verdict");
   verdict.textContent = body.good === null ? "What it says" : body.good ? "Good" : "Refused";
   verdict.className = body.good === null ? "" : body.good ? "good" : "bad";
-  $("check").textContent = body.words ?? body.advice;
+  paragraphs($("check"), body.words ?? body.advice);
 }
 
 // Older lines of the log than those that came with the state.

@@ -9,6 +9,16 @@ export function element(name, text, className) {
   return made;
 }
 
+// Words of several lines: prose may wrap, a profile's line and the marks under it may not.
+export function paragraphs(own, text) {
+  const lines = text.split("\n").map((line) => {
+    const isMarks = /^ +\| *\^+$/.test(line);
+    const tone = isMarks ? "kept marks" : /^ +\d+ \|/.test(line) ? "kept" : /^ +\| warning/.test(line) ? "warning" : "";
+    return element("div", line, tone);
+  });
+  own.replaceChildren(...lines);
+}
+
 export function draw(state, sort) {
   const armed = state.armed;
   $("work").hidden = !armed;
@@ -160,7 +170,7 @@ export function say(said) {
   $("words").textContent = entry ? entry.words : block ? "" : said.words;
   $("shown").hidden = !block;
   $("shown").className = "";
-  $("shown").textContent = block ? said.words : "";
+  paragraphs($("shown"), block ? said.words : "");
   $("numbers").hidden = !entry;
   if (entry) [...$("numbers").querySelectorAll("dd")].forEach((cell, place) => (cell.textContent = entry.numbers[place]));
 }
@@ -169,5 +179,5 @@ export function say(said) {
 export function advise(advice) {
   say({ words: advice });
   (advice.includes("\n") ? $("shown") : $("words")).className = "advice";
-  if ($("work").hidden) $("check").textContent = advice;
+  if ($("work").hidden) paragraphs($("check"), advice);
 }
