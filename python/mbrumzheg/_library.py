@@ -11,7 +11,7 @@ _ADVICE = f"""There are three ways to one:
 - name the folder of a {NAME} in MBRUMZHEG_LIB;
 - install one where the system's loader looks, or name its folder in LD_LIBRARY_PATH;
 - put one into the folder of this package.
-In the repository, tools/shared-library makes it."""
+In the repository, tools/shared-library makes one and prints its folder."""
 
 Numbers = ctypes.POINTER(ctypes.c_uint64)
 Room = ctypes.POINTER(ctypes.c_uint8)
