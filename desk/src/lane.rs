@@ -60,6 +60,11 @@ impl Lane {
         }
     }
 
+    /// Whether anything happened to it.
+    pub fn is_marked(&self) -> bool {
+        !self.locked.is_empty() || !self.marks.is_empty()
+    }
+
     /// The times at which it was locked, those joined that no picture could tell apart.
     pub fn bands(&self, scale: Scale) -> Vec<(u64, u64)> {
         joined(&self.locked, scale)

@@ -84,31 +84,39 @@ struct Drawn<'a> {
 }
 
 impl Drawn<'_> {
-    /// The firm's lane and the roots', with what happened to each.
+    /// The firm's lane and those of roots to which something happened. A cut has no mark of its own here, since each is a trip as well.
     fn lanes(&self) -> String {
-        let bottom = 4.0 + LANE * self.day.lanes.len() as f64;
+        let shown: Vec<usize> = (0..self.day.lanes.len()).filter(|level| *level == 0 || self.day.lanes[*level].is_marked()).collect();
+        let bottom = 4.0 + LANE * shown.len() as f64;
         let mut inner = self.axis.draw(4.0, bottom);
         let mut names = String::new();
-        for (level, tallies) in self.lane_marks.iter().enumerate() {
-            let top = 4.0 + LANE * level as f64;
-            let middle = top + LANE / 2.0;
-            inner.push_str(&self.band(level, top + 3.0, LANE - 6.0));
-            inner.push_str(&format!("<line class=\"base\" x1=\"0\" y1=\"{middle}\" x2=\"100%\" y2=\"{middle}\"/>"));
-            inner.push_str(&marks(self.axis, tallies, |kind| match kind {
-                Kind::Cut => middle - 6.0,
-                Kind::Rejected => middle + 7.0,
-                _ => middle,
-            }));
-            names.push_str(&format!("<b>{}</b>", escaped(&level_name(self.profile, level))));
+        for (place, level) in shown.iter().enumerate() {
+            inner.push_str(&self.lane(*level, 4.0 + LANE * place as f64));
+            names.push_str(&format!("<b>{}</b>", escaped(&level_name(self.profile, *level))));
         }
-        let about =
-            format!("The firm and {} over time: when each was locked, and what happened to it.", counted(self.profile.roots.len(), "root"));
+        let idle = match self.day.lanes.len() - shown.len() {
+            0 => String::new(),
+            idle => format!("<p>To {} nothing happened but plain passes.</p>", counted(idle, "more root")),
+        };
         format!(
-            "<div class=\"chart lanes\"><div class=\"names\" aria-hidden=\"true\">{names}</div>\
-             <svg class=\"plot\" height=\"{}\" role=\"img\" aria-label=\"{}\">{inner}</svg></div>",
+            "<div class=\"chart lanes\"><div class=\"names\" aria-hidden=\"true\">{names}</div><svg class=\"plot\" height=\"{}\" role=\"img\" \
+             aria-label=\"The firm and {} over time: when each was locked, and what happened to it.\">{inner}</svg></div>{idle}",
             bottom + 22.0,
-            escaped(&about)
+            counted(shown.len() - 1, "root")
         )
+    }
+
+    /// A level's lane at a height.
+    fn lane(&self, level: usize, top: f64) -> String {
+        let middle = top + LANE / 2.0;
+        let tallies: Vec<Tally> = self.lane_marks[level].iter().copied().filter(|tally| tally.kind != Kind::Cut).collect();
+        let marks = marks(self.axis, &tallies, |kind| match kind {
+            Kind::Trip => middle - 6.0,
+            Kind::Rejected => middle + 8.0,
+            _ => middle,
+        });
+        let base = format!("<line class=\"base\" x1=\"0\" y1=\"{middle}\" x2=\"100%\" y2=\"{middle}\"/>");
+        [self.band(level, top + 3.0, LANE - 6.0), base, marks].concat()
     }
 
     /// The resets and lockouts of each level, which all of its rules show.
