@@ -1,4 +1,5 @@
-//! Writes a profile and a day of records, drawn from a seed: `big_day SEED RECORDS RULES FOLDER`. For trying pages and their speed on days of any size.
+//! Writes a profile and a day of records, drawn from a seed: `big_day SEED RECORDS RULES FOLDER [TIGHT]`. Limits are divided by TIGHT, so that rules trip
+//! all day. For trying pages and their speed on days of any size.
 
 use mbrumzheg::{Contracts, Event, Level, Offer, Premium, RecordWriter, Reset, Root, Time, UnitOfRoot};
 use std::fs::File;
@@ -19,7 +20,7 @@ impl Dice {
 }
 
 /// Rules in groups of four a root, of the six types in turn, with limits that a dense day reaches now and then.
-fn profile(rules: u64) -> String {
+fn profile(rules: u64, tight: u64) -> String {
     const KINDS: [(&str, u64); 6] = [
         ("rate_vol", 900),
         ("rate_ntnl", 2_500),
@@ -30,7 +31,7 @@ fn profile(rules: u64) -> String {
     ];
     let line = |number: u64| {
         let (kind, limit) = KINDS[(number % 6) as usize];
-        format!("ABCD,{kind},R{},{},{}\n", number / 4, limit, 1_000 + 250 * (number % 9))
+        format!("ABCD,{kind},R{},{},{}\n", number / 4, (limit / tight).max(1), 1_000 + 250 * (number % 9))
     };
     (0..rules).map(line).collect()
 }
@@ -47,15 +48,16 @@ fn event(dice: &mut Dice, ms: u64, roots: u64) -> Event {
             time,
             root,
             unit: UnitOfRoot::ALL[dice.below(4) as usize],
-            premium: Premium::from_ten_thousandths(100 * (1 + dice.below(900))).expect("a premium"),
+            premium: Premium::from_ten_thousandths(1 + dice.below(90_000)).expect("a premium"),
             contracts: Contracts::new(1 + dice.below(60)).expect("contracts"),
         }),
     }
 }
 
-fn write(seed: u64, records: u64, rules: u64, folder: &Path) -> io::Result<()> {
+/// Writes the files `profile` and `records` to a folder.
+pub fn write(seed: u64, records: u64, (rules, tight): (u64, u64), folder: &Path) -> io::Result<()> {
     let mut dice = Dice(seed.wrapping_mul(0x9E37_79B9_7F4A_7C15) | 1);
-    std::fs::write(folder.join("profile"), profile(rules))?;
+    std::fs::write(folder.join("profile"), profile(rules, tight))?;
     let mut writer = RecordWriter::new(BufWriter::new(File::create(folder.join("records"))?));
     // from 09:30 to 16:00
     let (open, close) = (34_200_000, 57_600_000);
@@ -68,19 +70,16 @@ fn write(seed: u64, records: u64, rules: u64, folder: &Path) -> io::Result<()> {
 fn main() -> ExitCode {
     let words: Vec<String> = std::env::args().skip(1).collect();
     let number = |place: usize| words.get(place).and_then(|word| word.parse::<u64>().ok());
-    match (number(0), number(1), number(2), words.get(3)) {
-        (Some(seed), Some(records), Some(rules @ 1..=256), Some(folder)) if records > 0 => {
-            match write(seed, records, rules, Path::new(folder)) {
-                Ok(()) => ExitCode::SUCCESS,
-                Err(error) => {
-                    eprintln!("the day cannot be written: {error}");
-                    ExitCode::FAILURE
-                }
-            }
-        }
-        _ => {
-            eprintln!("usage: big_day SEED RECORDS RULES FOLDER, with 1 to 256 rules");
-            ExitCode::from(2)
+    let (Some(seed), Some(records @ 1..), Some(rules @ 1..=256), Some(folder)) = (number(0), number(1), number(2), words.get(3)) else {
+        eprintln!("usage: big_day SEED RECORDS RULES FOLDER [TIGHT], with 1 to 256 rules");
+        return ExitCode::from(2);
+    };
+    let tight = number(4).unwrap_or(1).max(1);
+    match write(seed, records, (rules, tight), Path::new(folder)) {
+        Ok(()) => ExitCode::SUCCESS,
+        Err(error) => {
+            eprintln!("the day cannot be written: {error}");
+            ExitCode::FAILURE
         }
     }
 }

@@ -1,4 +1,7 @@
 //! Days of any size: the desk's memory does not grow with the day, its page stays small, and a stretch of a long day is the stretch alone.
+#[allow(dead_code)]
+#[path = "../examples/big_day.rs"]
+mod big_day;
 #[path = "common/terminal.rs"]
 mod terminal;
 use std::fs;
@@ -7,13 +10,10 @@ use std::process::{Command, Stdio};
 use std::time::Duration;
 
 /// A folder with a profile and a day that the example `big_day` draws.
-fn drawn(name: &str, records: u64, rules: u64) -> PathBuf {
+fn drawn(name: &str, records: u64, rules: u64, tight: u64) -> PathBuf {
     let place = std::env::temp_dir().join(format!("desk-big-{name}-{}", std::process::id()));
     fs::create_dir_all(&place).expect("a folder");
-    let desk = Path::new(env!("CARGO_BIN_EXE_desk"));
-    let example = desk.with_file_name("examples").join("big_day");
-    let done = Command::new(example).args(["7", &records.to_string(), &rules.to_string()]).arg(&place).status();
-    assert!(done.expect("cargo test builds the examples").success());
+    big_day::write(7, records, (rules, tight), &place).expect("a day");
     place
 }
 
@@ -41,7 +41,7 @@ fn report(place: &Path, words: &[&str]) -> (String, Option<u64>) {
 
 #[test]
 fn memory_does_not_grow_with_the_day() {
-    let (short, long) = (drawn("short", 20_000, 24), drawn("long", 200_000, 24));
+    let (short, long) = (drawn("short", 20_000, 24, 1), drawn("long", 200_000, 24, 1));
     let (_, little) = report(&short, &["page.html"]);
     let (said, much) = report(&long, &["page.html"]);
     assert!(said.starts_with("wrote a page on 200,000 records to page.html"), "{said}");
@@ -55,17 +55,21 @@ fn memory_does_not_grow_with_the_day() {
 
 #[test]
 fn a_page_of_256_rules_is_below_3_million_bytes() {
-    let place = drawn("rules", 60_000, 256);
-    report(&place, &["page.html"]);
-    let page = fs::read_to_string(place.join("page.html")).expect("a page");
-    assert_eq!(page.matches("<section class=\"rule\"").count(), 256, "every rule is drawn");
-    assert!(page.len() < 3_000_000, "{} bytes", page.len());
-    fs::remove_dir_all(place).expect("removed");
+    // rules that trip hardly ever, and rules that trip all day
+    for tight in [1, 100] {
+        let place = drawn("rules", 60_000, 256, tight);
+        report(&place, &["page.html"]);
+        let page = fs::read_to_string(place.join("page.html")).expect("a page");
+        assert_eq!(page.matches("<section class=\"rule\"").count(), 256, "every rule is drawn");
+        assert!(page.len() < 3_000_000, "{} bytes", page.len());
+        assert_eq!(page.contains("use href=\"#trip\""), tight > 1, "trips are marked");
+        fs::remove_dir_all(place).expect("removed");
+    }
 }
 
 #[test]
 fn a_stretch_of_a_long_day_is_the_stretch_alone() {
-    let place = drawn("stretch", 40_000, 16);
+    let place = drawn("stretch", 40_000, 16, 1);
     report(&place, &["whole.json"]);
     report(&place, &["part.json", "from", "10:00", "to", "10:01"]);
     let [whole, part] = ["whole.json", "part.json"].map(|name| fs::read_to_string(place.join(name)).expect("figures"));
@@ -79,7 +83,7 @@ fn a_stretch_of_a_long_day_is_the_stretch_alone() {
 
 #[test]
 fn a_day_that_memory_does_not_keep_is_saved_and_reported_as_it_was_read() {
-    let place = drawn("kept", 120_000, 8);
+    let place = drawn("kept", 120_000, 8, 1);
     fs::write(place.join("script"), "arm profile\nreplay records quiet\nsave copy\nreport desk.json\n").expect("written");
     let output = Command::new(env!("CARGO_BIN_EXE_desk")).arg("script").current_dir(&place).output().expect("the desk runs");
     assert!(output.status.success() && output.stderr.is_empty(), "{}", String::from_utf8_lossy(&output.stderr));
@@ -94,7 +98,7 @@ fn a_day_that_memory_does_not_keep_is_saved_and_reported_as_it_was_read() {
 
 #[test]
 fn a_terminal_is_told_how_far_it_is() {
-    let place = drawn("told", 200_000, 24);
+    let place = drawn("told", 200_000, 24, 1);
     let program = format!("{} report profile records page.html", env!("CARGO_BIN_EXE_desk"));
     let said = terminal::said(&program, &place, &[], &[("wrote a page on 200,000 records", "")]);
     // elsewhere nothing is said of it
