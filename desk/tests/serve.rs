@@ -179,11 +179,11 @@ fn slow_and_many_askers_do_not_hold_the_desk_up() {
         .collect();
     let begun = Instant::now();
     assert_eq!(post(&serving, "arm", PROFILE.as_bytes()).0, 200);
-    assert!(begun.elapsed() < Duration::from_secs(3), "it answers beside them");
+    assert!(begun.elapsed() < Duration::from_secs(8), "it answers beside them, before it gives them up");
     // more than it takes at once are turned away, and those that hang are given up in time
     let more: Vec<TcpStream> = (0..60).filter_map(|_| TcpStream::connect(("127.0.0.1", serving.port)).ok()).collect();
     while request(&serving, "GET", "state", "", b"").0 != 200 {
-        assert!(begun.elapsed() < Duration::from_secs(40), "the desk is held up");
+        assert!(begun.elapsed() < Duration::from_secs(60), "the desk is held up");
         std::thread::sleep(Duration::from_millis(200));
     }
     drop((idle, more));

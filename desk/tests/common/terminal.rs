@@ -5,7 +5,7 @@ use std::process::{Child, Command, Stdio};
 use std::sync::{Arc, Mutex};
 use std::time::{Duration, Instant};
 
-const PATIENCE: Duration = Duration::from_secs(20);
+const PATIENCE: Duration = Duration::from_secs(60);
 
 /// What a program says at a terminal; nothing where the machine has no `script`. Each step waits for words and then types keys.
 pub fn said(program: &str, place: &Path, environment: &[(&str, &str)], steps: &[(&str, &str)]) -> Option<String> {
