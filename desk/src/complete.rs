@@ -34,6 +34,7 @@ fn following(command: &str, words: &[&str], roots: &[String]) -> Vec<String> {
         ("lock" | "remaining", 0) => [levels(), all(&TIMES)].concat(),
         ("lock" | "remaining", 1) => levels(),
         ("replay", 1) => all(&["quiet"]),
+        ("save", 1) => all(&["over"]),
         ("report", 1) => all(&["from"]),
         ("report", 3) => all(&["to"]),
         _ => Vec::new(),
@@ -84,6 +85,7 @@ mod tests {
         assert_eq!(offered("remaining now x"), ["XYZ", "XQ"]);
         assert_eq!(offered("help ref"), ["refusals"]);
         assert_eq!(offered("replay day.records q"), ["quiet"]);
+        assert_eq!(offered("save day.records "), ["over"]);
         assert_eq!(offered("xyz "), [""; 0]);
         assert_eq!(offered("offer 0ms é"), [""; 0]);
         assert_eq!(candidates("order now 7", &["7".to_string()]), (10, vec!["7".to_string()]));

@@ -163,7 +163,8 @@ fn further_lines_are_judged_by_the_library() {
 }
 
 /// A text, the marks under its faulty line from the line's first column on, and a part of the words.
-const FAULTS: [(&str, &str, &str); 34] = [
+const FAULTS: [(&str, &str, &str); 35] = [
+    ("Firm,Limit type,Root,Limit value\nABCD,abs_vol,XYZ,5", "^^^^^^^^^^^^^^^^^^^^^^^^^^^^^^^^", "a heading?"),
     ("ABCD,abs_volume,XYZ,1000", "     ^^^^^^^^^^", "not known; the nearest is abs_vol"),
     ("ABCD,ABS_VOL,XYZ,1000", "     ^^^^^^^", "limit types are in small letters; write abs_vol"),
     ("ABCD,abs_vol ,XYZ,1000", "     ^^^^^^^^", "a blank stands beside the limit type"),

@@ -190,6 +190,23 @@ fn slow_and_many_askers_do_not_hold_the_desk_up() {
     fs::remove_dir_all(place).expect("removed");
 }
 
+/// A state has the last lines of a long log, and the others are asked for by place.
+#[test]
+fn a_long_log_comes_in_pieces() {
+    let place = workplace("log");
+    let serving = Serving::begin(&place, &[]);
+    assert_eq!(post(&serving, "arm", PROFILE.as_bytes()).0, 200);
+    assert_eq!(post(&serving, "replay?name=faulty", &[0xFF; 12 * 450]).0, 200);
+    let places = |log: &Json| (log.list().first().map(|entry| entry.get("place").number()), log.list().len());
+    assert_eq!(places(state(&serving).get("log")), (Some(251), 200));
+    let before = |to: usize| Json::of(&String::from_utf8(get(&serving, &format!("log?to={to}")).1).expect("text"));
+    assert_eq!(places(&before(250)), (Some(51), 200));
+    assert_eq!(places(&before(50)), (Some(1), 50));
+    assert_eq!(places(&before(0)), (None, 0));
+    assert_eq!(places(&before(9_999)), (Some(251), 200));
+    fs::remove_dir_all(place).expect("removed");
+}
+
 /// Whatever is sent by whoever has the address, the desk goes on, and its state stays well formed.
 #[test]
 fn random_requests_do_no_harm() {

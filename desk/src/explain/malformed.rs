@@ -14,6 +14,9 @@ pub fn faults(fields: &Fields) -> Vec<Fault> {
     if fields.line.is_empty() {
         return vec![Fault::new(Malformed, 0..0, "the line is empty; take it out")];
     }
+    if is_heading(fields) {
+        return vec![Fault::new(Malformed, 0..fields.line.len(), "a heading? a profile has rules alone; take the line out")];
+    }
     let count = fields.count();
     let mut found: Vec<Fault> = number_of_fields(fields).into_iter().collect();
     let there = |field: usize| field < count;
@@ -27,6 +30,15 @@ pub fn faults(fields: &Fields) -> Vec<Fault> {
     found.extend(letter(fields, CALL_PUT, "CP", "C for calls, P for puts, or nothing"));
     found.extend(letter(fields, MONTH, "FT", "F for front, T for trailing, or nothing"));
     found
+}
+
+/// Whether a line has words where every rule has a type and a number.
+fn is_heading(fields: &Fields) -> bool {
+    let is_word = |field: usize| {
+        let bytes = fields.bytes(field);
+        !bytes.is_empty() && bytes.iter().all(|byte| byte.is_ascii_alphabetic() || matches!(byte, b' ' | b'_' | b'-'))
+    };
+    fields.count() >= 4 && fields.kind().is_none() && [FIRM, KIND, ROOT, LIMIT].into_iter().all(is_word)
 }
 
 fn number_of_fields(fields: &Fields) -> Option<Fault> {
