@@ -209,3 +209,16 @@ fn cell(text: &str) -> String {
         text
     }
 }
+
+#[cfg(test)]
+mod tests {
+    use super::{cell, quoted};
+
+    #[test]
+    fn texts_stay_texts() {
+        assert_eq!(quoted("a \"name\" \\ with\ttab"), "\"a \\\"name\\\" \\\\ with\\u0009tab\"");
+        assert_eq!(cell("plain"), "plain");
+        assert_eq!(cell("two, \"quoted\""), "\"two, \"\"quoted\"\"\"");
+        assert_eq!(cell("=1+1"), "'=1+1");
+    }
+}

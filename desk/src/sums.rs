@@ -1,6 +1,7 @@
 //! The figures of a day.
 
 use crate::sitting::Passed;
+use crate::words::grouped;
 use mbrumzheg::{Event, Refusal};
 
 /// The figures of a day.
@@ -66,11 +67,11 @@ impl Sums {
             counted(self.records, "record"),
             counted(self.cuts, "cut"),
             counted(self.trips, "trip"),
-            self.rejected,
-            self.refused
+            grouped(self.rejected),
+            grouped(self.refused)
         );
         if self.faulty > 0 {
-            text.push_str(&format!(", {} faulty", self.faulty));
+            text.push_str(&format!(", {} faulty", grouped(self.faulty)));
         }
         text
     }
