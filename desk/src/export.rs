@@ -2,6 +2,7 @@
 
 use crate::day::Day;
 use crate::figures::{self, RuleFigures};
+use crate::json::{list, object, text};
 use crate::lane::{Lane, Told};
 use crate::profile::{Measure, Profile};
 use crate::report::Made;
@@ -9,33 +10,40 @@ use crate::standing::level_name;
 
 /// All figures as JSON. Amounts of rules that count notional are in ten-thousandths of a dollar, times in milliseconds from midnight.
 pub fn json(profile: &Profile, day: &Day, made: &Made) -> String {
-    let times = |span: Option<(u64, u64)>| span.map_or("null".to_string(), |(from, to)| format!("{{\"from_ms\":{from},\"to_ms\":{to}}}"));
-    let counts: Vec<String> = figures::counts(profile, day).iter().map(|(name, count)| format!("{}:{count}", quoted(&key(name)))).collect();
-    let objects = |all: Vec<String>| format!("[\n{}\n]", all.join(",\n"));
-    let rules = figures::rules(profile, day).iter().map(|figures| object(&RULE_FIELDS, &rule_values(profile, figures))).collect();
-    let levels = levels(day).iter().map(|(level, lane)| object(&LEVEL_FIELDS, &level_values(profile, *level, lane))).collect();
-    let locks = told(day).iter().map(|told| object(&LOCK_FIELDS, &lock_values(profile, told))).collect();
-    let files: Vec<String> = made.records.iter().map(|name| quoted(name)).collect();
-    let lines = [
-        format!("\"firm\":{}", quoted(&profile.firm)),
-        format!("\"version\":{}", quoted(made.version)),
-        format!("\"kit\":{}", quoted(made.kit)),
-        format!("\"profile\":{{\"file\":{},\"sha256\":{}}}", quoted(&made.profile), quoted(&made.profile_sum)),
-        format!("\"records\":{{\"files\":[{}],\"typed\":{},\"sha256\":{}}}", files.join(","), made.typed, quoted(&made.records_sum)),
-        format!("\"times\":{}", times(day.times)),
-        format!("\"stretch\":{}", times(day.stretch)),
-        format!("\"counts\":{{{}}}", counts.join(",")),
-        format!("\"rules\":{}", objects(rules)),
-        format!("\"levels\":{}", objects(levels)),
-        format!("\"locks\":{}", objects(locks)),
+    let times = |span: Option<(u64, u64)>| {
+        span.map_or("null".to_string(), |(from, to)| object(&[("from_ms", from.to_string()), ("to_ms", to.to_string())]))
+    };
+    let counts = figures::counts(profile, day).into_iter().map(|(name, count)| format!("{}:{count}", text(&key(name))));
+    let rules = figures::rules(profile, day);
+    let sum_of_profile = [("file", text(&made.profile)), ("sha256", text(&made.profile_sum))];
+    let files = list(made.records.iter().map(|name| text(name)));
+    let sum_of_records = [("files", files), ("typed", made.typed.to_string()), ("sha256", text(&made.records_sum))];
+    let fields = [
+        ("firm", text(&profile.firm)),
+        ("version", text(made.version)),
+        ("kit", text(made.kit)),
+        ("profile", object(&sum_of_profile)),
+        ("records", object(&sum_of_records)),
+        ("times", times(day.times)),
+        ("stretch", times(day.stretch)),
+        ("counts", format!("{{{}}}", counts.collect::<Vec<_>>().join(","))),
+        ("rules", objects(rules.iter().map(|figures| named(&RULE_FIELDS, &rule_values(profile, figures))))),
+        ("levels", objects(levels(day).iter().map(|(level, lane)| named(&LEVEL_FIELDS, &level_values(profile, *level, lane))))),
+        ("locks", objects(told(day).iter().map(|told| named(&LOCK_FIELDS, &lock_values(profile, told))))),
     ];
+    let lines: Vec<String> = fields.iter().map(|(name, value)| format!("{}:{value}", text(name))).collect();
     format!("{{\"report\":\"desk\",\n{}\n}}\n", lines.join(",\n"))
 }
 
 /// Names and values as an object.
-fn object(names: &[&str], values: &[Value]) -> String {
-    let fields: Vec<String> = names.iter().zip(values).map(|(name, value)| format!("\"{name}\":{}", value.json())).collect();
-    format!("{{{}}}", fields.join(","))
+fn named(names: &[&str], values: &[Value]) -> String {
+    let fields: Vec<(&str, String)> = names.iter().copied().zip(values.iter().map(Value::json)).collect();
+    object(&fields)
+}
+
+/// A list with an object a line.
+fn objects(all: impl Iterator<Item = String>) -> String {
+    format!("[\n{}\n]", all.collect::<Vec<_>>().join(",\n"))
 }
 
 /// The same figures as tables of commas: counts, rules, levels and locks, an empty line between them.
@@ -83,7 +91,7 @@ impl Value {
 
     fn json(&self) -> String {
         match self {
-            Value::Text(text) => quoted(text),
+            Value::Text(words) => text(words),
             Value::Number(digits) => digits.clone(),
             Value::None => "null".to_string(),
         }
@@ -186,20 +194,6 @@ fn key(name: &str) -> String {
     name.replace(' ', "_")
 }
 
-/// A text between JSON's quotes.
-fn quoted(text: &str) -> String {
-    let mut out = String::from("\"");
-    for c in text.chars() {
-        match c {
-            '"' | '\\' => out.extend(['\\', c]),
-            c if c < ' ' => out.push_str(&format!("\\u{:04x}", c as u32)),
-            c => out.push(c),
-        }
-    }
-    out.push('"');
-    out
-}
-
 /// A text as a cell of a table of commas; none that a spreadsheet would take for a formula.
 fn cell(text: &str) -> String {
     let text = if text.starts_with(['=', '+', '-', '@']) { format!("'{text}") } else { text.to_string() };
@@ -212,11 +206,10 @@ fn cell(text: &str) -> String {
 
 #[cfg(test)]
 mod tests {
-    use super::{cell, quoted};
+    use super::cell;
 
     #[test]
     fn texts_stay_texts() {
-        assert_eq!(quoted("a \"name\" \\ with\ttab"), "\"a \\\"name\\\" \\\\ with\\u0009tab\"");
         assert_eq!(cell("plain"), "plain");
         assert_eq!(cell("two, \"quoted\""), "\"two, \"\"quoted\"\"\"");
         assert_eq!(cell("=1+1"), "'=1+1");

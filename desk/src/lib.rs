@@ -16,6 +16,7 @@ pub mod figures;
 pub mod files;
 pub mod given;
 pub mod help;
+pub mod json;
 mod keeping;
 pub mod lane;
 pub mod ledger;

@@ -1,7 +1,7 @@
 //! The log: every event of the day as it was typed, its answer in words, and the answer's numbers.
 
-use super::json;
 use crate::answer;
+use crate::json;
 use crate::sitting::{Passed, Sitting};
 use mbrumzheg::Event;
 

@@ -3,7 +3,6 @@
 mod bench;
 mod guard;
 mod http;
-mod json;
 mod log;
 mod routes;
 mod state;

@@ -2,8 +2,8 @@
 
 use super::bench::{checked, Bench, Said};
 use super::http::{Reply, Request};
-use super::json::{object, text};
-use super::{json, state};
+use super::state;
+use crate::json::{self, object, text};
 
 const PAGE: &str = include_str!("page/page.html");
 const STYLE: &str = include_str!("page/page.css");

@@ -1,10 +1,10 @@
 //! The desk as JSON, for the page to draw.
 
 use super::bench::Bench;
-use super::json::{list, maybe, object, text};
 use crate::answer::why_locked;
 use crate::asked::Names;
 use crate::check::meaning;
+use crate::json::{list, maybe, object, text};
 use crate::profile::Rule;
 use crate::sitting::Sitting;
 use crate::standing::{level_name, level_of};

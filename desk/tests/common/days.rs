@@ -1,0 +1,16 @@
+//! Days on fresh units for the desk's tests.
+use desk::day::Day;
+use desk::progress::Progress;
+use desk::sitting::Sitting;
+use mbrumzheg::Unit;
+
+/// A day that has not begun, on a unit armed from this text.
+pub fn sitting(text: &str) -> Sitting {
+    let unit = Unit::new().arm(text).unwrap_or_else(|refused| panic!("{refused}\n{text}"));
+    Sitting::new(unit, "profile", text.as_bytes())
+}
+
+/// The day that a sitting has passed, or a stretch of it.
+pub fn day(sitting: &Sitting, stretch: Option<(u64, u64)>) -> Day {
+    Day::replayed(&sitting.profile, sitting.day.reader().expect("a reader"), stretch, &mut Progress::of(None)).expect("a day")
+}
