@@ -123,6 +123,7 @@ fn is_drawn_to_measure(browser: &Browser) {
         "[...document.querySelectorAll('.lanes .tick')].map((tick) => tick.getBoundingClientRect()).filter((box) => box.width > 0) \
         .every((box, at, all) => box.height > 10 && box.height < 20 && (at === 0 || all[at - 1].right + 2 < box.left))",
     );
+    holds(browser, "[...document.querySelectorAll('.names b')].every((name) => name.scrollWidth <= name.clientWidth)");
     for (rule, share) in [(0, 1.0), (1, 0.175), (2, 0.1), (3, 0.031)] {
         let top = measured(browser, &format!("document.querySelector('#rule{rule} path.use').getBoundingClientRect().top - document.querySelector('#rule{rule} .plot').getBoundingClientRect().top"));
         let wanted = PLOT.1 - (PLOT.1 - PLOT.0) * share;
