@@ -144,13 +144,19 @@ impl Desk {
             return Err(question);
         }
         if let Bench::Armed(sitting) = std::mem::take(&mut self.bench) {
+            self.caution.lose(sitting.unsaved);
             self.bench = Bench::Unarmed(sitting.unit.clear());
         }
         Ok("cleared: the unit holds no rules, and nothing may pass until it is armed  [0]".to_string())
     }
 
-    /// How many typed events would be lost now.
+    /// How many typed events nobody saved: those that were cleared away where nobody could be asked, and those that would be lost now.
     pub fn unsaved(&self) -> usize {
+        self.caution.lost() + self.at_stake()
+    }
+
+    /// How many typed events would be lost now.
+    pub(crate) fn at_stake(&self) -> usize {
         match &self.bench {
             Bench::Armed(sitting) => sitting.unsaved,
             Bench::Unarmed(_) => 0,

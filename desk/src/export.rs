@@ -5,7 +5,7 @@ use crate::figures::{self, RuleFigures};
 use crate::json::{list, object, text};
 use crate::lane::{Lane, Told};
 use crate::profile::{Measure, Profile};
-use crate::report::Made;
+use crate::report::{Made, BEGINNINGS};
 use crate::standing::level_name;
 
 /// All figures as JSON. Amounts of rules that count notional are in ten-thousandths of a dollar, times in milliseconds from midnight.
@@ -32,7 +32,7 @@ pub fn json(profile: &Profile, day: &Day, made: &Made) -> String {
         ("locks", objects(told(day).iter().map(|told| named(&LOCK_FIELDS, &lock_values(profile, told))))),
     ];
     let lines: Vec<String> = fields.iter().map(|(name, value)| format!("{}:{value}", text(name))).collect();
-    format!("{{\"report\":\"desk\",\n{}\n}}\n", lines.join(",\n"))
+    format!("{}{}\n}}\n", BEGINNINGS[1], lines.join(",\n"))
 }
 
 /// Names and values as an object.
@@ -48,7 +48,7 @@ fn objects(all: impl Iterator<Item = String>) -> String {
 
 /// The same figures as tables of commas: counts, rules, levels and locks, an empty line between them.
 pub fn csv(profile: &Profile, day: &Day, made: &Made) -> String {
-    let mut lines = vec!["report,desk".to_string()];
+    let mut lines = Vec::new();
     let mut pair = |name: &str, value: String| lines.push(format!("{},{}", cell(name), cell(&value)));
     pair("firm", profile.firm.clone());
     pair("version", made.version.to_string());
@@ -74,7 +74,7 @@ pub fn csv(profile: &Profile, day: &Day, made: &Made) -> String {
     lines.push(String::new());
     lines.push(LOCK_FIELDS.join(","));
     lines.extend(told(day).iter().map(|told| row(&lock_values(profile, told))));
-    lines.join("\r\n") + "\r\n"
+    format!("{}{}\r\n", BEGINNINGS[2], lines.join("\r\n"))
 }
 
 /// A figure: a text, a number, or none.

@@ -1,5 +1,6 @@
 //! Files that the desk reads and writes. None is written over by a slip, and none is left half written.
 
+use crate::report;
 use crate::spool::Spool;
 use std::fs::File;
 use std::io::{self, BufWriter, Read, Write};
@@ -39,12 +40,14 @@ pub fn write_records(name: &str, day: &Spool, over: bool) -> Result<(), String> 
     whole(name, all).map_err(|error| cannot_write(name, &error))
 }
 
-/// Writes a page or its figures; a file that is there already is written over only if it begins as such a one does.
+/// No report's beginning is longer.
+const LONGEST_BEGINNING: u64 = 200;
+
+/// Writes a page or its figures; a file that is there already is written over only if it is empty or begins as such a one does.
 pub fn write_report(name: &str, text: &str) -> Result<(), String> {
-    let beginning: String = text.chars().take_while(|c| *c != '\n').take(15).collect();
     let mut held = Vec::new();
-    let there = File::open(name).and_then(|file| file.take(beginning.len() as u64).read_to_end(&mut held));
-    if there.is_ok() && !held.is_empty() && held != beginning.as_bytes() {
+    let there = File::open(name).and_then(|file| file.take(LONGEST_BEGINNING).read_to_end(&mut held));
+    if there.is_ok() && !held.is_empty() && !report::BEGINNINGS.iter().any(|beginning| held.starts_with(beginning.as_bytes())) {
         return Err(format!("'{name}' is there and is no report of the desk's, so it is left alone; type another name"));
     }
     whole(name, |to| to.write_all(text.as_bytes())).map_err(|error| cannot_write(name, &error))

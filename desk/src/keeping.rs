@@ -21,12 +21,25 @@ pub(crate) struct Caution {
     asks: bool,
     asked: Option<&'static str>,
     now: Option<&'static str>,
+    lost: usize,
 }
 
 impl Caution {
     /// Somebody is there to answer.
     pub(crate) fn asking() -> Caution {
         Caution { asks: true, ..Caution::default() }
+    }
+
+    /// Events are lost: by a word that was asked for, or unasked.
+    pub(crate) fn lose(&mut self, events: usize) {
+        if !self.asks {
+            self.lost += events;
+        }
+    }
+
+    /// How many were lost unasked.
+    pub(crate) fn lost(&self) -> usize {
+        self.lost
     }
 
     /// A question counts as answered by the line after it alone.
@@ -38,7 +51,7 @@ impl Caution {
 impl Desk {
     /// What to ask before a command loses typed events; nothing where there are none, nobody is there, or the command was just typed.
     pub(crate) fn question(&mut self, command: &'static str) -> Option<String> {
-        let lost = self.unsaved();
+        let lost = self.at_stake();
         if lost == 0 || !self.caution.asks || self.caution.asked == Some(command) {
             return None;
         }

@@ -8,7 +8,7 @@ use crate::lines::plain;
 use crate::marks::Kind;
 use crate::pictures;
 use crate::profile::Profile;
-use crate::report::Made;
+use crate::report::{Made, BEGINNINGS};
 use crate::tables;
 use crate::words::grouped;
 
@@ -36,10 +36,10 @@ pub fn page(profile: &Profile, day: &Day, made: &Made) -> String {
         format!(" data-first=\"{}\" data-step=\"{step}\" data-count=\"{count}\"", axis.scale.first)
     });
     format!(
-        "<!DOCTYPE html>\n<html lang=\"en\"><head><meta charset=\"utf-8\">\
-         <meta name=\"viewport\" content=\"width=device-width, initial-scale=1\"><meta name=\"color-scheme\" content=\"light dark\">\
+        "{}<meta name=\"viewport\" content=\"width=device-width, initial-scale=1\"><meta name=\"color-scheme\" content=\"light dark\">\
          <title>{title}</title>\n<style>\n{STYLE}</style></head>\n\
          <body{data}>{}<main>\n{}\n</main>\n<script>\n{SCRIPT}</script></body></html>\n",
+        BEGINNINGS[0],
         shared_shapes(axis.as_ref(), &drawn.shared),
         body.join("\n")
     )

@@ -18,6 +18,13 @@ pub const VERSION: &str = include_str!("../../VERSION").trim_ascii_end();
 /// The kit that proved and compiled the library, as it named itself when the desk was built.
 pub const KIT: &str = env!("MBRUMZHEG_KIT");
 
+/// What pages, JSON and CSV of the desk begin with, and nothing else is likely to.
+pub const BEGINNINGS: [&str; 3] = [
+    "<!DOCTYPE html>\n<html lang=\"en\"><head><meta charset=\"utf-8\"><meta name=\"generator\" content=\"desk\">",
+    "{\"report\":\"desk\",\n",
+    "report,desk\r\n",
+];
+
 /// What a report was made from, and by what.
 pub struct Made {
     /// The profile's file.

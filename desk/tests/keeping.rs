@@ -54,9 +54,15 @@ fn a_file_that_is_there_is_written_over_only_if_that_is_said() {
     let mut names: Vec<_> = fs::read_dir(&place.0).expect("a folder").map(|entry| entry.expect("a file").file_name()).collect();
     names.sort();
     assert_eq!(names, ["day", "profile"]);
-    // a folder is no file, and a profile is no report
-    let (said, _) = place.run(&format!("{typed}save @\nsave @ over\nreport @profile\n"), Manner::Shown);
-    assert!(said.matches("(it is a folder)").count() == 2 && said.contains("'@profile' is there and is no report"), "{said}");
+    // a folder is no file, and neither a profile nor another's page is a report of the desk's; its own are written over
+    fs::write(place.path("other.html"), "<!DOCTYPE html>\n<html></html>\n").expect("written");
+    let reports = "report @profile\nreport @other.html\nreport @page.html\nreport @page.html\nreport @day.csv\nreport @day.csv\nreport @day.json\nreport @day.json\n";
+    let (said, _) = place.run(&format!("{typed}save @\nsave @ over\n{reports}"), Manner::Shown);
+    assert_eq!(
+        (said.matches("(it is a folder)").count(), said.matches(" is no report of the desk's").count(), said.matches("wrote ").count()),
+        (2, 2, 6),
+        "{said}"
+    );
 }
 
 #[test]
@@ -111,7 +117,8 @@ fn a_script_that_saves_nothing_is_warned_on_standard_error() {
     for (lines, warning) in [
         ("arm profile\nlock 0ms XYZ\n", "desk: 1 event was not saved\n"),
         ("arm profile\nlock 0ms XYZ\nlock 1ms XYZ\nquit\n", "desk: 2 events were not saved\n"),
-        ("arm profile\nlock 0ms XYZ\nsave day over\n", ""),
+        ("arm profile\nlock 0ms XYZ\nclear\narm profile\nlock 0ms XYZ\n", "desk: 2 events were not saved\n"),
+        ("arm profile\nlock 0ms XYZ\nsave day over\nclear\n", ""),
         ("arm profile\nreplay day quiet\n", ""),
         ("arm profile\nstatus\n", ""),
     ] {
