@@ -43,13 +43,21 @@ pub fn write_records(name: &str, day: &Spool, over: bool) -> Result<(), String> 
 /// No report's beginning is longer.
 const LONGEST_BEGINNING: u64 = 200;
 
-/// Writes a page or its figures; a file that is there already is written over only if it is empty or begins as such a one does.
-pub fn write_report(name: &str, text: &str) -> Result<(), String> {
+/// Whether a report may be written to a file: one that is there already is written over only if it is empty or begins as a report does. To be asked
+/// before a long day is read.
+pub fn may_report(name: &str) -> Result<(), String> {
     let mut held = Vec::new();
     let there = File::open(name).and_then(|file| file.take(LONGEST_BEGINNING).read_to_end(&mut held));
-    if there.is_ok() && !held.is_empty() && !report::BEGINNINGS.iter().any(|beginning| held.starts_with(beginning.as_bytes())) {
-        return Err(format!("'{name}' is there and is no report of the desk's, so it is left alone; type another name"));
+    let is_report = report::BEGINNINGS.iter().any(|beginning| held.starts_with(beginning.as_bytes()));
+    if there.is_err() || held.is_empty() || is_report {
+        return Ok(());
     }
+    Err(format!("'{name}' is there and is no report of the desk's, so it is left alone; type another name"))
+}
+
+/// Writes a page or its figures to a file that may be written.
+pub fn write_report(name: &str, text: &str) -> Result<(), String> {
+    may_report(name)?;
     whole(name, |to| to.write_all(text.as_bytes())).map_err(|error| cannot_write(name, &error))
 }
 

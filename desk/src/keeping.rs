@@ -80,6 +80,7 @@ impl Desk {
         if sitting.place == 0 {
             return Err("there is nothing to report yet; type offer, order, lock or replay first".to_string());
         }
+        files::may_report(file)?;
         let reader = sitting.day.reader().map_err(|error| format!("the day's records cannot be read again: {error}"))?;
         let mut progress = Progress::of(Some(sitting.day.records()));
         let day = Day::replayed(&sitting.profile, reader, stretch, &mut progress)?;

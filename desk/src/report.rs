@@ -82,6 +82,7 @@ pub fn of_files(profile_file: &str, records_file: &str, to: &str, stretch: Optio
     let text = given::profile(profile_file)?;
     let unit = Unit::new().arm(&text);
     unit.map_err(|refused| format!("'{profile_file}' is refused: {}; desk check {profile_file} says more", refused.why))?;
+    files::may_report(to)?;
     let (from, bytes) = given::records(records_file)?;
     let mut summed = Summed { from, sum: Sha256::default() };
     let profile = Profile::of_accepted(&text);
