@@ -7,11 +7,12 @@ use lib.Dec.{ltb}
 use Rattle.laws.specs.Tests.{and-l, and-r}
 use Rattle.rules.specs.Allowance.{All}
 use Rattle.text.specs.Text.{bytes}
-use Rattle.tables.specs.Tables.{every}
-use Rattle.profile.specs.Profile.{Profile, outcomeOf}
-use Rattle.state.specs.State.{State, profileIn, decode, armedState}
-use Rattle.machine.specs.Machine.{Call, numbers}
-use Rattle.promises.proofs.Fresh.{fresh-profile}
+use Rattle.laws.specs.Folds.{every}
+use Rattle.machine.specs.State.{State, armed}
+use Rattle.machine.specs.Calls.{Call}
+use Rattle.machine.specs.Judge.{numbers}
+use Rattle.profile.specs.Profile.{outcomeOf}
+use Rattle.state.specs.State.{decode}
 use Rattle.bench.specs.Lent.{Memory, Text, numbersIn, Sent}
 use Rattle.bench.specs.Library.{Library, Meets, Unarmed, refusalIn}
 use Rattle.bench.specs.Rows.{Row, Seen, callsOf, windowsOf, answersOf, seen, seenBy, wanted, Done}
@@ -38,10 +39,9 @@ module _ (l : Library) (meets : Meets l) (m : Memory) (u : Unarmed m) where
     accepted = arm-accepted l meets m t u ok ∙ sym ok
 
     -- its rules are in the memory
-    windows : windowsOf (profileIn (decode (l .arm m t .memory .now)) .rules) ≡ windowsOf (outcomeOf (t .now) .profile .rules)
-    windows =
-        ap (λ (s : State). windowsOf (profileIn s .rules)) (arm-leaves l meets m t u ok .state)
-        ∙ ap (λ (p : Profile). windowsOf (p .rules)) (fresh-profile (outcomeOf (t .now) .profile))
+    windows : windowsOf (decode (l .arm m t .memory .now) .part .profile .rules) ≡ windowsOf (outcomeOf (t .now) .profile .rules)
+    unfolding armed
+    windows = ap (λ (s : State). windowsOf (s .part .profile .rules)) (arm-leaves l meets m t u ok .state)
 
   -- a row whose text is accepted is seen as on the machine
   as-machine : (row : Row) (t : Text) (day : List Sent) → t .now ≡ bytes (row .text) → map (λ c. c .call) day ≡ callsOf row
@@ -53,7 +53,7 @@ module _ (l : Library) (meets : Meets l) (m : Memory) (u : Unarmed m) where
         windows = (windows t ok ∙ ap (λ (text : List ℕ). windowsOf (outcomeOf text .profile .rules)) is) i;
         answers =
             ap (map numbers) (armed-answers l meets m t u ok day
-            ∙ ap₂ (λ (text : List ℕ) (calls : List Call). answersOf (armedState (outcomeOf text .profile)) calls) is sends) i;
+            ∙ ap₂ (λ (text : List ℕ) (calls : List Call). answersOf (armed (outcomeOf text .profile)) calls) is sends) i;
       }
 
   -- a row that can be sent, and is right on the machine

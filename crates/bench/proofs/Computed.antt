@@ -5,22 +5,31 @@ use Prim.Native.Nat.{ℕ, _^_}
 use mathlib.Core.Bool.{Bool, true, false, _&&_}
 use mathlib.Core.List.{List, [], _∷_, _++_, map}
 use lib.Dec.{ltb}
+use Rattle.machine.specs.State.{cellsOf, rulesIn, noLocks, fresh, armed}
+use Rattle.machine.specs.Deeds.{clockAfter}
+use Rattle.machine.specs.Step.{accountsAfter, locksAfter, logAfter, partAfter, after}
+use Rattle.rules.specs.Amounts.{numberOf as amountNumber, amountIn}
 use Rattle.laws.specs.Lists.{same}
-use Rattle.tables.specs.Tables.{every}
+use Rattle.laws.specs.Folds.{every, sumOf, keep, anyOf}
+use Rattle.machine.specs.Effects.{effectOf, zeroing, lifting}
+use Rattle.machine.specs.Order.{wiped, unflagged, unflaggedLog}
+use Rattle.machine.specs.Entries.{flagOf, entryShare, recent}
+use Rattle.rules.specs.Valid.{hasRate}
+use Rattle.machine.specs.Calls.{Call, offer}
+use Rattle.machine.specs.Locks.{isTripped, isByUser, isLocked, verdictOf, lifted, trippedBy, lockedOut}
+use Rattle.machine.specs.Offers.{counted, coversOffer, grantOf, sameLevel, levelTrips, credited, windowOf, longest, entryOf, joinedLog}
+use Rattle.machine.specs.Refusals.{used, logFull, firstOf, badTime, isRoot, refusalOf}
+use Rattle.machine.specs.Remaining.{noAccount, accountAt, leftOf, standing}
+use Rattle.machine.specs.Judge.{grantedSo, offered, ordered, judged, unless, judge, stepIn, step, numbers}
 use Rattle.bits.specs.Locks.{bit, withBit, withoutBit}
 use Rattle.text.specs.Text.{bytes, all, onto, pieces, indexOf, made, numeral, numberOf, nameOf}
 use Rattle.line.specs.Line.{typeOf, isAbsolute, limitsOf, limitOf, kindOf, timeOf, letterOf, malformed, otherFirm, outOfRange, levelClash, unitClash, faultOf, scopeOf, ruleOf, lineOf}
 use Rattle.profile.specs.Profile.{withRoot, rootsWith, numbered, joined, howMany, isFirmRule, onUnit, crowded, tooMany, afterLine, readOn, outcomeOf}
 use Rattle.rules.specs.Rules.{levelOf, covers, isRate, counts, countedOf, executions, added, ceiling, share}
-use Rattle.rules.specs.Resets.{zeroing, lifting}
 use Rattle.rules.specs.Allowance.{largest, allowance, trips}
-use Rattle.log.specs.Log.{unflagged, flagOf, entryShare, sumOf, keep, recent}
-use Rattle.made.specs.Parts.{hasRate}
-use Rattle.state.specs.State.{profileIn, armedState}
-use Rattle.machine.specs.Machine.{Call, offer, isTripped, isLockedOut, isLocked, verdictOf, wiped, resetState, ticked, counted, coversOffer, grantOf, anyOf, sameLevel, levelTrips, credited, windowOf, longest, entryOf, joinedLog, filled, logFull, firstOf, badTime, isRoot, refusalOf, leftOf, noAccount, judged, acted, unless, step, numbers}
 use Rattle.machine.specs.declared.Offer.{Offer}
 use Rattle.machine.specs.declared.Answer.the-variants.{Judged}
-use Rattle.promises.specs.Run.{afterCall, runFrom}
+use Rattle.demand.specs.Run.{afterCall, runFrom}
 use Rattle.bench.specs.Lent.{numbersIn}
 use Rattle.bench.specs.Rows.{Row, callsOf, answersThen, answersOf, seen, wanted}
 use Rattle.bench.specs.Table.{table, examples}
@@ -46,9 +55,9 @@ forty = record { time = 0; root = 0; unit = 0; premium = 10_000; contracts = 40 
 computed : (every fits (table ++ examples) ≡ true)
     × (map seen (table ++ examples) ≡ map wanted (table ++ examples))
     × (outcomeOf hundred .refusal ≡ 0)
-    × (answersOf (armedState (outcomeOf hundred .profile)) (offer forty ∷ offer forty ∷ offer forty ∷ [])
+    × (answersOf (armed (outcomeOf hundred .profile)) (offer forty ∷ offer forty ∷ offer forty ∷ [])
     ≡ Judged 0 40 false false ∷ Judged 0 40 false false ∷ Judged 0 20 true false ∷ [])
-unfolding every table examples seen wanted afterCall runFrom answersThen answersOf same bit withBit withoutBit all onto pieces indexOf made numeral numberOf nameOf typeOf isAbsolute limitsOf limitOf kindOf timeOf letterOf malformed otherFirm outOfRange levelClash unitClash faultOf scopeOf ruleOf lineOf withRoot rootsWith numbered joined howMany isFirmRule onUnit crowded tooMany afterLine readOn outcomeOf levelOf covers isRate counts countedOf executions added ceiling share zeroing lifting largest allowance trips unflagged flagOf entryShare sumOf keep recent hasRate profileIn armedState isTripped isLockedOut isLocked verdictOf wiped resetState ticked counted coversOffer grantOf anyOf sameLevel levelTrips credited windowOf longest entryOf joinedLog filled logFull firstOf badTime isRoot refusalOf leftOf noAccount judged acted unless step numbers
+unfolding every table examples seen wanted afterCall runFrom answersThen answersOf same bit withBit withoutBit all onto pieces indexOf made numeral numberOf nameOf typeOf isAbsolute limitsOf limitOf kindOf timeOf letterOf malformed otherFirm outOfRange levelClash unitClash faultOf scopeOf ruleOf lineOf withRoot rootsWith numbered joined howMany isFirmRule onUnit crowded tooMany afterLine readOn outcomeOf levelOf covers isRate counts countedOf executions added ceiling share zeroing lifting largest allowance trips unflagged flagOf entryShare sumOf keep recent hasRate cellsOf rulesIn noLocks fresh armed effectOf clockAfter isTripped isByUser isLocked verdictOf lifted trippedBy lockedOut wiped unflaggedLog counted coversOffer grantOf anyOf sameLevel levelTrips credited windowOf longest entryOf joinedLog used logFull firstOf badTime isRoot refusalOf leftOf accountAt noAccount standing accountsAfter locksAfter logAfter partAfter after grantedSo offered ordered judged unless judge stepIn step amountNumber amountIn numbers
 computed = (refl, refl, refl, refl)
 
 pub rows-fit : every fits (table ++ examples) ≡ true
@@ -60,6 +69,6 @@ rows-right = computed .1
 pub hundred-read : outcomeOf hundred .refusal ≡ 0
 hundred-read = computed .2
 
-pub forties : answersOf (armedState (outcomeOf hundred .profile)) (offer forty ∷ offer forty ∷ offer forty ∷ [])
+pub forties : answersOf (armed (outcomeOf hundred .profile)) (offer forty ∷ offer forty ∷ offer forty ∷ [])
     ≡ Judged 0 40 false false ∷ Judged 0 40 false false ∷ Judged 0 20 true false ∷ []
 forties = computed .3

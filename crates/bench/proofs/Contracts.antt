@@ -3,7 +3,7 @@ use mathlib.Core.Path.{_≡_, refl}
 use contract.Lifetimes.{Lfts}
 use denote.Triple.Clauses.{AtExit}
 use borrow.Fn.Kinds.{Dens, resT, endedOf}
-use Rattle.machine.specs.Machine.{order, lockout, offer, remaining, status}
+use Rattle.machine.specs.Calls.{order, lockout, offer, remaining, status}
 use Rattle.calls.specs.Calls.{armAnswer, armMemory, callAnswer, callMemory}
 use Rattle.calls.proofs.arm.Kinds as arm-kinds
 use Rattle.calls.proofs.arm.Reads as arm-reads

@@ -5,11 +5,12 @@ use mathlib.Core.Path.{_≡_, refl, ap, _∙_, subst⁻¹}
 use mathlib.Core.List.{List, [], _∷_, map}
 use lib.ListN.{drop}
 use Rattle.profile.specs.Profile.{outcomeOf}
-use Rattle.state.specs.State.{State, armedState, size, decode}
-use Rattle.machine.specs.Machine.{step}
+use Rattle.state.specs.State.{size, decode}
+use Rattle.machine.specs.State.{State, armed}
+use Rattle.machine.specs.Judge.{step}
 use Rattle.machine.specs.declared.Answer.{Answer}
 use Rattle.calls.specs.Calls.{memoryRefusal}
-use Rattle.promises.specs.Run.{Event, afterCall, runFrom}
+use Rattle.demand.specs.Run.{Event, afterCall, runFrom}
 use Rattle.promises.proofs.Holds.{Holds, ready-holds, call-answers, call-holds}
 use Rattle.promises.proofs.Unarmed.{unarmed-accepts, unarmed-armed}
 use Rattle.bench.specs.Rows.{answersThen, answersOf}
@@ -23,9 +24,9 @@ module _ (l : Library) (meets : Meets l) where
     unfolding refusalIn
     arm-accepted = ap refusalIn (meets .armAnswers m t ∙ unarmed-accepts (m .now) (u .long) (u .mark) (t .now) ok)
 
-    pub arm-leaves : Holds (armedState (outcomeOf (t .now) .profile)) (drop size (m .now)) (l .arm m t .memory .now)
+    pub arm-leaves : Holds (armed (outcomeOf (t .now) .profile)) (drop size (m .now)) (l .arm m t .memory .now)
     arm-leaves =
-        subst⁻¹ (Holds (armedState (outcomeOf (t .now) .profile)) (drop size (m .now))) (meets .armLeaves m t)
+        subst⁻¹ (Holds (armed (outcomeOf (t .now) .profile)) (drop size (m .now))) (meets .armLeaves m t)
         (unarmed-armed (m .now) (u .long) (u .mark) (t .now) ok)
 
   -- a call on memory that holds a state
@@ -52,6 +53,6 @@ module _ (l : Library) (meets : Meets l) where
 
   -- and so is one that begins with arming
   pub armed-answers : (m : Memory) (t : Text) → Unarmed m → outcomeOf (t .now) .refusal ≡ 0 → (day : List Sent)
-      → answersBy l (l .arm m t .memory) day ≡ answersOf (armedState (outcomeOf (t .now) .profile)) (map (λ c. c .call) day)
+      → answersBy l (l .arm m t .memory) day ≡ answersOf (armed (outcomeOf (t .now) .profile)) (map (λ c. c .call) day)
   unfolding answersThen answersOf
   armed-answers m t u ok day = answers-on (l .arm m t .memory) (arm-leaves m t u ok) [] day

@@ -6,21 +6,26 @@ use mathlib.Core.Path.{_≡_, refl, sym, ap, _∙_, subst}
 use mathlib.Core.Logic.{_↔_}
 use mathlib.Core.Bool.{Bool, true, false, cond, false≢true}
 use mathlib.Core.List.{List, [], _∷_}
-use lib.ListN.{getD}
 use lib.Dec.{eqb}
 use borrow.Author.Tests.{ne-eqb}
-use Rattle.bits.specs.Locks.{standingOf}
 use Rattle.rules.specs.Allowance.{Largest, KeepsAll}
-use Rattle.tables.specs.Tables.{zeros, every}
+use Rattle.tables.specs.Tables.{zeros}
+use Rattle.laws.specs.Folds.{every}
+use Rattle.machine.specs.State.{State, armed as justArmed}
+use Rattle.machine.specs.Calls.{Call, offer, remaining, status}
+use Rattle.machine.specs.Locks.{verdictOf}
+use Rattle.machine.specs.Offers.{grantOf, covering}
+use Rattle.machine.specs.Remaining.{accountAt, leftOf, standing}
+use Rattle.machine.specs.Refusals.{refusalOf}
+use Rattle.machine.specs.Judge.{logPlaces, grantedSo, offered as offeredSo, judged, unless, judge, stepIn, step, isRefusal}
 use Rattle.tables.proofs.Tables.{length-zeros}
 use Rattle.profile.specs.Profile.{outcomeOf}
-use Rattle.state.specs.State.{State, size, decode, armedState}
-use Rattle.machine.specs.Machine.{Call, offer, remaining, status, verdictOf, grantOf, leftOf, noAccount, refusalOf, judged, acted, unless, step, covering}
+use Rattle.state.specs.State.{size, decode}
 use Rattle.machine.specs.declared.Offer.{Offer}
 use Rattle.machine.specs.declared.Answer.{Answer}
 use Rattle.machine.specs.declared.Answer.the-variants.{Refused, Judged, Left, Standing as Stand}
 use Rattle.machine.proofs.Grants.{grant-largest}
-use Rattle.calls.specs.Calls.{memoryRefusal, callAnswer, isRefusal}
+use Rattle.calls.specs.Calls.{memoryRefusal, callAnswer}
 use Rattle.calls.proofs.Armed.{refusal-unarmed}
 use Rattle.promises.proofs.Holds.{ready-holds, holds-ready, acts-unrefused}
 use Rattle.bench.specs.Lent.{Memory, Text, numbersIn, Sent, Offered, sent}
@@ -35,17 +40,17 @@ use Rattle.bench.proofs.Runs.{arm-accepted, arm-leaves, call-leaves, ar
 module _ (xs : List ℕ) (call : Call) where
   -- a call is answered by its refusal, or by the machine where there is none
   abbrev answerAt : ℕ → Answer
-  answerAt n = unless n (decode xs) (acted (decode xs) call) .answer
+  answerAt n = unless n (judged (decode xs) call) .answer
 
   answer-by : callAnswer xs call ≡ answerAt (refusalBy xs call)
-  unfolding refusalBy callAnswer step unless
-  answer-by = go (memoryRefusal xs) (refusalOf (decode xs) call)
+  unfolding refusalBy callAnswer step stepIn judge unless
+  answer-by = go (memoryRefusal xs) (refusalOf logPlaces (decode xs) call)
     where
       go : (a b : ℕ) → cond (eqb a 0) (answerAt b) (Refused a) ≡ answerAt (cond (eqb a 0) b a)
       go zero b = refl
       go (suc a) b = rw (ne-eqb (suc a) 0 (λ e. omega arith))
 
-  acted-answer : refusalBy xs call ≡ 0 → callAnswer xs call ≡ acted (decode xs) call .answer
+  acted-answer : refusalBy xs call ≡ 0 → callAnswer xs call ≡ judged (decode xs) call .answer
   unfolding unless
   acted-answer e = answer-by ∙ ap answerAt e
 
@@ -62,17 +67,18 @@ module _ (xs : List ℕ) (call : Call) where
       go (suc a) e = cc
 
   -- one that is not answered by a refusal is answered by the machine
-  taken : (a : Answer) → callAnswer xs call ≡ a → isRefusal a ≡ false → acted (decode xs) call .answer ≡ a
+  taken : (a : Answer) → callAnswer xs call ≡ a → isRefusal a ≡ false → judged (decode xs) call .answer ≡ a
   unfolding unless isRefusal
   taken a e f = go (refusalBy xs call) (sym answer-by ∙ e)
     where
-      go : (n : ℕ) → answerAt n ≡ a → acted (decode xs) call .answer ≡ a
+      go : (n : ℕ) → answerAt n ≡ a → judged (decode xs) call .answer ≡ a
       go zero e = e
       go (suc n) e = absurd (false≢true (sym f ∙ sym (ap isRefusal e)))
 
 -- a grant at verdict 0 is the machine's
-granted : (s : State) (o : Offer) (verdict grant : ℕ) (root firm : Bool) → judged s o verdict .answer ≡ Judged 0 grant root firm → grantOf (s .log) o (s .accounts) ≡ grant
-unfolding judged
+granted : (s : State) (o : Offer) (verdict grant : ℕ) (root firm : Bool) → offeredSo s o verdict .answer ≡ Judged 0 grant root firm
+    → grantOf (s .log) o (s .part .accounts) ≡ grant
+unfolding offeredSo grantedSo
 granted s o zero grant root firm e = cc
 granted s o (suc n) grant root firm e = let z : suc n ≡ 0 = cc in absurd (omega arith)
 
@@ -109,14 +115,14 @@ module _ (l : Library) (meets : Meets l) where
 
   -- a grant is the largest number up to the offer that keeps every limit of a rule that covers it
   pub grant-is-largest : (m : Memory) (o : Offered) (grant : ℕ) (root firm : Bool) → l .call m (sent o) .answer ≡ Judged 0 grant root firm
-      → Largest (KeepsAll (covering (decode (m .now) .log) (o .offer) (decode (m .now) .accounts)) (o .offer .premium)) (o .offer .contracts) grant
-  unfolding acted isRefusal
+      → Largest (KeepsAll (covering (decode (m .now) .log) (o .offer) (decode (m .now) .part .accounts)) (o .offer .premium)) (o .offer .contracts) grant
+  unfolding judged isRefusal
   grant-is-largest m o grant root firm e =
       let s = decode (m .now) in
       let asked = o .offer in
       let t = taken (m .now) (offer asked) (Judged 0 grant root firm) (sym (meets .callAnswers m (sent o)) ∙ e) refl in
-      subst (Largest (KeepsAll (covering (s .log) asked (s .accounts)) (asked .premium)) (asked .contracts))
-      (granted s asked (verdictOf s (asked .root)) grant root firm t) (grant-largest (s .log) asked (s .accounts))
+      subst (Largest (KeepsAll (covering (s .log) asked (s .part .accounts)) (asked .premium)) (asked .contracts))
+      (granted s asked (verdictOf (s .part .locks) (asked .root)) grant root firm t) (grant-largest (s .log) asked (s .part .accounts))
 
   -- the memory after a call is sound, and stands for the state that the machine leaves
   pub stores : (m : Memory) (c : Sent) → memoryRefusal (m .now) ≡ 0
@@ -125,19 +131,19 @@ module _ (l : Library) (meets : Meets l) where
 
   -- arming with an accepted text leaves a sound memory, which stands for the freshly armed state
   pub arm-stores : (m : Memory) (t : Text) → Unarmed m → outcomeOf (t .now) .refusal ≡ 0
-      → (memoryRefusal (l .arm m t .memory .now) ≡ 0) × (decode (l .arm m t .memory .now) ≡ armedState (outcomeOf (t .now) .profile))
+      → (memoryRefusal (l .arm m t .memory .now) ≡ 0) × (decode (l .arm m t .memory .now) ≡ justArmed (outcomeOf (t .now) .profile))
   arm-stores m t u ok = let h = arm-leaves l meets m t u ok in (holds-ready h, h .state)
 
   -- Remaining is the limit less the counted amount, or 0 if that is below 0
   pub remaining-is : (m : Memory) (c : Sent) (time rule : ℕ) → c .call ≡ remaining time rule → refusalBy (m .now) (remaining time rule) ≡ 0
-      → l .call m c .answer ≡ Left (leftOf (decode (m .now)) time (getD (decode (m .now) .accounts) rule noAccount))
-  unfolding acted
+      → l .call m c .answer ≡ Left (leftOf (decode (m .now)) time (accountAt (decode (m .now) .part .accounts) rule))
+  unfolding judged
   remaining-is m c time rule is e = meets .callAnswers m c ∙ ap (callAnswer (m .now)) is ∙ acted-answer (m .now) (remaining time rule) e
 
   -- Status is how the two words stand
   pub status-is : (m : Memory) (c : Sent) → c .call ≡ status → refusalBy (m .now) status ≡ 0
-      → l .call m c .answer ≡ Stand (standingOf (decode (m .now) .tripped) (decode (m .now) .locked))
-  unfolding acted
+      → l .call m c .answer ≡ Stand (standing (decode (m .now) .part .locks))
+  unfolding judged
   status-is m c is e = meets .callAnswers m c ∙ ap (callAnswer (m .now)) is ∙ acted-answer (m .now) status e
 
   -- ---- three offers of 40 under a limit of 100, on any memory that may be armed

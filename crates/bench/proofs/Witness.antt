@@ -7,13 +7,16 @@ use mathlib.Core.List.{List}
 use lib.Dec.{eqb}
 use borrow.Author.Tests.{eqb-true}
 use Rattle.profile.specs.Profile.{outcomeOf}
-use Rattle.state.specs.State.{State, profileIn, armedState, stored, decode}
+use Rattle.state.specs.State.{stored, decode}
+use Rattle.machine.specs.State.{State, armed}
+use Rattle.machine.specs.Calls.{Call}
+use Rattle.machine.specs.Refusals.{refusalOf}
+use Rattle.machine.specs.Judge.{logPlaces}
 use Rattle.state.specs.Sound.{SoundState}
 use Rattle.state.proofs.Exactly.{made-parts, given-is-made}
-use Rattle.machine.specs.Machine.{Call, refusalOf, acted}
 use Rattle.calls.specs.Calls.{armRefusal, armAnswer, armMemory, memoryRefusal, callAnswer, callMemory}
 use Rattle.calls.proofs.Armed.{call-refused}
-use Rattle.calls.proofs.Steps.{refused, acts, after-sound}
+use Rattle.calls.proofs.Steps.{done, refused, acts, after-sound}
 use Rattle.promises.proofs.Fresh.{fresh-sound, accepted-made}
 use Rattle.promises.proofs.Holds.{acts-answered}
 use Rattle.bench.specs.Lent.{Below}
@@ -21,16 +24,16 @@ use Rattle.bench.specs.Library.{Library, Meets}
 use Rattle.bench.proofs.Words.{stored-words}
 
 sound-words : (s : State) → SoundState s → (xs : List ℕ) → Below (2 ^ 64) xs → Below (2 ^ 64) (stored s xs)
-sound-words s k xs p = stored-words s k (made-parts (profileIn s) (given-is-made (profileIn s) (k .given))) xs p
+sound-words s k xs p = stored-words s k (made-parts (s .part .profile) (given-is-made (s .part .profile) (k .given))) xs p
 
 arm-words : (xs text : List ℕ) → Below (2 ^ 64) xs → Below (2 ^ 64) (armMemory xs text)
 unfolding armMemory
 arm-words xs text p = go (eqb (armRefusal xs) 0) (eqb (outcomeOf text .refusal) 0) refl
   where
     go : (a b : Bool) → eqb (outcomeOf text .refusal) 0 ≡ b
-        → Below (2 ^ 64) (cond a (cond b (stored (armedState (outcomeOf text .profile)) xs) xs) xs)
+        → Below (2 ^ 64) (cond a (cond b (stored (armed (outcomeOf text .profile)) xs) xs) xs)
     go true true e =
-        sound-words (armedState (outcomeOf text .profile)) (fresh-sound (outcomeOf text .profile) (accepted-made text (eqb-true _ 0 e))) xs p
+        sound-words (armed (outcomeOf text .profile)) (fresh-sound (outcomeOf text .profile) (accepted-made text (eqb-true _ 0 e))) xs p
     go true false e = p
     go false b e = p
 
@@ -41,14 +44,14 @@ call-words xs call p = go (memoryRefusal xs) refl
     kept : xs ≡ callMemory xs call → Below (2 ^ 64) (callMemory xs call)
     kept e = subst (Below (2 ^ 64)) e p
 
-    ready : memoryRefusal xs ≡ 0 → (n : ℕ) → refusalOf (decode xs) call ≡ n → Below (2 ^ 64) (callMemory xs call)
+    ready : memoryRefusal xs ≡ 0 → (n : ℕ) → refusalOf logPlaces (decode xs) call ≡ n → Below (2 ^ 64) (callMemory xs call)
     ready r zero e =
         subst (Below (2 ^ 64)) (acts xs r call e (acts-answered (decode xs) call) .1)
-        (sound-words (acted (decode xs) call .after) (after-sound xs r call e) xs p)
+        (sound-words (done xs call) (after-sound xs r call e) xs p)
     ready r (suc n) e = kept (refused xs r call n e .1)
 
     go : (n : ℕ) → memoryRefusal xs ≡ n → Below (2 ^ 64) (callMemory xs call)
-    go zero e = ready e (refusalOf (decode xs) call) refl
+    go zero e = ready e (refusalOf logPlaces (decode xs) call) refl
     go (suc n) e = kept (call-refused xs call (suc n) (sym e) (λ z. omega arith) .1)
 
 pub asContracted : Library

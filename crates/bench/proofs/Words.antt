@@ -1,38 +1,40 @@
 -- Memory stays memory of 64-bit numbers: a sound state's numbers have 64 bits, so Arm and the calls leave such. Assumes nothing.
 use Prim.Native.Nat.{ℕ, zero, suc, _*_, _-_, _^_, _≤_, _<_}
-use native.Mathlib.Nat.{lt-of-le-of-lt, lt-of-lt-of-le, le-of-eq}
+use native.Mathlib.Nat.{lt-of-lt-of-le}
 use native.Mathlib.Omega.{arith}
 use mathlib.Core.Path.{_≡_}
-use mathlib.Core.Bool.{Bool, true, false, cond}
-use mathlib.Core.List.{List, [], _∷_, _++_, map}
+use mathlib.Core.Bool.{Bool, true, false}
+use mathlib.Core.List.{List, [], _∷_, _++_}
 use lib.ListN.{length, drop}
-use lib.Dec.{ltb, eqb, lit<, lit≤}
+use lib.Dec.{ltb, lit<, lit≤}
 use lib.Pow.{pow-mono}
-use borrow.Author.Tests.{ltb-true, eqb-true}
+use borrow.Author.Tests.{ltb-true}
 use Rattle.laws.specs.Tests.{and-l, and-r, tests, under}
-use Rattle.measures.specs.Ranges.{isIn, times, totals}
-use Rattle.measures.proofs.Determined.{test-in}
+use Rattle.measures.specs.Ranges.{times, totals}
 use Rattle.bits.specs.Fields.{total}
 use Rattle.bits.proofs.Packing.{packed-lt}
-use Rattle.rules.specs.Rules.{isRate}
 use Rattle.rules.specs.declared.Rule.{Rule}
 use Rattle.rules.specs.declared.Account.{Account}
 use Rattle.text.specs.Text.{isNameByte}
-use Rattle.tables.specs.Tables.{zeros, flat, table, every}
-use Rattle.tables.specs.RulePlace.{isRule, limitWidths, limitValues, scopeWidths, scopeValues, ruleNumbers, rulesTable}
-use Rattle.tables.specs.EntryPlace.{isEntry, fillWidths, fillValues, amountWidths, amountValues, entryNumbers, logTable, flagNumber}
-use Rattle.tables.specs.declared.Entry.{Entry}
+use Rattle.tables.specs.Tables.{zeros, flat, table}
+use Rattle.laws.specs.Folds.{every}
+use Rattle.rules.specs.Amounts.{numberOf}
+use Rattle.rules.specs.Valid.{isRule}
+use Rattle.machine.proofs.Totals.{isPaid, total-in}
+use Rattle.machine.specs.Entries.{isEntry}
+use Rattle.machine.specs.declared.Entry.{Entry}
+use Rattle.machine.specs.State.{State, rootsIn}
+use Rattle.tables.specs.RulePlace.{limitWidths, limitValues, scopeWidths, scopeValues, ruleNumbers, rulesTable}
+use Rattle.tables.specs.EntryPlace.{fillWidths, fillValues, amountWidths, amountValues, entryNumbers, logTable, flagNumber}
 use Rattle.tables.proofs.RulePlace.{limit-fit, scope-fit}
 use Rattle.tables.proofs.EntryPlace.{fill-fit, amount-fit}
 use Rattle.profile.specs.Profile.{rootsTable}
 use Rattle.made.specs.Names.{nameBytes, isNameNumber}
 use Rattle.made.specs.Made.{areRoots}
-use Rattle.made.specs.Parts.{isTotal}
 use Rattle.made.proofs.Bytes.{made-most}
 use Rattle.made.proofs.Digits.{digits-room}
-use Rattle.state.specs.State.{State, profileIn, size, totalsTable, encode, stored}
+use Rattle.state.specs.State.{size, totalsTable, totalsIn, encode, stored}
 use Rattle.state.specs.Sound.{SoundState}
-use Rattle.state.proofs.Stored.{map-length}
 use Rattle.state.proofs.Exactly.{MadeParts}
 use Rattle.bench.specs.Lent.{Below}
 
@@ -92,14 +94,13 @@ unfolding areRoots
 names-words [] h = tt
 names-words (n ∷ names) h = (name-word 6 n (lit≤ tt) (search tests depth 6), names-words names (search tests depth 6))
 
-totals-words : (accounts : List Account) → every (λ a. isTotal (a .rule) (a .total)) accounts ≡ true → Below (2 ^ 64) (map (λ a. a .total) accounts)
-unfolding every isTotal
+totals-words : (accounts : List Account) → every isPaid accounts ≡ true → Below (2 ^ 64) (totalsIn accounts)
+unfolding every
 totals-words [] h = tt
-totals-words (a ∷ rest) h = (go (isRate (a .rule .kind)) (and-l (isTotal (a .rule) (a .total)) _ h), totals-words rest (and-r (isTotal (a .rule) (a .total)) _ h))
-  where
-    go : (b : Bool) → cond b (eqb (a .total) 0) (isIn totals (a .total)) ≡ true → a .total < 2 ^ 64
-    go true e = lt-of-le-of-lt (le-of-eq (eqb-true (a .total) 0 e)) (lit< tt)
-    go false e = under (a .total) (totals .most) 64 (test-in totals (a .total) e .1) tt
+totals-words (a ∷ rest) h = (
+  under (numberOf (a .total)) (totals .most) 64 (total-in (a .rule) (a .total) (and-l (isPaid a) (every isPaid rest) h) .1 .1) tt,
+  totals-words rest (and-r (isPaid a) (every isPaid rest) h),
+)
 
 -- numbers in places of one
 flat-ones : (xs : List ℕ) → Below (2 ^ 64) xs → Below (2 ^ 64) (flat (λ x. x ∷ []) xs)
@@ -115,56 +116,51 @@ flag-word : (b : Bool) → flagNumber b < 2 ^ 64
 flag-word true = lit< tt
 flag-word false = lit< tt
 
-module _ (s : State) (k : SoundState s) (m : MadeParts (profileIn s)) where
+module _ (s : State) (k : SoundState s) (m : MadeParts (s .part .profile)) where
   abbrev n : ℕ
-  n = length (s .roots)
+  n = length (s .part .profile .roots)
 
   abbrev rules : List Rule
-  rules = map (λ a. a .rule) (s .accounts)
+  rules = s .part .profile .rules
 
   abbrev sums : List ℕ
-  sums = map (λ a. a .total) (s .accounts)
+  sums = totalsIn (s .part .accounts)
 
-  few : length (s .roots) ≤ 64
-  unfolding profileIn
+  few : length (s .part .profile .roots) ≤ 64
   few = m .few
 
-  roots-words : Below (2 ^ 64) (rootsTable (s .roots))
-  unfolding rootsTable profileIn
-  roots-words = ones-words 64 (s .roots) (names-words (s .roots) (m .names))
+  roots-words : Below (2 ^ 64) (rootsTable (s .part .profile .roots))
+  unfolding rootsTable
+  roots-words = ones-words 64 (s .part .profile .roots) (names-words (s .part .profile .roots) (m .names))
 
   rules-words : Below (2 ^ 64) (rulesTable rules)
-  unfolding profileIn
   rules-words = below-table (isRule n) ruleNumbers (rule-words n few) 2 256 rules (m .valid)
 
   sums-words : Below (2 ^ 64) (totalsTable sums)
   unfolding totalsTable
-  sums-words = ones-words 256 sums (totals-words (s .accounts) (k .totals))
+  sums-words = ones-words 256 sums (totals-words (s .part .accounts) (k .totals))
 
   log-words : Below (2 ^ 64) (logTable (s .log))
+  unfolding rootsIn
   log-words = below-table (isEntry n) entryNumbers (entry-words n few) 2 512 (s .log) (k .entries)
 
-  tables-words : Below (2 ^ 64) (rootsTable (s .roots) ++ (rulesTable rules ++ (totalsTable sums ++ logTable (s .log))))
+  tables-words : Below (2 ^ 64) (rootsTable (s .part .profile .roots) ++ (rulesTable rules ++ (totalsTable sums ++ logTable (s .log))))
   tables-words =
-      below-append (2 ^ 64) (rootsTable (s .roots)) (rulesTable rules ++ (totalsTable sums ++ logTable (s .log))) roots-words
+      below-append (2 ^ 64) (rootsTable (s .part .profile .roots)) (rulesTable rules ++ (totalsTable sums ++ logTable (s .log))) roots-words
       (below-append (2 ^ 64) (rulesTable rules) (totalsTable sums ++ logTable (s .log)) rules-words
       (below-append (2 ^ 64) (totalsTable sums) (logTable (s .log)) sums-words log-words))
 
-  many : length (s .accounts) ≤ 256
-  unfolding profileIn
-  many = omega (arith, m .most, map-length (λ a. a .rule) (s .accounts))
-
   encode-words : Below (2 ^ 64) (encode s)
-  unfolding encode profileIn
+  unfolding encode rootsIn
   encode-words =
-      let clock = under (s .clock) (times .most) 64 (k .clock .1) tt in
-      let firm = name-word 4 (s .firm) (lit≤ tt) (m .firm) in
+      let clock = under (s .part .clock) (times .most) 64 (k .clock .1) tt in
+      let firm = name-word 4 (s .part .profile .firm) (lit≤ tt) (m .firm) in
       let roots = under n 64 64 few tt in
-      let accounts = under (length (s .accounts)) 256 64 many tt in
+      let accounts = under (length (s .part .profile .rules)) 256 64 (m .most) tt in
       let log = under (length (s .log)) 512 64 (k .number) tt in
       let tripped = lt-of-lt-of-le (k .tripped) (pow-mono few) in
-      let locked = lt-of-lt-of-le (k .locked) (pow-mono few) in
-      (lit< tt, (clock, (firm, (roots, (accounts, (log, (flag-word (s .firmTripped), (flag-word (s .firmLocked), (tripped, (locked, tables-words))))))))))
+      let locked = lt-of-lt-of-le (k .byUser) (pow-mono few) in
+      (lit< tt, (clock, (firm, (roots, (accounts, (log, (flag-word (s .part .locks .firmTripped), (flag-word (s .part .locks .firmByUser), (tripped, (locked, tables-words))))))))))
 
   pub stored-words : (xs : List ℕ) → Below (2 ^ 64) xs → Below (2 ^ 64) (stored s xs)
   unfolding stored

@@ -2,7 +2,7 @@
 use Prim.Native.Nat.{ℕ, _^_, _<_}
 use mathlib.Core.List.{List, [], _∷_}
 use Rattle.rules.specs.Allowance.{All}
-use Rattle.machine.specs.Machine.{Call, order, lockout, offer, remaining, status}
+use Rattle.machine.specs.Calls.{Call, order, lockout, offer, remaining, status}
 use Rattle.machine.specs.declared.Offer.{Offer}
 
 -- numbers below a bound

@@ -6,13 +6,15 @@ use mathlib.Core.Bool.{Bool, true, cond}
 use mathlib.Core.List.{List, [], _∷_}
 use lib.ListN.{length}
 use lib.Dec.{eqb}
+use Rattle.machine.specs.Judge.{logPlaces, isRefusal}
 use Rattle.profile.specs.declared.Reading.{Reading}
 use Rattle.profile.specs.declared.Reading.the-variants.{Accepted, Refused as NotRead}
 use Rattle.state.specs.State.{size, decode}
-use Rattle.machine.specs.Machine.{Call, refusalOf}
+use Rattle.machine.specs.Calls.{Call}
+use Rattle.machine.specs.Refusals.{refusalOf}
 use Rattle.machine.specs.declared.Answer.{Answer}
 use Rattle.machine.specs.declared.Answer.the-variants.{Judged}
-use Rattle.calls.specs.Calls.{markOf, armAnswer, armMemory, memoryRefusal, callAnswer, callMemory, isRefusal}
+use Rattle.calls.specs.Calls.{markOf, armAnswer, armMemory, memoryRefusal, callAnswer, callMemory}
 use Rattle.bench.specs.Lent.{Memory, Text, Sent, Offered, sent}
 
 -- an answer, and the memory after it
@@ -49,7 +51,7 @@ refusalIn (NotRead number line) = number
 
 -- the number that a call is refused with, 0 if it is not: by the memory, then by the machine
 unfoldable pub refusalBy : List ℕ → Call → ℕ
-refusalBy xs call = cond (eqb (memoryRefusal xs) 0) (refusalOf (decode xs) call) (memoryRefusal xs)
+refusalBy xs call = cond (eqb (memoryRefusal xs) 0) (refusalOf logPlaces (decode xs) call) (memoryRefusal xs)
 
 -- ---- libraries that document 01 shuts out
 

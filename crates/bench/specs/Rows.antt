@@ -6,10 +6,13 @@ use mathlib.Core.List.{List, [], _∷_, map}
 use Rattle.text.specs.Text.{bytes}
 use Rattle.rules.specs.declared.Rule.{Rule}
 use Rattle.profile.specs.Profile.{outcomeOf}
-use Rattle.state.specs.State.{State, profileIn, decode, armedState}
-use Rattle.machine.specs.Machine.{Call, numbers, windowOf}
+use Rattle.state.specs.State.{decode}
+use Rattle.machine.specs.State.{State, armed}
+use Rattle.machine.specs.Calls.{Call}
+use Rattle.machine.specs.Judge.{numbers}
+use Rattle.machine.specs.Offers.{windowOf}
 use Rattle.machine.specs.declared.Answer.{Answer}
-use Rattle.promises.specs.Run.{Event, runFrom}
+use Rattle.demand.specs.Run.{Event, runFrom}
 use Rattle.bench.specs.Lent.{Memory, Text, Sent}
 use Rattle.bench.specs.Library.{Library, answersBy, refusalIn}
 
@@ -44,7 +47,7 @@ unfoldable pub seen : Row → Seen
 seen row = record {
   refusal = outcomeOf (bytes (row .text)) .refusal;
   windows = windowsOf (outcomeOf (bytes (row .text)) .profile .rules);
-  answers = map numbers (answersOf (armedState (outcomeOf (bytes (row .text)) .profile)) (callsOf row));
+  answers = map numbers (answersOf (armed (outcomeOf (bytes (row .text)) .profile)) (callsOf row));
 }
 
 -- what has to be seen
@@ -55,7 +58,7 @@ wanted row = record { refusal = 0; windows = row .windows; answers = map (λ c. 
 unfoldable pub seenBy : Library → Memory → Text → List Sent → Seen
 seenBy l m t day = record {
   refusal = refusalIn (l .arm m t .answer);
-  windows = windowsOf (profileIn (decode (l .arm m t .memory .now)) .rules);
+  windows = windowsOf (decode (l .arm m t .memory .now) .part .profile .rules);
   answers = map numbers (answersBy l (l .arm m t .memory) day);
 }
 

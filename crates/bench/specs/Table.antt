@@ -1,7 +1,7 @@
 -- Document 01's bench table, B1 to B12, the worked examples of document 001 and the slips seen at the bench. Assumes nothing.
 use Prim.Native.Nat.{ℕ, zero, suc, _+_}
 use mathlib.Core.List.{List, [], _∷_, _++_}
-use Rattle.machine.specs.Machine.{Call, order, offer, remaining}
+use Rattle.machine.specs.Calls.{Call, order, offer, remaining}
 use Rattle.bench.specs.Rows.{Row}
 
 -- an offer of contracts of a root's unit at a premium in ten-thousandths: the refusal, verdict, grant, root trip and firm trip that it gets

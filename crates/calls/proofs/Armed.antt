@@ -10,9 +10,11 @@ use borrow.Author.Tests.{eq-eqb, ne-eqb, le-ltb, lt-ltb}
 use Rattle.state.specs.State.{size, decode}
 use Rattle.state.specs.Sound.{isSound}
 use Rattle.state.proofs.Restored.{taken-apart}
-use Rattle.machine.specs.Machine.{Call, firstOf, step}
+use Rattle.machine.specs.Calls.{Call}
+use Rattle.machine.specs.Refusals.{firstOf}
+use Rattle.machine.specs.Judge.{step, isRefusal}
 use Rattle.machine.specs.declared.Answer.the-variants.{Refused}
-use Rattle.calls.specs.Calls.{isShort, markOf, memoryRefusal, callAnswer, isRefusal, callMemory}
+use Rattle.calls.specs.Calls.{isShort, markOf, memoryRefusal, callAnswer, callMemory}
 
 module _ (xs : List ℕ) where
   pub refusal-short : length xs < size → 1 ≡ memoryRefusal xs

@@ -11,7 +11,7 @@ use Rattle.profile.specs.declared.Reading.the-variants.{Accepted, Refused as No
 use Rattle.profile.proofs.Laws.{lawful, reading-accepted, reading-refused}
 use Rattle.state.specs.State.{size}
 use Rattle.state.proofs.Stored.{armed-stored}
-use Rattle.machine.specs.Machine.{firstOf}
+use Rattle.machine.specs.Refusals.{firstOf}
 use Rattle.calls.specs.declared.Clearing.the-variants.{Done, Refused as NotCleared}
 use Rattle.calls.specs.declared.Wording.the-variants.{Written, Refused as NotSaid}
 use Rattle.calls.specs.Calls.{isShort, clearAnswer, clearMemory, sayAnswer, sayMemory, markOf, armRefusal, armAnswer, armMemory}

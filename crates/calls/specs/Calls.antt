@@ -1,7 +1,7 @@
 -- What the calls answer on lent memory, and the memory that they leave. Assumes nothing.
 use Prim.Native.Nat.{ℕ}
 use mathlib.Core.Path.{_≡_}
-use mathlib.Core.Bool.{Bool, true, false, not, cond, _&&_}
+use mathlib.Core.Bool.{Bool, false, not, cond, _&&_}
 use mathlib.Core.List.{List, [], _∷_, _++_}
 use lib.ListN.{length, getD, drop}
 use lib.Dec.{leb, ltb, eqb}
@@ -10,14 +10,19 @@ use Rattle.tables.specs.Tables.{zeros}
 use Rattle.profile.specs.Profile.{outcomeOf, readingOf}
 use Rattle.profile.specs.declared.Reading.{Reading}
 use Rattle.profile.specs.declared.Reading.the-variants.{Refused as NotRead}
-use Rattle.state.specs.State.{State, profileIn, size, decode, stored, armedState}
-use Rattle.state.specs.Sound.{hasRate, isSound}
+use Rattle.state.specs.State.{size, decode, stored}
+use Rattle.machine.specs.State.{State, rulesIn, armed}
+use Rattle.rules.specs.Valid.{hasRate}
+use Rattle.machine.specs.Calls.{Call}
+use Rattle.machine.specs.Refusals.{firstOf, badTime, isRoot, used}
+use Rattle.machine.specs.Judge.{step, logPlaces, isRefusal}
+use Rattle.machine.specs.Locks.{verdictOf}
+use Rattle.state.specs.Sound.{isSound}
 use Rattle.measures.specs.Ranges.{isIn, units, premiums, offers}
-use Rattle.machine.specs.Machine.{Call, firstOf, step, longest, recent, logPlaces, badTime, isRoot, verdictOf}
 use Rattle.machine.specs.declared.Offer.{Offer}
 use Rattle.grant.specs.Grant.{Asked}
 use Rattle.machine.specs.declared.Answer.{Answer}
-use Rattle.machine.specs.declared.Answer.the-variants.{Refused, Judged, Left, Standing as Stand}
+use Rattle.machine.specs.declared.Answer.the-variants.{Refused}
 use Rattle.calls.specs.declared.Clearing.{Clearing}
 use Rattle.calls.specs.declared.Clearing.the-variants.{Done, Refused as NotCleared}
 use Rattle.calls.specs.declared.Wording.{Wording}
@@ -40,7 +45,7 @@ armAnswer xs text = cond (eqb (armRefusal xs) 0) (readingOf (outcomeOf text)) (N
 
 unfoldable pub armMemory : List ℕ → List ℕ → List ℕ
 armMemory xs text =
-    cond (eqb (armRefusal xs) 0) (cond (eqb (outcomeOf text .refusal) 0) (stored (armedState (outcomeOf text .profile)) xs) xs) xs
+    cond (eqb (armRefusal xs) 0) (cond (eqb (outcomeOf text .refusal) 0) (stored (armed (outcomeOf text .profile)) xs) xs) xs
 
 -- Clear sets the state to zeros, whatever it held
 unfoldable pub clearAnswer : List ℕ → Clearing
@@ -56,28 +61,22 @@ memoryRefusal xs = firstOf ((isShort xs, 1) ∷ (eqb (markOf xs) 0, 4) ∷ (not 
 unfoldable pub callAnswer : List ℕ → Call → Answer
 callAnswer xs call = cond (eqb (memoryRefusal xs) 0) (step (decode xs) call .answer) (Refused (memoryRefusal xs))
 
-unfoldable pub isRefusal : Answer → Bool
-isRefusal (Refused n) = true
-isRefusal (Judged verdict grant roottrip firmtrip) = false
-isRefusal (Left n) = false
-isRefusal (Stand roots) = false
-
 -- a refusal changes nothing; any other answer leaves the machine's state
 unfoldable pub callMemory : List ℕ → Call → List ℕ
 callMemory xs call = cond (isRefusal (callAnswer xs call)) xs (stored (step (decode xs) call .after) xs)
 
 -- the profile has a rate rule, and the log's places hold entries inside the longest window
 unfoldable pub isFull : State → Offer → Bool
-isFull s o = hasRate (profileIn s .rules) && leb logPlaces (length (recent (longest (profileIn s .rules)) (o .time) (s .log)))
+isFull s o = hasRate (rulesIn s) && leb logPlaces (used s (o .time))
 
 -- a sound memory, and an offer that is neither refused by its numbers nor locked out
 pub record Granting (xs : List ℕ) (o : Offer) : Type 0 where
   pub ready : memoryRefusal xs ≡ 0
   pub asked : Asked xs o
-  pub timely : badTime (decode xs) (o .time) ≡ false
-  pub known : not (isRoot (decode xs) (o .root) && isIn units (o .unit)) ≡ false
+  pub timely : badTime (decode xs .part) (o .time) ≡ false
+  pub known : not (isRoot (decode xs .part) (o .root) && isIn units (o .unit)) ≡ false
   pub priced : not (isIn premiums (o .premium) && isIn offers (o .contracts)) ≡ false
-  pub free : verdictOf (decode xs) (o .root) ≡ 0
+  pub free : verdictOf (decode xs .part .locks) (o .root) ≡ 0
 
 -- words said: 1 for room below 20 bytes, else they stand in front and the room after them is untouched
 unfoldable pub sayAnswer : List ℕ → List ℕ → Wording

@@ -1,17 +1,23 @@
 // The public calls over lent memory.
 ghost use mathlib.Core.Path.{_≡_};
-ghost use mathlib.Core.Bool.{not, _&&_};
+ghost use mathlib.Core.Bool.{true, not, _&&_};
 ghost use mathlib.Core.List.{_++_};
 ghost use lib.Dec.{leb};
 ghost use Rattle.measures.specs.Ranges.{isIn, times, premiums, offers};
 ghost use Prim.Native.Nat.{_≤_, min};
 ghost use lib.ListN.{length, drop};
+ghost use Rattle.machine.specs.Entries.{areOrdered};
+ghost use Rattle.machine.specs.Calls.{Call};
 ghost use Rattle.state.specs.State.{decode};
 ghost use Rattle.state.specs.Laid.{Laid};
-ghost use Rattle.machine.specs.Machine.{Call};
 ghost use Rattle.calls.specs.Calls.{isFull, Granting, memoryRefusal, callAnswer, callMemory, armAnswer, armMemory, clearAnswer, clearMemory, sayAnswer, sayMemory, textAnswer, textMemory};
 use machine::Answer;
 use machine::Offer;
+use measures::Contracts;
+use measures::ContractsRead;
+use measures::TenThousandths;
+use measures::TenThousandthsRead;
+use measures::Time;
 use profile::Reading;
 
 // What Clear answers.
@@ -93,7 +99,7 @@ pub fn status(m: &[u64]) -> Answer
 fn bad_time(time: u64, clock: u64) -> bool
     ensures { λ r. ⌜ r ≡ not (isIn times time && leb clock time) ⌝ }
 {
-    !(measures::is_in(time, 0, 86_399_999) & (clock <= time))
+    !(measures::is_in(time, 0, Time::MOST) & (clock <= time))
 }
 
 // An order: the reset comes first, then the verdict.
@@ -145,16 +151,36 @@ pub fn lockout(m: &mut [u64], time: u64, level: u64, root: u64) -> Answer
     }
 }
 
+// Whether a number is a premium.
+fn is_premium(n: u64) -> bool
+    ensures { λ r. ⌜ r ≡ isIn premiums n ⌝ }
+{
+    match TenThousandths::premium(n) {
+        TenThousandthsRead::Is(_) => true,
+        TenThousandthsRead::Out => false,
+    }
+}
+
+// Whether a number is that of an offer's contracts.
+fn is_offer(n: u64) -> bool
+    ensures { λ r. ⌜ r ≡ isIn offers n ⌝ }
+{
+    match Contracts::offer(n) {
+        ContractsRead::Is(_) => true,
+        ContractsRead::Out => false,
+    }
+}
+
 // Whether the numbers of an offer are in their ranges: premium and contracts.
 fn is_priced(o: Offer) -> bool
     ensures { λ r. ⌜ r ≡ (isIn premiums (o .premium) && isIn offers (o .contracts)) ⌝ }
 {
-    measures::is_in(o.premium, 1, 100_000_000) & measures::is_in(o.contracts, 1, 1_000_000)
+    is_premium(o.premium) & is_offer(o.contracts)
 }
 
-// Whether the log's places hold entries inside the longest window, all of them.
+// Whether the log's places hold entries inside the longest window, all of them: in order of time that is so if the oldest is.
 fn is_full(m: &[u64], o: Offer) -> bool
-    requires { ⌜ Laid (now m) ⌝ }
+    requires { ⌜ Laid (now m) × (areOrdered 0 (o .time) (decode (now m) .log) ≡ true) ⌝ }
     ensures { λ r. ⌜ r ≡ isFull (decode (now (m .entry))) o ⌝ }
 {
     let entries = m[5] as usize;
@@ -240,7 +266,8 @@ pub fn remaining(m: &[u64], time: u64, rule: u64) -> Answer
     if !(rule < m[4]) {
         return Answer::Refused(13);
     }
-    Answer::Left(reset::left(m, time, rule as usize))
+    let left = reset::left(m, time, rule as usize);
+    Answer::Left(left.number())
 }
 
 // Writes words to the front of a room.

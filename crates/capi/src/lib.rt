@@ -1,6 +1,7 @@
 // The library for C and Rust: numbers and slices in, each answer as a row of numbers, the refusal first.
 ghost use mathlib.Core.Path.{_≡_};
-ghost use Rattle.machine.specs.Machine.{Call, numbers};
+ghost use Rattle.machine.specs.Calls.{Call};
+ghost use Rattle.machine.specs.Judge.{numbers};
 ghost use Rattle.calls.specs.Calls.{armAnswer, armMemory, clearAnswer, clearMemory, callAnswer, callMemory, textAnswer, textMemory};
 ghost use lib.ListN.{length};
 ghost use Rattle.records.specs.Event.{eventIn, readOf};

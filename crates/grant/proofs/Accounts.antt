@@ -8,24 +8,26 @@ use mathlib.Core.Bool.{Bool, true, false, cond, not, _&&_, _||_, false≢true, o
 use mathlib.Core.List.{List, [], _∷_, _++_, map}
 use lib.ListN.{length, getD, take, drop, set, drop-of-length-le}
 use lib.Seq.{set-getD}
-use lib.Dec.{eqb, leb}
-use borrow.Author.Tests.{eqb-true, leb-true}
+use lib.Dec.{eqb}
 use Rattle.rules.specs.Rules.{covers, isRate, added, ceiling, levelOf}
-use Rattle.measures.specs.Ranges.{In, isIn, totals}
-use Rattle.laws.specs.Tests.{and-r}
+use Rattle.laws.specs.Tests.{and-l, and-r}
+use Rattle.rules.specs.Amounts.{numberOf, amountIn, isOf}
 use Rattle.rules.specs.declared.Level.{Level}
 use Rattle.rules.specs.declared.Level.the-variants.{Firm, Root}
 use Rattle.rules.specs.declared.Rule.{Rule}
+use Rattle.rules.specs.declared.Amount.{Amount}
 use Rattle.rules.specs.declared.Account.{Account}
-use Rattle.tables.specs.Tables.{every}
-use Rattle.tables.specs.RulePlace.{isRule}
+use Rattle.laws.specs.Folds.{every, anyOf}
+use Rattle.rules.proofs.Amounts.{of-in}
+use Rattle.machine.specs.State.{State, rootsIn, rulesIn, ruleOf, Fitting}
+use Rattle.machine.specs.Offers.{coversOffer, sameLevel, credited}
+use Rattle.machine.specs.Remaining.{noAccount}
+use Rattle.machine.proofs.Totals.{isPaid}
 use Rattle.tables.proofs.Tables.{every-at}
-use Rattle.made.specs.Parts.{isTotal}
-use Rattle.state.specs.State.{State, stored, decode}
+use Rattle.state.specs.State.{stored, decode}
 use Rattle.state.specs.Laid.{Fits, Laid, withAccounts}
 use Rattle.state.proofs.Stores.{put-account}
 use Rattle.machine.specs.declared.Offer.{Offer}
-use Rattle.machine.specs.Machine.{coversOffer, sameLevel, anyOf, credited, noAccount}
 use Rattle.grant.specs.Grant.{concerns, fills, reachedAt, accountAt, areTotals, Credited, AllCredited}
 use Rattle.grant.specs.declared.Reached.{Reached}
 use Rattle.grant.proofs.Cut.{next}
@@ -51,9 +53,9 @@ module _ (o : Offer) (grant : ℕ) (a : Account) {rule : Rule} {x y : Bool} (is 
   pub credited-off : not (x && y) ≡ true → credited o grant a ≡ a
   unfolding credited
   credited-off out =
-      λ k. record { rule = a .rule; total = go (isRate (a .rule .kind)) (coversOffer o (a .rule)) (a .total) (a .total + added (a .rule .limit) (o .premium) grant) (both false out) k }
+      λ k. record { rule = a .rule; total = go (isRate (a .rule .kind)) (coversOffer o (a .rule)) (a .total) (amountIn (a .rule .limit) (numberOf (a .total) + added (a .rule .limit) (o .premium) grant)) (both false out) k }
     where
-      go : (r i : Bool) (t n : ℕ) → (not r && i) ≡ false → cond r t (cond i n t) ≡ t
+      go : (r i : Bool) (t n : Amount) → (not r && i) ≡ false → cond r t (cond i n t) ≡ t
       go true i t n h = refl
       go false true t n h = absurd (false≢true (sym h))
       go false false t n h = refl
@@ -69,16 +71,18 @@ module _ (o : Offer) (grant : ℕ) (a : Account) {rule : Rule} {x y : Bool} (is 
       go false i r n h = refl
 
   -- an absolute rule that covers the offer
-  pub credited-on : not (x && y) ≡ false → credited o grant a .total ≡ a .total + added (a .rule .limit) (o .premium) grant
+  pub credited-on : not (x && y) ≡ false → credited o grant a .total ≡ amountIn (a .rule .limit) (numberOf (a .total) + added (a .rule .limit) (o .premium) grant)
   unfolding credited
-  credited-on h = go (isRate (a .rule .kind)) (coversOffer o (a .rule)) (a .total) (a .total + added (a .rule .limit) (o .premium) grant) (both true h)
+  credited-on h =
+      go (isRate (a .rule .kind)) (coversOffer o (a .rule)) (a .total)
+      (amountIn (a .rule .limit) (numberOf (a .total) + added (a .rule .limit) (o .premium) grant)) (both true h)
     where
-      go : (r i : Bool) (t n : ℕ) → (not r && i) ≡ true → cond r t (cond i n t) ≡ n
+      go : (r i : Bool) (t n : Amount) → (not r && i) ≡ true → cond r t (cond i n t) ≡ n
       go true i t n h = absurd (false≢true h)
       go false true t n h = refl
       go false false t n h = absurd (false≢true h)
 
-  pub fills-on : not (x && y) ≡ false → fills o grant a ≡ eqb (a .total + added (a .rule .limit) (o .premium) grant) (ceiling (a .rule .limit))
+  pub fills-on : not (x && y) ≡ false → fills o grant a ≡ eqb (numberOf (a .total) + added (a .rule .limit) (o .premium) grant) (ceiling (a .rule .limit))
   unfolding fills
   fills-on h = go (isRate (a .rule .kind)) (coversOffer o (a .rule)) _ (both true h)
     where
@@ -126,31 +130,55 @@ module _ {A : Type 0} (f : A → A) where
   done-same g e (suc i) [] = refl
   done-same {B = B} g e (suc i) (x ∷ l) = ap₂ (λ (y : B) (m : List B). y ∷ m) (e x) (done-same g e i l)
 
+  -- what f keeps of each element that passes a test
+  pub done-every : (ok : A → Bool) → ((a : A) → ok a ≡ true → ok (f a) ≡ true) → (i : ℕ) (l : List A) → every ok l ≡ true → every ok (done i l) ≡ true
+  unfolding done every
+  done-every ok e zero l h = h
+  done-every ok e (suc i) [] h = refl
+  done-every ok e (suc i) (x ∷ l) h =
+      ap₂ (λ (p q : Bool). p && q) (e x (and-l (ok x) (every ok l) h)) (done-every ok e i l (and-r (ok x) (every ok l) h))
+
 module _ (o : Offer) (grant : ℕ) where
   pub same-rule : (a : Account) → credited o grant a .rule ≡ a .rule
   unfolding credited
   same-rule a = refl
 
+  -- a total stays in its rule's measure
+  same-measure : (a : Account) → isOf (a .rule .limit) (a .total) ≡ true → isOf (a .rule .limit) (credited o grant a .total) ≡ true
+  unfolding credited
+  same-measure a h = go (isRate (a .rule .kind)) (coversOffer o (a .rule))
+    where
+      more : Amount
+      more = amountIn (a .rule .limit) (numberOf (a .total) + added (a .rule .limit) (o .premium) grant)
+
+      go : (r i : Bool) → isOf (a .rule .limit) (cond r (a .total) (cond i more (a .total))) ≡ true
+      go true i = h
+      go false true = of-in (a .rule .limit) (numberOf (a .total) + added (a .rule .limit) (o .premium) grant)
+      go false false = h
+
   -- with other totals a state still fits
-  pub fits-done : (s : State) (i : ℕ) → Fits s → Fits (withAccounts s (done (credited o grant) i (s .accounts)))
+  pub fits-done : (s : State) (i : ℕ) → Fits s → Fits (withAccounts s (done (credited o grant) i (s .part .accounts)))
+  unfolding Fitting rootsIn rulesIn credited
   fits-done s i f = record {
     roots = f .roots;
-    accounts = rw (done-length (credited o grant) i (s .accounts)) (f .accounts);
+    rules = f .rules;
     log = f .log;
-    rules = ap (every (isRule (length (s .roots)))) (done-same (credited o grant) (λ a. a .rule) same-rule i (s .accounts)) ∙ f .rules;
+    fitting = done-same (credited o grant) ruleOf same-rule i (s .part .accounts) ∙ f .fitting;
+    measured = done-every (credited o grant) (λ a. isOf (a .rule .limit) (a .total)) same-measure i (s .part .accounts) (f .measured);
+    valid = f .valid;
     entries = f .entries;
   }
 
   -- one account more, from the state as it stands
   abbrev credit-at : ℕ → State → State
-  credit-at i t = withAccounts t (set (t .accounts) i (credited o grant (getD (t .accounts) i noAccount)))
+  credit-at i t = withAccounts t (set (t .part .accounts) i (credited o grant (getD (t .part .accounts) i noAccount)))
 
   -- the memory ys after the first i accounts of xs were credited
   pub record Crediting (xs : List ℕ) (i : ℕ) (ys : List ℕ) (reached : Reached) : Type 0 where
-    pub within : i ≤ length (decode xs .accounts)
-    pub memory : ys ≡ stored (withAccounts (decode xs) (done (credited o grant) i (decode xs .accounts))) xs
-    pub root : (reached .root || reachedAt o grant (drop i (decode xs .accounts)) (Root (o .root))) ≡ reachedAt o grant (decode xs .accounts) (Root (o .root))
-    pub firm : (reached .firm || reachedAt o grant (drop i (decode xs .accounts)) Firm) ≡ reachedAt o grant (decode xs .accounts) Firm
+    pub within : i ≤ length (decode xs .part .accounts)
+    pub memory : ys ≡ stored (withAccounts (decode xs) (done (credited o grant) i (decode xs .part .accounts))) xs
+    pub root : (reached .root || reachedAt o grant (drop i (decode xs .part .accounts)) (Root (o .root))) ≡ reachedAt o grant (decode xs .part .accounts) (Root (o .root))
+    pub firm : (reached .firm || reachedAt o grant (drop i (decode xs .part .accounts)) Firm) ≡ reachedAt o grant (decode xs .part .accounts) Firm
 
   pub crediting-none : {xs : List ℕ} → Laid xs → Crediting xs 0 xs (record { root = false; firm = false })
   unfolding done
@@ -169,22 +197,22 @@ module _ (o : Offer) (grant : ℕ) where
       ∙ ap (λ (l : List Account). b || anyOf test l) (sym (next accounts i noAccount l)) ∙ e
 
   module _ {xs : List ℕ} {i : ℕ} {ys : List ℕ} {reached : Reached} (h : Laid xs) (c : Crediting xs i ys reached) where
-    pub crediting-holds : Holds (withAccounts (decode xs) (done (credited o grant) i (decode xs .accounts))) xs ys
+    pub crediting-holds : Holds (withAccounts (decode xs) (done (credited o grant) i (decode xs .part .accounts))) xs ys
     crediting-holds = record { fits = fits-done (decode xs) i (h .fits); is = c .memory }
 
-    crediting-accounts : decode ys .accounts ≡ done (credited o grant) i (decode xs .accounts)
-    crediting-accounts = ap (λ (s : State). s .accounts) (held-state crediting-holds)
+    crediting-accounts : decode ys .part .accounts ≡ done (credited o grant) i (decode xs .part .accounts)
+    crediting-accounts = ap (λ (s : State). s .part .accounts) (held-state crediting-holds)
 
-    pub crediting-number : length (decode ys .accounts) ≡ length (decode xs .accounts)
-    crediting-number = ap length crediting-accounts ∙ done-length (credited o grant) i (decode xs .accounts)
+    pub crediting-number : length (decode ys .part .accounts) ≡ length (decode xs .part .accounts)
+    crediting-number = ap length crediting-accounts ∙ done-length (credited o grant) i (decode xs .part .accounts)
 
     pub crediting-account : accountAt ys i ≡ accountAt xs i
-    crediting-account = ap (λ (l : List Account). getD l i noAccount) crediting-accounts ∙ done-at (credited o grant) i (decode xs .accounts) noAccount
+    crediting-account = ap (λ (l : List Account). getD l i noAccount) crediting-accounts ∙ done-at (credited o grant) i (decode xs .part .accounts) noAccount
 
-    pub crediting-more : {zs : List ℕ} {after : Reached} → i < length (decode xs .accounts) → Credited o grant i ys zs reached after
+    pub crediting-more : {zs : List ℕ} {after : Reached} → i < length (decode xs .part .accounts) → Credited o grant i ys zs reached after
         → Crediting xs (i + 1) zs after
     crediting-more l one =
-        let accounts = decode xs .accounts in
+        let accounts = decode xs .part .accounts in
         let f = credited o grant in
         record {
           within = omega arith;
@@ -197,11 +225,11 @@ module _ (o : Offer) (grant : ℕ) where
         }
 
   -- all accounts went through
-  pub crediting-done : {xs : List ℕ} {i : ℕ} {ys : List ℕ} {reached : Reached} → Crediting xs i ys reached → length (decode xs .accounts) ≤ i
+  pub crediting-done : {xs : List ℕ} {i : ℕ} {ys : List ℕ} {reached : Reached} → Crediting xs i ys reached → length (decode xs .part .accounts) ≤ i
       → AllCredited o grant xs ys reached
   unfolding reachedAt anyOf
   crediting-done {xs} {i} {ys} {reached} c l =
-      let accounts = decode xs .accounts in
+      let accounts = decode xs .part .accounts in
       record {
         memory = c .memory ∙ ap (λ (l : List Account). stored (withAccounts (decode xs) l) xs) (done-end (credited o grant) i accounts l);
         root = sym (ap (λ (l : List Account). reached .root || reachedAt o grant l (Root (o .root))) (drop-of-length-le accounts l) ∙ or-false (reached .root)) ∙ c .root;
@@ -209,30 +237,21 @@ module _ (o : Offer) (grant : ℕ) where
       }
 
 -- a total of a memory whose totals are in range
-pub total-in : (rule : Rule) (total : ℕ) → isTotal rule total ≡ true → In totals total
-unfolding isTotal
-total-in rule total = go (isRate (rule .kind))
-  where
-    go : (b : Bool) → cond b (eqb total 0) (isIn totals total) ≡ true → In totals total
-    go true h = (omega arith, omega (arith, eqb-true total 0 h))
-    go false h = (omega arith, leb-true total (totals .most) (and-r (leb 0 total) (leb total (totals .most)) h))
-
-pub laid-totals : (xs : List ℕ) (i : ℕ) → areTotals (decode xs) ≡ true → i < length (decode xs .accounts) → In totals (accountAt xs i .total)
-laid-totals xs i h l =
-    let a = accountAt xs i in
-    total-in (a .rule) (a .total) (every-at (λ (a : Account). isTotal (a .rule) (a .total)) (decode xs .accounts) i noAccount h l)
+pub laid-totals : (xs : List ℕ) (i : ℕ) → areTotals (decode xs) ≡ true → i < length (decode xs .part .accounts) → isPaid (accountAt xs i) ≡ true
+laid-totals xs i h l = every-at isPaid (decode xs .part .accounts) i noAccount h l
 
 -- an absolute rule that covers the offer, in memory: its total is put in its place
-pub put-credited : {xs : List ℕ} {i v : ℕ} (o : Offer) (grant : ℕ) → Laid xs → i < length (decode xs .accounts) → v ≡ credited o grant (accountAt xs i) .total
-    → set xs (586 + i) v ≡ stored (withAccounts (decode xs) (set (decode xs .accounts) i (credited o grant (accountAt xs i)))) xs
+pub put-credited : {xs : List ℕ} {i v : ℕ} (o : Offer) (grant : ℕ) → Laid xs → i < length (decode xs .part .accounts)
+    → v ≡ numberOf (credited o grant (accountAt xs i) .total)
+    → set xs (586 + i) v ≡ stored (withAccounts (decode xs) (set (decode xs .part .accounts) i (credited o grant (accountAt xs i)))) xs
 put-credited {xs} {i} o grant h l e =
     ap₂ (λ (m : List ℕ) (n : ℕ). set m (586 + i) n) (h .is) e
     ∙ put-account (decode xs) (h .fits) xs i (credited o grant (accountAt xs i)) noAccount l (same-rule o grant (accountAt xs i))
 
 -- and one that keeps its total
 pub keep-credited : {xs : List ℕ} (i : ℕ) (o : Offer) (grant : ℕ) → Laid xs → credited o grant (accountAt xs i) ≡ accountAt xs i
-    → xs ≡ stored (withAccounts (decode xs) (set (decode xs .accounts) i (credited o grant (accountAt xs i)))) xs
+    → xs ≡ stored (withAccounts (decode xs) (set (decode xs .part .accounts) i (credited o grant (accountAt xs i)))) xs
 keep-credited {xs} i o grant h e =
     h .is
     ∙ ap (λ (l : List Account). stored (withAccounts (decode xs) l) xs)
-    (sym (ap (λ (a : Account). set (decode xs .accounts) i a) e ∙ set-getD (decode xs .accounts) i noAccount))
+    (sym (ap (λ (a : Account). set (decode xs .part .accounts) i a) e ∙ set-getD (decode xs .part .accounts) i noAccount))

@@ -4,7 +4,8 @@ use native.Mathlib.Omega.{arith}
 use mathlib.Core.Path.{_≡_, sym, ap, ap₂, _∙_, subst}
 use mathlib.Core.List.{List}
 use lib.ListN.{length, drop, length-append, length-drop}
-use Rattle.state.specs.State.{State, size, encode, stored, decode}
+use Rattle.state.specs.State.{size, encode, stored, decode}
+use Rattle.machine.specs.State.{State}
 use Rattle.state.specs.Laid.{Fits, Laid}
 use Rattle.state.proofs.Stored.{encode-long, decode-stored}
 use Rattle.state.proofs.Stores.{stored-laid, stored-again}

@@ -10,6 +10,7 @@ use lib.Seq.{drop-cons}
 use lib.Dec.{eqb}
 use borrow.Author.Tests.{not-true, not-false}
 use Rattle.laws.specs.Tests.{and-l}
+use Rattle.rules.specs.Amounts.{numberOf, amountIn}
 use Rattle.rules.specs.Rules.{levelOf, covers, isRate, countedOf}
 use Rattle.rules.specs.Allowance.{allowance}
 use Rattle.rules.specs.declared.Level.{Level}
@@ -20,11 +21,14 @@ use Rattle.rules.specs.declared.Kind.the-variants.{Rate, Absolute}
 use Rattle.rules.specs.declared.Scope.{Scope}
 use Rattle.rules.specs.declared.Scope.the-variants.{EveryFill, WholeRoot, OneUnit}
 use Rattle.rules.specs.declared.Rule.{Rule}
+use Rattle.rules.specs.declared.Amount.{Amount}
 use Rattle.rules.specs.declared.Account.{Account}
-use Rattle.tables.specs.declared.Entry.{Entry}
-use Rattle.log.specs.Log.{entryShare, sumOf}
+use Rattle.rules.proofs.Amounts.{number-in}
+use Rattle.machine.specs.declared.Entry.{Entry}
+use Rattle.machine.specs.Entries.{entryShare}
+use Rattle.laws.specs.Folds.{sumOf}
+use Rattle.machine.specs.Offers.{counted, coversOffer, sameLevel}
 use Rattle.machine.specs.declared.Offer.{Offer}
-use Rattle.machine.specs.Machine.{counted, coversOffer, sameLevel}
 use Rattle.grant.specs.Grant.{concerns, allowedBy, lowered, leastAt}
 
 -- the next of a list's elements, as code counts
@@ -101,21 +105,25 @@ module _ (o : Offer) (a : Account) {rule : Rule} {b : Bool} (is : rule ≡ a .ru
       lowered-root = lowered-as log o a n (Root (o .root)) (not firm) concerns-root ∙ ap (λ (k : ℕ). cond (not firm) (min k n) n) (sym allows)
 
 -- what the rule allows, from its limit and what is counted
-pub allows-is : (log : List Entry) (o : Offer) (a : Account) {rule : Rule} {amount most : ℕ} → rule ≡ a .rule → amount ≡ counted log (o .time) a
-    → most ≡ allowance (rule .limit) amount (o .premium) (o .contracts) → most ≡ allowedBy log o a
+pub allows-is : (log : List Entry) (o : Offer) (a : Account) {rule : Rule} {amount : Amount} {most : ℕ} → rule ≡ a .rule
+    → amount ≡ amountIn (rule .limit) (counted log (o .time) a) → most ≡ allowance (rule .limit) (numberOf amount) (o .premium) (o .contracts)
+    → most ≡ allowedBy log o a
 unfolding allowedBy
-allows-is log o a is sum e = e ∙ ap₂ (λ (l : Limit) (n : ℕ). allowance l n (o .premium) (o .contracts)) (ap (λ (r : Rule). r .limit) is) sum
+allows-is log o a {rule} is sum e =
+    e
+    ∙ ap₂ (λ (l : Limit) (n : ℕ). allowance l n (o .premium) (o .contracts)) (ap (λ (r : Rule). r .limit) is)
+    (ap numberOf sum ∙ number-in (rule .limit) (counted log (o .time) a))
 
 -- what a rule has counted: its total if it is absolute, else what the log counts for it
 module _ (log : List Entry) (time : ℕ) (a : Account) {rule : Rule} {b : Bool} (is : rule ≡ a .rule) (test : b ≡ not (isRate (rule .kind))) where
   kind-is : b ≡ not (isRate (a .rule .kind))
   kind-is = test ∙ ap (λ (r : Rule). not (isRate (r .kind))) is
 
-  pub counted-total : {n : ℕ} → b ≡ true → n ≡ a .total → n ≡ counted log time a
+  pub counted-total : {n : ℕ} → b ≡ true → n ≡ numberOf (a .total) → n ≡ counted log time a
   unfolding counted isRate countedOf
   counted-total {n = n} absolute e = go (a .rule .kind) (sym kind-is ∙ absolute)
     where
-      go : (kind : Kind) → not (isRate kind) ≡ true → n ≡ countedOf kind (a .total) (sumOf (entryShare (a .rule) time) log)
+      go : (kind : Kind) → not (isRate kind) ≡ true → n ≡ countedOf kind (numberOf (a .total)) (sumOf (entryShare (a .rule) time) log)
       go (Rate w) h = absurd (false≢true h)
       go Absolute h = e
 
@@ -123,7 +131,7 @@ module _ (log : List Entry) (time : ℕ) (a : Account) {rule : Rule} {b : Bool} 
   unfolding counted isRate countedOf
   counted-log {n = n} rate e = go (a .rule .kind) (sym kind-is ∙ rate)
     where
-      go : (kind : Kind) → not (isRate kind) ≡ false → n ≡ countedOf kind (a .total) (sumOf (entryShare (a .rule) time) log)
+      go : (kind : Kind) → not (isRate kind) ≡ false → n ≡ countedOf kind (numberOf (a .total)) (sumOf (entryShare (a .rule) time) log)
       go (Rate w) h = e ∙ ap (λ (r : Rule). sumOf (entryShare r time) log) is
       go Absolute h = absurd (false≢true (sym h))
 

@@ -3,7 +3,7 @@ use Prim.Native.Nat.{ℕ, _+_, _≤_, _<_}
 use native.Mathlib.Omega.{arith}
 use mathlib.Core.Path.{_≡_, refl, sym, ap, ap₂, _∙_, subst}
 use mathlib.Core.Bool.{Bool, true, false, cond, not, _&&_, _||_}
-use mathlib.Core.List.{List, [], _∷_, _++_, map}
+use mathlib.Core.List.{List, [], _∷_, _++_}
 use lib.ListN.{length, getD, take, drop, set, length-append}
 use lib.Dec.{ltb}
 use borrow.Author.Tests.{ltb-true, not-true, not-false}
@@ -11,36 +11,36 @@ use Rattle.laws.specs.Tests.{and-l, and-r}
 use Rattle.measures.specs.Ranges.{offers}
 use Rattle.bits.specs.Locks.{withBit}
 use Rattle.tables.specs.RulePlace.{rulesTable}
-use Rattle.tables.specs.EntryPlace.{isEntry, logTable, flagNumber}
-use Rattle.tables.specs.declared.Entry.{Entry}
+use Rattle.tables.specs.EntryPlace.{logTable, flagNumber}
+use Rattle.machine.specs.Entries.{isEntry, recent}
+use Rattle.machine.specs.declared.Entry.{Entry}
+use Rattle.machine.specs.State.{State, rulesIn, rootsIn}
+use Rattle.rules.specs.Valid.{hasRate}
+use Rattle.machine.specs.Offers.{entryOf, longest, joinedLog}
 use Rattle.tables.proofs.EntryPlace.{entry-valid}
 use Rattle.profile.specs.Profile.{rootsTable}
-use Rattle.state.specs.State.{State, profileIn, size, totalsTable, encode, stored, decode}
-use Rattle.state.specs.Sound.{hasRate}
+use Rattle.state.specs.State.{size, totalsTable, totalsIn, encode, stored, decode}
 use Rattle.state.specs.Laid.{Fits, Laid, withLog}
 use Rattle.state.proofs.Stores.{put-other}
 use Rattle.machine.specs.declared.Offer.{Offer}
-use Rattle.machine.specs.Machine.{recent, entryOf, longest, joinedLog}
 use Rattle.machine.proofs.Lists.{every-keep, every-join}
 use Rattle.grant.specs.Grant.{Asked, HasRoom, marked}
 use Rattle.grant.specs.declared.Trips.{Trips}
 use Rattle.grant.proofs.Windows.{rate-longest}
 
 -- whether a fill joins the log, by the longest window
-module _ (s : State) (f : Fits s) {window : ℕ} (is : window ≡ longest (profileIn s .rules)) where
-  rate-is : hasRate (profileIn s .rules) ≡ ltb 0 window
-  unfolding profileIn
-  rate-is = rate-longest (length (s .roots)) (map (λ a. a .rule) (s .accounts)) (f .rules) .0 ∙ ap (ltb 0) (sym is)
+module _ (s : State) (f : Fits s) {window : ℕ} (is : window ≡ longest (rulesIn s)) where
+  rate-is : hasRate (rulesIn s) ≡ ltb 0 window
+  rate-is = rate-longest (rootsIn s) (rulesIn s) (f .valid) .0 ∙ ap (ltb 0) (sym is)
 
   pub window-day : window ≤ 86_400_000
-  unfolding profileIn
-  window-day = omega (arith, rate-longest (length (s .roots)) (map (λ a. a .rule) (s .accounts)) (f .rules) .1, is)
+  window-day = omega (arith, rate-longest (rootsIn s) (rulesIn s) (f .valid) .1, is)
 
   module _ (o : Offer) (grant : ℕ) where
-    joins : (hasRate (profileIn s .rules) && ltb 0 grant) ≡ (ltb 0 window && ltb 0 grant)
+    joins : (hasRate (rulesIn s) && ltb 0 grant) ≡ (ltb 0 window && ltb 0 grant)
     joins = ap (λ (b : Bool). b && ltb 0 grant) rate-is
 
-    pub joined-off : not (ltb 0 window && ltb 0 grant) ≡ true → joinedLog (profileIn s .rules) (s .log) o grant ≡ s .log
+    pub joined-off : not (ltb 0 window && ltb 0 grant) ≡ true → joinedLog (rulesIn s) (s .log) o grant ≡ s .log
     unfolding joinedLog
     joined-off out = rw (joins ∙ not-true (ltb 0 window && ltb 0 grant) out)
 
@@ -48,7 +48,7 @@ module _ (s : State) (f : Fits s) {window : ℕ} (is : window ≡ longest (profi
       both : (ltb 0 window && ltb 0 grant) ≡ true
       both = not-false (ltb 0 window && ltb 0 grant) some
 
-      pub joined-on : joinedLog (profileIn s .rules) (s .log) o grant ≡ recent window (o .time) (s .log) ++ (entryOf o grant ∷ [])
+      pub joined-on : joinedLog (rulesIn s) (s .log) o grant ≡ recent window (o .time) (s .log) ++ (entryOf o grant ∷ [])
       unfolding joinedLog
       joined-on = rw (joins ∙ both) (ap (λ (w : ℕ). recent w (o .time) (s .log) ++ (entryOf o grant ∷ [])) (sym is))
 
@@ -72,24 +72,26 @@ entry-in {o = o} {grant = grant} roots a r pos most = entry-valid roots (entryOf
 })
 
 -- a state with the log after a fill still fits
-pub fits-joined : {xs : List ℕ} {o : Offer} {grant : ℕ} (s : State) → Fits s → Asked xs o → o .root < length (s .roots) → grant ≤ offers .most
-    → HasRoom s o grant → Fits (withLog s (joinedLog (profileIn s .rules) (s .log) o grant))
-unfolding joinedLog recent
-fits-joined {o = o} {grant = grant} s f a r most room = go (hasRate (profileIn s .rules)) refl (ltb 0 grant) refl
+pub fits-joined : {xs : List ℕ} {o : Offer} {grant : ℕ} (s : State) → Fits s → Asked xs o → o .root < length (s .part .profile .roots) → grant ≤ offers .most
+    → HasRoom s o grant → Fits (withLog s (joinedLog (rulesIn s) (s .log) o grant))
+unfolding joinedLog recent rulesIn rootsIn
+fits-joined {o = o} {grant = grant} s f a r most room = go (hasRate (rulesIn s)) refl (ltb 0 grant) refl
   where
-    go : (b : Bool) → hasRate (profileIn s .rules) ≡ b → (g : Bool) → ltb 0 grant ≡ g
-        → Fits (withLog s (cond (b && g) (recent (longest (profileIn s .rules)) (o .time) (s .log) ++ (entryOf o grant ∷ [])) (s .log)))
+    go : (b : Bool) → hasRate (rulesIn s) ≡ b → (g : Bool) → ltb 0 grant ≡ g
+        → Fits (withLog s (cond (b && g) (recent (longest (rulesIn s)) (o .time) (s .log) ++ (entryOf o grant ∷ [])) (s .log)))
     go true p true q =
-        let kept = recent (longest (profileIn s .rules)) (o .time) (s .log) in
+        let kept = recent (longest (rulesIn s)) (o .time) (s .log) in
         let pos = ltb-true 0 grant q in
         record {
           roots = f .roots;
-          accounts = f .accounts;
-          log = omega (arith, length-append kept (entryOf o grant ∷ []), room p pos);
           rules = f .rules;
+          log = omega (arith, length-append kept (entryOf o grant ∷ []), room p pos);
+          fitting = f .fitting;
+          measured = f .measured;
+          valid = f .valid;
           entries =
-              every-join (isEntry (length (s .roots))) kept (entryOf o grant) (every-keep (isEntry (length (s .roots))) _ (s .log) (f .entries))
-              (entry-in (length (s .roots)) a r pos most);
+              every-join (isEntry (rootsIn s)) kept (entryOf o grant) (every-keep (isEntry (rootsIn s)) _ (s .log) (f .entries))
+              (entry-in (rootsIn s) a r pos most);
         }
     go true p false q = f
     go false p true q = f
@@ -111,10 +113,10 @@ marks-of : (s : State) (xs : List ℕ) (o : Offer) (trips : Trips)
     ≡ stored (marked s o trips) xs
 unfolding stored encode marked
 marks-of s xs o trips =
-    ap (λ (n : ℕ). (1 ∷ o .time ∷ s .firm ∷ length (s .roots) ∷ length (s .accounts) ∷ length (s .log) ∷ n ∷ flagNumber (s .firmLocked)
-    ∷ cond (trips .root) (withBit (s .tripped) (o .root)) (s .tripped) ∷ s .locked
-    ∷ (rootsTable (s .roots) ++ (rulesTable (map (λ a. a .rule) (s .accounts)) ++ (totalsTable (map (λ a. a .total) (s .accounts)) ++ logTable (s .log)))))
-    ++ drop size xs) (flag-or (trips .firm) (s .firmTripped))
+    ap (λ (n : ℕ). (1 ∷ o .time ∷ s .part .profile .firm ∷ length (s .part .profile .roots) ∷ length (s .part .profile .rules) ∷ length (s .log) ∷ n ∷ flagNumber (s .part .locks .firmByUser)
+    ∷ cond (trips .root) (withBit (s .part .locks .tripped) (o .root)) (s .part .locks .tripped) ∷ s .part .locks .byUser
+    ∷ (rootsTable (s .part .profile .roots) ++ (rulesTable (s .part .profile .rules) ++ (totalsTable (totalsIn (s .part .accounts)) ++ logTable (s .log)))))
+    ++ drop size xs) (flag-or (trips .firm) (s .part .locks .firmTripped))
 
 -- clock and trips in their places
 pub put-marks : {xs : List ℕ} {v w : ℕ} (o : Offer) (trips : Trips) → Laid xs → v ≡ cond (trips .firm) 1 (getD xs 6 0)

@@ -10,14 +10,16 @@ use Rattle.measures.specs.Ranges.{offers}
 use Rattle.bits.specs.Locks.{withBit}
 use Rattle.rules.specs.declared.Level.{Level}
 use Rattle.rules.specs.declared.Level.the-variants.{Firm, Root}
-use Rattle.rules.specs.declared.Rule.{Rule}
 use Rattle.rules.specs.declared.Account.{Account}
-use Rattle.log.specs.Log.{areOrdered}
-use Rattle.state.specs.State.{State, profileIn, stored, decode}
-use Rattle.state.specs.Sound.{hasRate}
+use Rattle.machine.specs.Entries.{areOrdered}
+use Rattle.machine.specs.State.{State, rulesIn}
+use Rattle.machine.specs.Offers.{joinedLog, credited, levelTrips}
+use Rattle.state.specs.State.{stored, decode}
 use Rattle.state.specs.Laid.{Fits, withLog, withAccounts}
 use Rattle.machine.specs.declared.Offer.{Offer}
-use Rattle.machine.specs.Machine.{recent, longest, joinedLog, credited, filled, levelTrips}
+use Rattle.machine.specs.Deeds.{granted, filling, clockAfter}
+use Rattle.machine.specs.Locks.{trippedBy}
+use Rattle.machine.specs.Step.{after, partAfter, accountsAfter, locksAfter, logAfter}
 use Rattle.machine.proofs.Grants.{grant-le}
 use Rattle.grant.specs.Grant.{leastAt, reachedAt, Asked, HasRoom, AllCredited, marked, Ready}
 use Rattle.grant.specs.declared.Cuts.{Cuts}
@@ -25,33 +27,23 @@ use Rattle.grant.specs.declared.Reached.{Reached}
 use Rattle.grant.specs.declared.Trips.{Trips}
 use Rattle.grant.proofs.Trip.{grant-cuts, level-trips}
 use Rattle.grant.proofs.After.{Holds, held-state, held-laid, step-on}
-use Rattle.grant.proofs.Accounts.{same-rule, done-same, done-end, fits-done}
+use Rattle.grant.proofs.Accounts.{done-end, fits-done}
 use Rattle.grant.proofs.Joined.{fits-joined}
 
 -- a state with its totals after a grant, and with its log after it
 abbrev pub paid : Offer → ℕ → State → State
-paid o grant s = withAccounts s (map (credited o grant) (s .accounts))
+paid o grant s = withAccounts s (map (credited o grant) (s .part .accounts))
 
 abbrev pub logged : Offer → ℕ → State → State
-logged o grant s = withLog s (joinedLog (profileIn s .rules) (s .log) o grant)
+logged o grant s = withLog s (joinedLog (rulesIn s) (s .log) o grant)
 
 module _ {xs : List ℕ} {o : Offer} {grant : ℕ} {cuts : Cuts} (r : Ready xs o grant cuts) where
   pub grant-in : grant ≤ offers .most
-  grant-in = omega (arith, r .least, grant-le (decode xs .log) o (decode xs .accounts), r .asked .contracts .1)
-
-  all-done : (l : List Account) → map (λ a. a .rule) (map (credited o grant) l) ≡ map (λ a. a .rule) l
-  all-done l =
-      ap (map (λ (a : Account). a .rule)) (sym (done-end (credited o grant) (length l) l (omega arith)))
-      ∙ done-same (credited o grant) (λ a. a .rule) (same-rule o grant) (length l) l
-
-  same-rules : profileIn (paid o grant (decode xs)) .rules ≡ profileIn (decode xs) .rules
-  unfolding profileIn
-  same-rules = all-done (decode xs .accounts)
+  grant-in = omega (arith, r .least, grant-le (decode xs .log) o (decode xs .part .accounts), r .asked .contracts .1)
 
   paid-room : HasRoom (paid o grant (decode xs)) o grant
-  paid-room =
-      subst (λ (rules : List Rule). hasRate rules ≡ true → 0 < grant → length (recent (longest rules) (o .time) (decode xs .log)) < 512) (sym same-rules)
-      (r .room)
+  unfolding rulesIn
+  paid-room = r .room
 
   -- the totals
   pub paid-holds : {ys : List ℕ} {reached : Reached} → AllCredited o grant xs ys reached → Holds (paid o grant (decode xs)) xs ys
@@ -59,8 +51,8 @@ module _ {xs : List ℕ} {o : Offer} {grant : ℕ} {cuts : Cuts} (r : Ready xs o
       let s = decode xs in
       record {
         fits =
-            subst (λ (l : List Account). Fits (withAccounts s l)) (done-end (credited o grant) (length (s .accounts)) (s .accounts) (omega arith))
-            (fits-done o grant s (length (s .accounts)) (r .asked .laid .fits));
+            subst (λ (l : List Account). Fits (withAccounts s l)) (done-end (credited o grant) (length (s .part .accounts)) (s .part .accounts) (omega arith))
+            (fits-done o grant s (length (s .part .accounts)) (r .asked .laid .fits));
         is = c .memory;
       }
 
@@ -68,7 +60,7 @@ module _ {xs : List ℕ} {o : Offer} {grant : ℕ} {cuts : Cuts} (r : Ready xs o
     pub paid-asked : Asked ys o
     paid-asked = record {
       laid = held-laid h;
-      root = subst (λ (s : State). o .root < length (s .roots)) (sym (held-state h)) (r .asked .root);
+      root = subst (λ (s : State). o .root < length (s .part .profile .roots)) (sym (held-state h)) (r .asked .root);
       unit = r .asked .unit;
       premium = r .asked .premium;
       contracts = r .asked .contracts;
@@ -88,47 +80,50 @@ module _ {xs : List ℕ} {o : Offer} {grant : ℕ} {cuts : Cuts} (r : Ready xs o
       is = step-on h (logged o grant) e;
     }
 
-  pub logged-root : {zs : List ℕ} → Holds (logged o grant (paid o grant (decode xs))) xs zs → o .root < length (decode zs .roots)
-  logged-root h = subst (λ (s : State). o .root < length (s .roots)) (sym (held-state h)) (r .asked .root)
+  pub logged-root : {zs : List ℕ} → Holds (logged o grant (paid o grant (decode xs))) xs zs → o .root < length (decode zs .part .profile .roots)
+  logged-root h = subst (λ (s : State). o .root < length (s .part .profile .roots)) (sym (held-state h)) (r .asked .root)
 
   -- the trips
-  grant-least : grant ≡ min (leastAt (decode xs .log) o (decode xs .accounts) (Root (o .root))) (leastAt (decode xs .log) o (decode xs .accounts) Firm)
-  grant-least = r .least ∙ grant-cuts (decode xs .log) o (decode xs .accounts)
+  grant-least : grant ≡ min (leastAt (decode xs .log) o (decode xs .part .accounts) (Root (o .root))) (leastAt (decode xs .log) o (decode xs .part .accounts) Firm)
+  grant-least = r .least ∙ grant-cuts (decode xs .log) o (decode xs .part .accounts)
 
-  trips-by : (level : Level) {b : Bool} {cut : ℕ} → b ≡ reachedAt o grant (decode xs .accounts) level
-      → cut ≡ leastAt (decode xs .log) o (decode xs .accounts) level → grant ≤ leastAt (decode xs .log) o (decode xs .accounts) level
-      → (b || (ltb grant (o .contracts) && eqb cut grant)) ≡ levelTrips (decode xs .log) o grant (decode xs .accounts) level
+  trips-by : (level : Level) {b : Bool} {cut : ℕ} → b ≡ reachedAt o grant (decode xs .part .accounts) level
+      → cut ≡ leastAt (decode xs .log) o (decode xs .part .accounts) level → grant ≤ leastAt (decode xs .log) o (decode xs .part .accounts) level
+      → (b || (ltb grant (o .contracts) && eqb cut grant)) ≡ levelTrips (decode xs .log) o grant (decode xs .part .accounts) level
   trips-by level reached cut below =
       ap₂ (λ (b : Bool) (n : ℕ). b || (ltb grant (o .contracts) && eqb n grant)) reached cut
-      ∙ sym (level-trips (decode xs .log) o grant (decode xs .accounts) level below)
+      ∙ sym (level-trips (decode xs .log) o grant (decode xs .part .accounts) level below)
 
   module _ {ys : List ℕ} {reached : Reached} (c : AllCredited o grant xs ys reached) where
     pub trips-root : (reached .root || (ltb grant (o .contracts) && eqb (cuts .root) grant))
-        ≡ levelTrips (decode xs .log) o grant (decode xs .accounts) (Root (o .root))
+        ≡ levelTrips (decode xs .log) o grant (decode xs .part .accounts) (Root (o .root))
     trips-root = trips-by (Root (o .root)) (c .root) (r .levels .root) (omega (arith, grant-least))
 
-    pub trips-firm : (reached .firm || (ltb grant (o .contracts) && eqb (cuts .firm) grant)) ≡ levelTrips (decode xs .log) o grant (decode xs .accounts) Firm
+    pub trips-firm : (reached .firm || (ltb grant (o .contracts) && eqb (cuts .firm) grant)) ≡ levelTrips (decode xs .log) o grant (decode xs .part .accounts) Firm
     trips-firm = trips-by Firm (c .firm) (r .levels .firm) (omega (arith, grant-least))
 
   -- all together
-  module _ {trips : Trips} (root : trips .root ≡ levelTrips (decode xs .log) o grant (decode xs .accounts) (Root (o .root)))
-      (firm : trips .firm ≡ levelTrips (decode xs .log) o grant (decode xs .accounts) Firm) where
-    filled-is : marked (logged o grant (paid o grant (decode xs))) o trips ≡ filled (decode xs) o grant
-    unfolding marked filled
+  module _ {trips : Trips} (root : trips .root ≡ levelTrips (decode xs .log) o grant (decode xs .part .accounts) (Root (o .root)))
+      (firm : trips .firm ≡ levelTrips (decode xs .log) o grant (decode xs .part .accounts) Firm) where
+    filled-is : marked (logged o grant (paid o grant (decode xs))) o trips ≡ after (filling granted o grant) (decode xs)
+    unfolding marked after partAfter clockAfter accountsAfter locksAfter logAfter trippedBy rulesIn
     filled-is =
         let s = decode xs in
         λ k. record {
-          clock = o .time;
-          firm = s .firm;
-          roots = s .roots;
-          accounts = map (credited o grant) (s .accounts);
-          firmTripped = firm k || s .firmTripped;
-          firmLocked = s .firmLocked;
-          tripped = cond (root k) (withBit (s .tripped) (o .root)) (s .tripped);
-          locked = s .locked;
-          log = joinedLog (same-rules k) (s .log) o grant;
+          part = record {
+            clock = o .time;
+            profile = s .part .profile;
+            accounts = map (credited o grant) (s .part .accounts);
+            locks = record {
+              firmTripped = firm k || s .part .locks .firmTripped;
+              firmByUser = s .part .locks .firmByUser;
+              tripped = cond (root k) (withBit (s .part .locks .tripped) (o .root)) (s .part .locks .tripped);
+              byUser = s .part .locks .byUser;
+            };
+          };
+          log = joinedLog (rulesIn s) (s .log) o grant;
         }
 
     pub filled-memory : {zs ws : List ℕ} → Holds (logged o grant (paid o grant (decode xs))) xs zs → ws ≡ stored (marked (decode zs) o trips) zs
-        → ws ≡ stored (filled (decode xs) o grant) xs
+        → ws ≡ stored (after (filling granted o grant) (decode xs)) xs
     filled-memory h e = step-on h (λ t. marked t o trips) e ∙ ap (λ (s : State). stored s xs) filled-is

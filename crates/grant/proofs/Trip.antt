@@ -7,6 +7,7 @@ use mathlib.Core.Bool.{Bool, true, false, cond, not, _&&_, _||_, false≢true, a
 use mathlib.Core.List.{List, [], _∷_}
 use lib.Dec.{eqb, ltb}
 use borrow.Author.Tests.{ltb-true, eqb-true, eqb-false, eq-eqb, ne-eqb}
+use Rattle.rules.specs.Amounts.{numberOf}
 use Rattle.rules.specs.Rules.{levelOf, covers, isRate, countedOf, added, ceiling}
 use Rattle.rules.specs.Allowance.{trips}
 use Rattle.rules.specs.declared.Level.{Level}
@@ -14,10 +15,11 @@ use Rattle.rules.specs.declared.Level.the-variants.{Firm, Root}
 use Rattle.rules.specs.declared.Kind.{Kind}
 use Rattle.rules.specs.declared.Kind.the-variants.{Rate, Absolute}
 use Rattle.rules.specs.declared.Account.{Account}
-use Rattle.tables.specs.declared.Entry.{Entry}
-use Rattle.log.specs.Log.{entryShare, sumOf}
+use Rattle.machine.specs.declared.Entry.{Entry}
+use Rattle.machine.specs.Entries.{entryShare}
+use Rattle.laws.specs.Folds.{sumOf, anyOf}
+use Rattle.machine.specs.Offers.{counted, coversOffer, sameLevel, grantOf, levelTrips}
 use Rattle.machine.specs.declared.Offer.{Offer}
-use Rattle.machine.specs.Machine.{counted, coversOffer, sameLevel, anyOf, grantOf, levelTrips}
 use Rattle.grant.specs.Grant.{concerns, allowedBy, lowered, leastAt, fills, reachedAt}
 use Rattle.grant.proofs.Cut.{level-of, lowered-le}
 
@@ -68,7 +70,7 @@ module _ (log : List Entry) (o : Offer) (grant : ℕ) where
   unfolding trips counted fills allowedBy
   trips-so a =
       ap (λ (b : Bool). (ltb grant (o .contracts) && eqb (allowedBy log o a) grant) || b)
-      (filled-so (a .rule .kind) (a .total) (sumOf (entryShare (a .rule) (o .time)) log) (added (a .rule .limit) (o .premium) grant) (ceiling (a .rule .limit)))
+      (filled-so (a .rule .kind) (numberOf (a .total)) (sumOf (entryShare (a .rule) (o .time)) log) (added (a .rule .limit) (o .premium) grant) (ceiling (a .rule .limit)))
 
   least-test : (m n : ℕ) → grant ≤ m → grant ≤ n → eqb (min m n) grant ≡ (eqb m grant || eqb n grant)
   least-test m n h k = go (eqb m grant) refl (eqb n grant) refl

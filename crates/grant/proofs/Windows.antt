@@ -4,8 +4,8 @@ use native.Mathlib.Nat.{zero-max}
 use native.Mathlib.Omega.{arith}
 use mathlib.Core.Path.{_≡_, refl, sym, ap, ap₂, _∙_}
 use mathlib.Core.Bool.{Bool, true, _&&_, _||_}
-use mathlib.Core.List.{List, [], _∷_, map}
-use lib.ListN.{length, getD, drop, drop-of-length-le, List·getD-map}
+use mathlib.Core.List.{List, [], _∷_}
+use lib.ListN.{length, getD, drop, drop-of-length-le}
 use lib.Dec.{ltb, leb}
 use borrow.Author.Tests.{lt-ltb, leb-true}
 use Rattle.laws.specs.Tests.{and-l, and-r}
@@ -13,12 +13,13 @@ use Rattle.rules.specs.Rules.{isRate}
 use Rattle.rules.specs.declared.Kind.{Kind}
 use Rattle.rules.specs.declared.Kind.the-variants.{Rate, Absolute}
 use Rattle.rules.specs.declared.Rule.{Rule}
-use Rattle.rules.specs.declared.Account.{Account}
-use Rattle.tables.specs.Tables.{every}
-use Rattle.tables.specs.RulePlace.{isLimit, isKind, isScope, isRule}
-use Rattle.state.specs.Sound.{hasRate}
-use Rattle.state.proofs.Stored.{map-length}
-use Rattle.machine.specs.Machine.{windowOf, longest, noAccount}
+use Rattle.laws.specs.Folds.{every}
+use Rattle.rules.specs.Valid.{isLimit, isKind, isScope, isRule, hasRate}
+use Rattle.machine.specs.Offers.{windowOf, longest}
+use Rattle.machine.specs.State.{State, rulesIn}
+use Rattle.machine.specs.Remaining.{noAccount}
+use Rattle.state.specs.Laid.{Fits}
+use Rattle.grant.proofs.Memory.{many-accounts, account-rule}
 use Rattle.grant.proofs.Cut.{next}
 
 -- after i rules the longest window is n
@@ -74,13 +75,12 @@ rate-longest roots (rule ∷ rest) h =
       omega (arith, w .1, r .1),
     )
 
--- the same for the rules of accounts
-pub spanned-account : (accounts : List Account) {i n m w : ℕ} {rule : Rule} → Spanned (map (λ a. a .rule) accounts) i n → i < length accounts
-    → rule ≡ getD accounts i noAccount .rule → w ≡ windowOf (rule .kind) → m ≡ max w n → Spanned (map (λ a. a .rule) accounts) (i + 1) m
-spanned-account accounts {i} s l is w e =
-    spanned-more (noAccount .rule) s (omega (arith, map-length (λ a. a .rule) accounts))
-    (w ∙ ap (λ (r : Rule). windowOf (r .kind)) (is ∙ sym (List·getD-map (λ (a : Account). a .rule) accounts i noAccount))) e
+-- the same for the rules of a state, by its accounts
+module _ (s : State) (f : Fits s) where
+  pub spanned-account : {i n m w : ℕ} {rule : Rule} → Spanned (rulesIn s) i n → i < length (s .part .accounts)
+      → rule ≡ getD (s .part .accounts) i noAccount .rule → w ≡ windowOf (rule .kind) → m ≡ max w n → Spanned (rulesIn s) (i + 1) m
+  spanned-account {i} t l is w e =
+      spanned-more (noAccount .rule) t (omega (arith, many-accounts f)) (w ∙ ap (λ (r : Rule). windowOf (r .kind)) (is ∙ sym (account-rule f i))) e
 
-pub spanned-end : (accounts : List Account) {i n : ℕ} → Spanned (map (λ a. a .rule) accounts) i n → length accounts ≤ i
-    → n ≡ longest (map (λ a. a .rule) accounts)
-spanned-end accounts s l = spanned-done s (omega (arith, map-length (λ a. a .rule) accounts))
+  pub spanned-end : {i n : ℕ} → Spanned (rulesIn s) i n → length (s .part .accounts) ≤ i → n ≡ longest (rulesIn s)
+  spanned-end t l = spanned-done t (omega (arith, many-accounts f))

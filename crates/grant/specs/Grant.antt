@@ -7,20 +7,24 @@ use lib.ListN.{length, getD, set}
 use lib.Dec.{eqb}
 use Rattle.measures.specs.Ranges.{In, times, units, premiums, offers}
 use Rattle.bits.specs.Locks.{withBit}
+use Rattle.rules.specs.Amounts.{numberOf}
 use Rattle.rules.specs.Rules.{levelOf, isRate, added, ceiling}
 use Rattle.rules.specs.Allowance.{allowance}
 use Rattle.rules.specs.declared.Level.{Level}
 use Rattle.rules.specs.declared.Level.the-variants.{Firm, Root}
 use Rattle.rules.specs.declared.Account.{Account}
-use Rattle.tables.specs.Tables.{every}
-use Rattle.tables.specs.declared.Entry.{Entry}
-use Rattle.made.specs.Parts.{isTotal}
-use Rattle.log.specs.Log.{areOrdered}
-use Rattle.state.specs.State.{State, profileIn, stored, decode}
-use Rattle.state.specs.Sound.{hasRate}
+use Rattle.laws.specs.Folds.{every, anyOf}
+use Rattle.machine.specs.declared.Entry.{Entry}
+use Rattle.rules.specs.Valid.{isTotal, hasRate}
+use Rattle.machine.specs.Entries.{areOrdered, recent}
+use Rattle.machine.specs.State.{State, rulesIn}
+use Rattle.machine.specs.Offers.{counted, coversOffer, sameLevel, grantOf, levelTrips, credited, longest}
+use Rattle.machine.specs.Remaining.{noAccount}
+use Rattle.state.specs.State.{stored, decode}
 use Rattle.state.specs.Laid.{Laid, withAccounts}
 use Rattle.machine.specs.declared.Offer.{Offer}
-use Rattle.machine.specs.Machine.{counted, coversOffer, sameLevel, anyOf, grantOf, levelTrips, credited, longest, recent, filled, noAccount}
+use Rattle.machine.specs.Deeds.{granted, filling}
+use Rattle.machine.specs.Step.{after}
 use Rattle.grant.specs.declared.Cuts.{Cuts}
 use Rattle.grant.specs.declared.Reached.{Reached}
 use Rattle.grant.specs.declared.Trips.{Trips}
@@ -45,7 +49,7 @@ leastAt log o (a ∷ rest) level = lowered log o level a (leastAt log o rest lev
 -- an absolute rule whose total after the grant equals its limit
 unfoldable pub fills : Offer → ℕ → Account → Bool
 fills o grant a =
-    cond (isRate (a .rule .kind)) false (eqb (a .total + added (a .rule .limit) (o .premium) grant) (ceiling (a .rule .limit)))
+    cond (isRate (a .rule .kind)) false (eqb (numberOf (a .total) + added (a .rule .limit) (o .premium) grant) (ceiling (a .rule .limit)))
 
 -- one of the level's absolute rules that cover the offer stands at its limit after the grant
 unfoldable pub reachedAt : Offer → ℕ → List Account → Level → Bool
@@ -53,12 +57,12 @@ reachedAt o grant accounts level = anyOf (λ a. concerns o level a && fills o gr
 
 -- the account of rule i in a memory
 abbrev pub accountAt : List ℕ → ℕ → Account
-accountAt xs i = getD (decode xs .accounts) i noAccount
+accountAt xs i = getD (decode xs .part .accounts) i noAccount
 
 -- a memory in which a state is laid out, and an offer in range for it
 pub record Asked (xs : List ℕ) (o : Offer) : Type 0 where
   pub laid : Laid xs
-  pub root : o .root < length (decode xs .roots)
+  pub root : o .root < length (decode xs .part .profile .roots)
   pub unit : In units (o .unit)
   pub premium : In premiums (o .premium)
   pub contracts : In offers (o .contracts)
@@ -66,7 +70,7 @@ pub record Asked (xs : List ℕ) (o : Offer) : Type 0 where
 
 -- each total of a state is in its range
 abbrev pub areTotals : State → Bool
-areTotals s = every (λ a. isTotal (a .rule) (a .total)) (s .accounts)
+areTotals s = every (λ a. isTotal (a .rule) (a .total)) (s .part .accounts)
 
 -- what rule i leaves of the cuts
 pub record Lowered (xs : List ℕ) (o : Offer) (i : ℕ) (before after : Cuts) : Type 0 where
@@ -75,36 +79,39 @@ pub record Lowered (xs : List ℕ) (o : Offer) (i : ℕ) (before after : Cuts) :
 
 -- the least that the rules of the offer's root allow, and of the firm
 pub record AreCuts (xs : List ℕ) (o : Offer) (cuts : Cuts) : Type 0 where
-  pub root : cuts .root ≡ leastAt (decode xs .log) o (decode xs .accounts) (Root (o .root))
-  pub firm : cuts .firm ≡ leastAt (decode xs .log) o (decode xs .accounts) Firm
+  pub root : cuts .root ≡ leastAt (decode xs .log) o (decode xs .part .accounts) (Root (o .root))
+  pub firm : cuts .firm ≡ leastAt (decode xs .log) o (decode xs .part .accounts) Firm
 
 -- rule i of a memory is credited with a grant, and after tells whether it, or one before, stands at its limit
 pub record Credited (o : Offer) (grant i : ℕ) (xs ys : List ℕ) (before after : Reached) : Type 0 where
-  pub memory : ys ≡ stored (withAccounts (decode xs) (set (decode xs .accounts) i (credited o grant (accountAt xs i)))) xs
+  pub memory : ys ≡ stored (withAccounts (decode xs) (set (decode xs .part .accounts) i (credited o grant (accountAt xs i)))) xs
   pub root : after .root ≡ (before .root || (concerns o (Root (o .root)) (accountAt xs i) && fills o grant (accountAt xs i)))
   pub firm : after .firm ≡ (before .firm || (concerns o Firm (accountAt xs i) && fills o grant (accountAt xs i)))
 
 -- every rule of a memory is credited with a grant, and after tells which levels have an absolute rule at its limit
 pub record AllCredited (o : Offer) (grant : ℕ) (xs ys : List ℕ) (after : Reached) : Type 0 where
-  pub memory : ys ≡ stored (withAccounts (decode xs) (map (credited o grant) (decode xs .accounts))) xs
-  pub root : after .root ≡ reachedAt o grant (decode xs .accounts) (Root (o .root))
-  pub firm : after .firm ≡ reachedAt o grant (decode xs .accounts) Firm
+  pub memory : ys ≡ stored (withAccounts (decode xs) (map (credited o grant) (decode xs .part .accounts))) xs
+  pub root : after .root ≡ reachedAt o grant (decode xs .part .accounts) (Root (o .root))
+  pub firm : after .firm ≡ reachedAt o grant (decode xs .part .accounts) Firm
 
 -- the log has a place for a grant of this offer
 abbrev pub HasRoom : State → Offer → ℕ → Type 0
-HasRoom s o grant = hasRate (profileIn s .rules) ≡ true → 0 < grant → length (recent (longest (profileIn s .rules)) (o .time) (s .log)) < 512
+HasRoom s o grant = hasRate (rulesIn s) ≡ true → 0 < grant → length (recent (longest (rulesIn s)) (o .time) (s .log)) < 512
 
 -- a state at the offer's time, with the trips of its root and of the firm
 unfoldable pub marked : State → Offer → Trips → State
 marked s o trips = record {
-  clock = o .time;
-  firm = s .firm;
-  roots = s .roots;
-  accounts = s .accounts;
-  firmTripped = trips .firm || s .firmTripped;
-  firmLocked = s .firmLocked;
-  tripped = cond (trips .root) (withBit (s .tripped) (o .root)) (s .tripped);
-  locked = s .locked;
+  part = record {
+    clock = o .time;
+    profile = s .part .profile;
+    accounts = s .part .accounts;
+    locks = record {
+      firmTripped = trips .firm || s .part .locks .firmTripped;
+      firmByUser = s .part .locks .firmByUser;
+      tripped = cond (trips .root) (withBit (s .part .locks .tripped) (o .root)) (s .part .locks .tripped);
+      byUser = s .part .locks .byUser;
+    };
+  };
   log = s .log;
 }
 
@@ -113,12 +120,12 @@ pub record Ready (xs : List ℕ) (o : Offer) (grant : ℕ) (cuts : Cuts) : Type 
   pub asked : Asked xs o
   pub totals : areTotals (decode xs) ≡ true
   pub levels : AreCuts xs o cuts
-  pub least : grant ≡ grantOf (decode xs .log) o (decode xs .accounts)
+  pub least : grant ≡ grantOf (decode xs .log) o (decode xs .part .accounts)
   pub room : HasRoom (decode xs) o grant
   pub ordered : areOrdered 0 (o .time) (decode xs .log) ≡ true
 
 -- the memory after a grant, and the levels that it trips
 pub record Filled (xs : List ℕ) (o : Offer) (grant : ℕ) (ys : List ℕ) (trips : Trips) : Type 0 where
-  pub memory : ys ≡ stored (filled (decode xs) o grant) xs
-  pub root : trips .root ≡ levelTrips (decode xs .log) o grant (decode xs .accounts) (Root (o .root))
-  pub firm : trips .firm ≡ levelTrips (decode xs .log) o grant (decode xs .accounts) Firm
+  pub memory : ys ≡ stored (after (filling granted o grant) (decode xs)) xs
+  pub root : trips .root ≡ levelTrips (decode xs .log) o grant (decode xs .part .accounts) (Root (o .root))
+  pub firm : trips .firm ≡ levelTrips (decode xs .log) o grant (decode xs .part .accounts) Firm

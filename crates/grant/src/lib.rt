@@ -2,22 +2,28 @@
 ghost use mathlib.Core.Path.{_≡_};
 ghost use mathlib.Core.Bool.{true, cond, not};
 ghost use Prim.Native.Nat.{_≤_, _<_, min, max};
-ghost use lib.ListN.{length, getD};
-ghost use Rattle.measures.specs.Ranges.{In, premiums, offers, totals};
+ghost use lib.ListN.{length};
+ghost use Rattle.measures.specs.Ranges.{premiums, offers};
 ghost use Rattle.rules.specs.Rules.{levelOf, isRate};
 ghost use Rattle.rules.specs.declared.Level.the-variants.{Firm, Root};
-ghost use Rattle.log.specs.Log.{areOrdered};
-ghost use Rattle.state.specs.State.{profileIn, stored, decode};
+ghost use Rattle.machine.specs.Entries.{areOrdered};
+ghost use Rattle.machine.specs.Offers.{counted, sameLevel, windowOf, longest, joinedLog};
+ghost use Rattle.log.specs.Memo.{RightTwo};
+ghost use Rattle.rules.specs.Amounts.{amountIn};
+ghost use Rattle.rules.specs.Valid.{isTotal};
+ghost use Rattle.machine.specs.State.{rulesIn};
+ghost use Rattle.state.specs.State.{stored, decode};
 ghost use Rattle.state.specs.Laid.{Laid, withLog};
-ghost use Rattle.machine.specs.Machine.{counted, sameLevel, windowOf, longest, joinedLog};
 ghost use Rattle.grant.specs.Grant.{accountAt, Asked, areTotals, Lowered, AreCuts, Credited, AllCredited, HasRoom, marked, Ready, Filled};
+use log::Two;
+use machine::Entry;
 use machine::Offer;
 use measures::Contracts;
 use measures::TenThousandths;
+use rules::Amount;
 use rules::Kind;
 use rules::Rule;
 use rules::Scope;
-use tables::Entry;
 
 // The least that the rules of the offer's root allow of it, and the least that those of the firm do.
 pub struct Cuts {
@@ -87,7 +93,7 @@ fn window(rule: Rule) -> u64
 
 // Rule i of a memory.
 fn rule_in(m: &[u64], i: usize) -> Rule
-    requires { ⌜ Laid (now m) × (i < length (decode (now m) .accounts)) ⌝ }
+    requires { ⌜ Laid (now m) × (i < length (decode (now m) .part .accounts)) ⌝ }
     ensures { λ r. ⌜ r ≡ accountAt (now (m .entry)) i .rule ⌝ }
 {
     let rules = &m[74..586];
@@ -97,39 +103,69 @@ fn rule_in(m: &[u64], i: usize) -> Rule
     tables::rule_of(first, second)
 }
 
+// What a rule has counted, and the memos after the log was asked for it.
+struct Told {
+    amount: Amount,
+    memos: Two,
+}
+
 // What rule i has counted at a time: its total, or what the log counts for it.
-fn counted_by(m: &[u64], i: usize, rule: Rule, time: u64) -> u64
-    requires { ⌜ Laid (now m) × (i < length (decode (now m) .accounts)) × (rule ≡ accountAt (now m) i .rule) ⌝ }
-    ensures { λ r. ⌜ r ≡ counted (decode (now (m .entry)) .log) time (accountAt (now (m .entry)) i) ⌝ }
+fn counted_by(m: &[u64], i: usize, rule: Rule, time: u64, memos: Two) -> Told
+    requires { ⌜ Laid (now m) × (i < length (decode (now m) .part .accounts)) × (rule ≡ accountAt (now m) i .rule) × RightTwo (decode (now m) .log) memos ⌝ }
+    ensures { λ r. ⌜ (r .amount ≡ amountIn (rule .limit) (counted (decode (now (m .entry)) .log) time (accountAt (now (m .entry)) i))) × RightTwo (decode (now (m .entry)) .log) (r .memos) ⌝ }
 {
+    let limit = rule.limit;
     if is_absolute(rule) {
         let at = 586 + i;
-        return m[at];
+        let amount = limit.amount(m[at]);
+        return Told { amount, memos };
     }
     let k = m[5] as usize;
-    log::counted(&m[842..1866], k, rule, time)
+    let next = log::recalled(&m[842..1866], k, rule, time, memos);
+    let last = next.last;
+    let amount = log::sum_in(limit, last);
+    Told {
+        amount,
+        memos: next,
+    }
+}
+
+// The cuts after some rules, and the memos after these.
+struct Lowering {
+    cuts: Cuts,
+    memos: Two,
 }
 
 // The cuts after rule i: that of its level is lowered to what it allows, if it covers the offer.
-fn lower(m: &[u64], o: Offer, i: usize, cuts: Cuts) -> Cuts
-    requires { ⌜ Asked (now m) o × (i < length (decode (now m) .accounts)) ⌝ }
-    ensures { λ r. ⌜ Lowered (now (m .entry)) o i cuts r ⌝ }
+fn lower(m: &[u64], o: Offer, i: usize, cuts: Cuts, memos: Two) -> Lowering
+    requires { ⌜ Asked (now m) o × (i < length (decode (now m) .part .accounts)) × RightTwo (decode (now m) .log) memos ⌝ }
+    ensures { λ r. ⌜ Lowered (now (m .entry)) o i cuts (r .cuts) × RightTwo (decode (now (m .entry)) .log) (r .memos) ⌝ }
 {
     let rule = rule_in(m, i);
     if !rule.covers(o.root, o.unit) {
-        return cuts;
+        return Lowering { cuts, memos };
     }
-    let counted = counted_by(m, i, rule, o.time);
+    let told = counted_by(m, i, rule, o.time, memos);
+    let next = told.memos;
+    let counted = told.amount;
     let most = rule.allowance(counted, TenThousandths(o.premium), Contracts(o.contracts));
     if is_firm(rule) {
-        return Cuts {
+        let lowered = Cuts {
             root: cuts.root,
             firm: least(most.0, cuts.firm),
         };
+        return Lowering {
+            cuts: lowered,
+            memos: next,
+        };
     }
-    Cuts {
+    let lowered = Cuts {
         root: least(most.0, cuts.root),
         firm: cuts.firm,
+    };
+    Lowering {
+        cuts: lowered,
+        memos: next,
     }
 }
 
@@ -143,9 +179,12 @@ pub fn cuts_of(m: &[u64], o: Offer) -> Cuts
         root: o.contracts,
         firm: o.contracts,
     };
+    let mut memos = log::no_memos();
     let mut i: usize = 0;
     while i < rules {
-        cuts = lower(m, o, i, cuts);
+        let after = lower(m, o, i, cuts, memos);
+        cuts = after.cuts;
+        memos = after.memos;
         i += 1;
     }
     cuts
@@ -154,7 +193,7 @@ pub fn cuts_of(m: &[u64], o: Offer) -> Cuts
 // The longest window of the rules, 0 if none is a rate rule.
 pub fn longest_window(m: &[u64]) -> u64
     requires { ⌜ Laid (now m) ⌝ }
-    ensures { λ r. ⌜ r ≡ longest (profileIn (decode (now (m .entry))) .rules) ⌝ }
+    ensures { λ r. ⌜ r ≡ longest (rulesIn (decode (now (m .entry)))) ⌝ }
 {
     let rules = m[4] as usize;
     let mut longest: u64 = 0;
@@ -176,18 +215,20 @@ fn pick(test: bool, a: u64, b: u64) -> u64
 
 // Rule i is credited with a grant: its total rises if it is absolute and covers the offer.
 fn credit_one(m: &mut [u64], o: Offer, grant: u64, i: usize, before: Reached) -> Reached
-    requires { ⌜ Laid (now m) × (i < length (decode (now m) .accounts)) × In totals (accountAt (now m) i .total) × (o .premium ≤ premiums .most) × (grant ≤ offers .most) ⌝ }
+    requires { ⌜ Laid (now m) × (i < length (decode (now m) .part .accounts)) × (isTotal (accountAt (now m) i .rule) (accountAt (now m) i .total) ≡ true) × (o .premium ≤ premiums .most) × (grant ≤ offers .most) ⌝ }
     ensures { λ r. ⌜ Credited o grant i (now (m .entry)) (now (m .exit)) before r ⌝ }
 {
     let rule = rule_in(m, i);
     if !(is_absolute(rule) & rule.covers(o.root, o.unit)) {
         return before;
     }
+    let limit = rule.limit;
     let at = 586 + i;
-    let total = m[at];
+    let total = limit.amount(m[at]);
     let account = rule.filled(total, TenThousandths(o.premium), Contracts(grant));
-    m[at] = account.total;
-    let full = rule.reached(account.total);
+    let after = account.total;
+    m[at] = after.number();
+    let full = rule.reached(after);
     let firm = is_firm(rule);
     Reached {
         root: before.root | (!firm & full),
@@ -216,7 +257,7 @@ fn credit(m: &mut [u64], o: Offer, grant: u64) -> Reached
 // The fill joins the log, if the grant is above 0 and a rule is a rate rule.
 fn join_log(m: &mut [u64], o: Offer, grant: u64)
     requires { ⌜ Asked (now m) o × (grant ≤ offers .most) × HasRoom (decode (now m)) o grant × (areOrdered 0 (o .time) (decode (now m) .log) ≡ true) ⌝ }
-    ensures { λ _. ⌜ now (m .exit) ≡ stored (withLog (decode (now (m .entry))) (joinedLog (profileIn (decode (now (m .entry))) .rules) (decode (now (m .entry)) .log) o grant)) (now (m .entry)) ⌝ }
+    ensures { λ _. ⌜ now (m .exit) ≡ stored (withLog (decode (now (m .entry))) (joinedLog (rulesIn (decode (now (m .entry)))) (decode (now (m .entry)) .log) o grant)) (now (m .entry)) ⌝ }
 {
     let longest = longest_window(m);
     if !((0 < longest) & (0 < grant)) {
@@ -238,7 +279,7 @@ fn join_log(m: &mut [u64], o: Offer, grant: u64)
 
 // The clock and the trips.
 fn mark(m: &mut [u64], o: Offer, trips: Trips)
-    requires { ⌜ Laid (now m) × (o .root < length (decode (now m) .roots)) ⌝ }
+    requires { ⌜ Laid (now m) × (o .root < length (decode (now m) .part .profile .roots)) ⌝ }
     ensures { λ _. ⌜ now (m .exit) ≡ stored (marked (decode (now (m .entry))) o trips) (now (m .entry)) ⌝ }
 {
     let firm = pick(trips.firm, 1, m[6]);

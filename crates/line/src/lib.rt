@@ -11,6 +11,7 @@ use measures::Dollars;
 use measures::DollarsRead;
 use measures::Executions;
 use measures::ExecutionsRead;
+use measures::Time;
 use rules::Kind;
 use rules::Limit;
 use rules::Rule;
@@ -62,11 +63,6 @@ struct Tail {
     call: u64,
     month: u64,
 }
-
-// Windows of rate types, in milliseconds.
-const LEAST_WINDOW: u64 = 100;
-
-const MOST_WINDOW: u64 = 86_400_000;
 
 // Whether a number was read.
 fn is_read(n: Number) -> bool
@@ -139,8 +135,8 @@ fn type_of(f: &[u8]) -> TypeRead
 fn window_of(time: u64) -> u64
     ensures { λ r. ⌜ r ≡ max 100 time ⌝ }
 {
-    if time < LEAST_WINDOW {
-        LEAST_WINDOW
+    if time < Time::WINDOW_LEAST {
+        Time::WINDOW_LEAST
     } else {
         time
     }
@@ -363,7 +359,7 @@ fn line_in(firm: u64, line: &[u8]) -> Line
     let LimitRead::Is(limit) = named.limit(head.limit) else {
         return Line::Refused(8);
     };
-    if MOST_WINDOW < tail.time {
+    if Time::WINDOW_MOST < tail.time {
         return Line::Refused(8);
     }
     if level_clash(head.root, tail.firmwide) {

@@ -13,7 +13,7 @@ use Rattle.laws.specs.Lists.{from, ended}
 use Rattle.text.specs.Text.{value}
 use Rattle.made.specs.Names.{digitsUpTo, nameBytes}
 use Rattle.made.proofs.Digits.{numeral-more, numeral-from, digits-none, digits-last, digits-few, digits-number}
-use Rattle.machine.specs.Machine.{numbers}
+use Rattle.machine.specs.Judge.{numbers}
 use Rattle.machine.specs.declared.Answer.{Answer}
 use Rattle.machine.specs.declared.Answer.the-variants.{Refused, Judged, Left, Standing as Stand}
 use Rattle.lines.specs.Lines.{digitBytes, decimal, spaced}

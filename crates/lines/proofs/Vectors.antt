@@ -7,7 +7,7 @@ use mathlib.Core.List.{List, [], _∷_, _++_}
 use Rattle.text.specs.Text.{bytes, numeral, nameNumber}
 use Rattle.made.specs.Names.{digitsUpTo, nameBytes}
 use Rattle.profile.specs.declared.Reading.the-variants.{Accepted, Refused as NotArmed}
-use Rattle.machine.specs.Machine.{numbers}
+use Rattle.machine.specs.Judge.{numbers}
 use Rattle.machine.specs.declared.Answer.the-variants.{Refused, Judged}
 use Rattle.lines.specs.Lines.{digitBytes, decimal, spaced, armLine, recordLine}
 

@@ -5,7 +5,7 @@ use Rattle.text.specs.Text.{bytes}
 use Rattle.made.specs.Names.{digitsUpTo, nameBytes}
 use Rattle.profile.specs.declared.Reading.{Reading}
 use Rattle.profile.specs.declared.Reading.the-variants.{Accepted, Refused}
-use Rattle.machine.specs.Machine.{numbers}
+use Rattle.machine.specs.Judge.{numbers}
 use Rattle.machine.specs.declared.Answer.{Answer}
 
 -- the digits of a number in a base as bytes, where `naught` stands for 0; none in front that is 0, and a 64-bit number has at most 20

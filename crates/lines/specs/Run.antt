@@ -6,7 +6,7 @@ use lib.ListN.{length, take, drop}
 use Rattle.tables.specs.Tables.{places}
 use Rattle.profile.specs.declared.Reading.{Reading as Arming}
 use Rattle.profile.specs.declared.Reading.the-variants.{Accepted, Refused as NotArmed}
-use Rattle.machine.specs.Machine.{Call, order, lockout, offer}
+use Rattle.machine.specs.Calls.{Call, order, lockout, offer}
 use Rattle.machine.specs.declared.Answer.{Answer}
 use Rattle.machine.specs.declared.Answer.the-variants.{Refused}
 use Rattle.calls.specs.Calls.{callAnswer, callMemory}

@@ -6,10 +6,11 @@ use native.Mathlib.Omega.{arith}
 use lib.Bits.{bitAnd, and-zero-r, and-block}
 use Rattle.rules.specs.declared.Level.{Level}
 use Rattle.rules.specs.declared.Level.the-variants.{Firm, Root}
-use Rattle.tables.specs.EntryPlace.{flagNumber, isEntry}
-use Rattle.tables.specs.declared.Entry.{Entry}
+use Rattle.tables.specs.EntryPlace.{flagNumber}
+use Rattle.machine.specs.Entries.{isEntry}
+use Rattle.machine.specs.declared.Entry.{Entry}
+use Rattle.machine.specs.Order.{unflagged}
 use Rattle.tables.proofs.EntryPlace.{Ranged, entry-ranged}
-use Rattle.log.specs.Log.{unflagged}
 use Rattle.log.specs.Sieve.{fillNumber, flagDigits, withoutFlags}
 use Rattle.log.proofs.Sifting.{flags-most, fill-is}
 

@@ -4,3 +4,5 @@ pub mod Sums
 pub mod Sifting
 pub mod Flags
 pub mod Turns
+pub mod Memos
+pub mod Leaving

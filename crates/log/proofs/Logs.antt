@@ -7,13 +7,15 @@ use native.Mathlib.Omega.{arith}
 use lib.ListN.{length, getD, take, drop}
 use Rattle.laws.specs.Tests.{and-l, and-r}
 use Rattle.laws.specs.Lists.{same, same-eq}
-use Rattle.tables.specs.Tables.{allZero, places, isPlace, every, placesPass}
-use Rattle.tables.specs.EntryPlace.{entryAt, entryNumbers, isEntry, isEntryPlace, logTable}
-use Rattle.tables.specs.declared.Entry.{Entry}
+use Rattle.tables.specs.Tables.{allZero, places, isPlace, placesPass}
+use Rattle.laws.specs.Folds.{every}
+use Rattle.machine.specs.Entries.{isEntry, areOrdered}
+use Rattle.machine.specs.declared.Entry.{Entry}
+use Rattle.tables.specs.EntryPlace.{entryAt, entryNumbers, isEntryPlace, logTable}
 use Rattle.tables.proofs.Parts.{two, and-i}
 use Rattle.tables.proofs.Tables.{Codec, pass-each, each-pass, is-table, valid-places, length-table, place-table, rest-table}
 use Rattle.tables.proofs.EntryPlace.{entry-codec, entry-wider}
-use Rattle.log.specs.Log.{areOrdered, logHolds, Held, entriesOf}
+use Rattle.log.specs.Log.{logHolds, Held, entriesOf}
 
 -- an entry of at most 64 roots in its place
 pub codec : Codec 2 (isEntry 64) entryAt entryNumbers

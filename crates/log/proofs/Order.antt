@@ -3,7 +3,7 @@ use Prim.Native.Nat.{ℕ, _+_, _*_, _-_, _%_, _≤_, _<_, zero-le}
 use native.Mathlib.Nat.{sub-zero, zero-mul, le-trans}
 use native.Mathlib.Omega.{arith}
 use mathlib.Core.Path.{_≡_, refl, sym, _∙_}
-use mathlib.Core.Bool.{Bool, true, false, _&&_, and-true, false≢true}
+use mathlib.Core.Bool.{Bool, true, false, _&&_, and-true, and-false, false≢true}
 use mathlib.Core.List.{List}
 use lib.ListN.{drop}
 use lib.Dec.{leb}
@@ -14,7 +14,8 @@ use Rattle.tables.specs.Tables.{allZero, places, placesPass}
 use Rattle.tables.specs.EntryPlace.{entryAt, isEntryPlace}
 use Rattle.tables.proofs.Parts.{same-test, and-i}
 use Rattle.tables.proofs.Tables.{pass-on, places-on}
-use Rattle.log.specs.Log.{areOrdered, logHolds}
+use Rattle.log.specs.Log.{logHolds}
+use Rattle.machine.specs.Entries.{areOrdered}
 
 -- the places from i on hold entries in order, none earlier than `from`
 unfoldable pub leftHolds : ℕ → ℕ → ℕ → List ℕ → ℕ → ℕ → Bool
@@ -91,6 +92,14 @@ module _ (n clock k : ℕ) (xs : List ℕ) (from i time : ℕ) (rest : Bool) (is
           let valid : rest ≡ true = search (and-l, and-r) depth 14 in
           let after : leb from (time % 134_217_728) ≡ true = search (and-l, and-r) depth 14 in
           sym h ∙ and-i rest (leb from time) valid (rw (kept low) at after)
+
+  -- both in one: what was good so far, with this place
+  pub left-step : (good : Bool) → (good && fromHolds n clock k xs from i) ≡ ((good && (rest && leb from time)) && fromHolds n clock k xs time (i + 1))
+  left-step good = go (rest && leb from time) refl
+    where
+      go : (b : Bool) → (rest && leb from time) ≡ b → (good && fromHolds n clock k xs from i) ≡ ((good && (rest && leb from time)) && fromHolds n clock k xs time (i + 1))
+      go true e = rw (left-on e, e, and-true)
+      go false e = rw (left-off e, e, and-false)
 
 pub left-start : (n clock k : ℕ) (xs : List ℕ) → leftHolds n clock k xs 0 0 ≡ fromHolds n clock k xs 0 0
 left-start n clock k xs = rw (le-leb 0 clock zero-le)

@@ -18,15 +18,16 @@ use Rattle.rules.specs.declared.Kind.the-variants.{Rate, Absolute}
 use Rattle.rules.specs.declared.Limit.{Limit}
 use Rattle.rules.specs.declared.Rule.{Rule}
 use Rattle.rules.proofs.Laws.{added-most}
-use Rattle.tables.specs.Tables.{every}
-use Rattle.tables.specs.RulePlace.{isLimit, isKind, isScope, isRule}
+use Rattle.laws.specs.Folds.{every, sumOf}
+use Rattle.rules.specs.Valid.{isLimit, isKind, isScope, isRule}
+use Rattle.machine.specs.Entries.{isEntry, flagOf, entryShare}
+use Rattle.machine.specs.declared.Entry.{Entry}
 use Rattle.bits.specs.Fields.{total, packed}
-use Rattle.tables.specs.EntryPlace.{flagNumber, fillValues, entryAt, entryNumbers, isEntry, isEntryPlace}
-use Rattle.tables.specs.declared.Entry.{Entry}
+use Rattle.tables.specs.EntryPlace.{flagNumber, fillValues, entryAt, entryNumbers, isEntryPlace}
 use Rattle.tables.proofs.Parts.{same-test, and-i}
 use Rattle.tables.proofs.Tables.{pass-each}
 use Rattle.tables.proofs.EntryPlace.{Ranged, entry-ranged}
-use Rattle.log.specs.Log.{Held, entriesOf, flagOf, entryShare, sumOf}
+use Rattle.log.specs.Log.{Held, entriesOf}
 use Rattle.log.specs.Sieve.{firstTime, sieveIn, sieveOf, passes, fillNumber, sifted}
 use Rattle.log.specs.declared.Sieve.{Sieve}
 use Rattle.log.proofs.Logs.{place-numbers, held-valid}

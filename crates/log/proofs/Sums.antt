@@ -7,11 +7,13 @@ use native.Mathlib.Nat.{sub-zero, zero-mul, zero-add, suc-mul, mul-le-mul-right}
 use native.Mathlib.Omega.{arith}
 use lib.ListN.{length, drop}
 use Rattle.laws.specs.Tests.{and-l, and-r}
-use Rattle.tables.specs.Tables.{places, every}
-use Rattle.tables.specs.EntryPlace.{entryAt, isEntry}
-use Rattle.tables.specs.declared.Entry.{Entry}
+use Rattle.tables.specs.Tables.{places}
+use Rattle.laws.specs.Folds.{every, sumOf, keep}
+use Rattle.machine.specs.Entries.{isEntry}
+use Rattle.machine.specs.declared.Entry.{Entry}
+use Rattle.tables.specs.EntryPlace.{entryAt}
 use Rattle.tables.proofs.Tables.{places-on, length-places}
-use Rattle.log.specs.Log.{Held, entriesOf, sumOf, keep}
+use Rattle.log.specs.Log.{Held, entriesOf}
 use Rattle.log.proofs.Logs.{codec, held-valid}
 
 -- the sum over the places before i, with that over the places from i on, is the whole

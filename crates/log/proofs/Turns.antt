@@ -12,12 +12,15 @@ use lib.Dec.{leb, ltb}
 use borrow.Author.Tests.{leb-true, ltb-true, lt-ltb}
 use Rattle.laws.specs.Tests.{and-l, and-r}
 use Rattle.rules.specs.declared.Level.{Level}
-use Rattle.tables.specs.Tables.{zeros, flat, table, places, every}
-use Rattle.tables.specs.EntryPlace.{amountValues, entryAt, entryNumbers, isEntry, isEntryPlace, logTable}
-use Rattle.tables.specs.declared.Entry.{Entry}
+use Rattle.tables.specs.Tables.{zeros, flat, table, places}
+use Rattle.laws.specs.Folds.{every, keep}
+use Rattle.machine.specs.Entries.{isEntry, areOrdered, isRecent, recent}
+use Rattle.machine.specs.declared.Entry.{Entry}
+use Rattle.machine.specs.Order.{unflagged}
+use Rattle.tables.specs.EntryPlace.{amountValues, entryAt, entryNumbers, isEntryPlace, logTable}
 use Rattle.tables.proofs.Parts.{and-i}
 use Rattle.tables.proofs.Tables.{zeros-add, length-zeros, length-flat, length-places, length-table, place-table, read-table, put-at, put-next}
-use Rattle.log.specs.Log.{areOrdered, Held, entriesOf, unflagged, keep, isRecent, recent, joined, OneKept, Kept}
+use Rattle.log.specs.Log.{Held, entriesOf, joined, Kept}
 use Rattle.log.specs.Sieve.{fillNumber, withoutFlags}
 use Rattle.log.proofs.Logs.{codec, place-numbers, held-valid, held-table}
 use Rattle.log.proofs.Flags.{unflagged-entry, unflagged-fill}
@@ -31,7 +34,7 @@ module _ {A : Type 0} (d : A) (p q : List A) (j : ℕ) (l : length p ≡ j) wher
       ap (λ (n : ℕ). getD (p ++ drop j q) n d) (sym a)
       ∙ getD-append-add p (drop j q) (i - j) d ∙ getD-drop j q (i - j) d ∙ ap (λ (n : ℕ). getD q n d) b
 
-  more : (a : A) → j < length q → set (p ++ drop j q) j a ≡ (p ++ (a ∷ [])) ++ drop (j + 1) q
+  pub more : (a : A) → j < length q → set (p ++ drop j q) j a ≡ (p ++ (a ∷ [])) ++ drop (j + 1) q
   more a h = rw (drop-cons q j d h, set-at p (getD q j d) (drop (suc j) q) a j l, add-one, append-snoc p a (drop (suc j) q))
 
   overlaid : j ≤ length q → length (p ++ drop j q) ≡ length q
@@ -163,39 +166,6 @@ module _ (zeroes : Level → Bool) {k : ℕ} {xs : List ℕ} {i : ℕ} {ys : Lis
       t .log ∙ ap (λ (es : List Entry). logTable (t .made ++ es)) (over h t l)
       ∙ ap logTable (append-nil (t .made) ∙ turned-made h t l refl)
 
-module _ {window time k : ℕ} {xs : List ℕ} {i j : ℕ} {ys : List ℕ} (h : Held k xs) (t : Turned (recent window time) k xs i j ys) where
-  pub keep-turn : {r : ℕ} {zs : List ℕ} → i < k → OneKept window time i j ys zs r → Turned (recent window time) k xs (i + 1) r zs
-  unfolding recent keep
-  keep-turn {r = r} {zs = zs} l o = go (isRecent window time e) refl
-    where
-      e : Entry
-      e = entryAt (drop (i * 2) ys)
-
-      rest : List Entry
-      rest = drop (i + 1) (entriesOf k xs)
-
-      next : drop i (entriesOf k xs) ≡ e ∷ rest
-      next = turned-next h t l refl
-
-      go : (b : Bool) → isRecent window time e ≡ b → Turned (recent window time) k xs (i + 1) r zs
-      go true test =
-          let one : r ≡ j + 1 = o .count ∙ rw test in
-          rw one (turned-put h t l (turned-entry h t l refl) (rw (next, test)) (o .log ∙ rw test))
-      go false test =
-          let none : r ≡ j = o .count ∙ rw test in
-          let same : zs ≡ ys = o .log ∙ rw test in
-          rw (none, same) (turned-skip h t (rw (next, test)))
-
-  pub keep-done : k ≤ i → j ≤ k → Kept window time k xs ys j
-  unfolding recent keep
-  keep-done l most =
-      let made = turned-made h t l refl in
-      record {
-        count = sym (t .count) ∙ ap length made;
-        most = most;
-        log = t .log ∙ ap (λ (es : List Entry). logTable (es ++ drop j (entriesOf k xs))) made;
-      }
-
 -- what passes a test is no more than all, and it is all where it is as many
 module _ {A : Type 0} (test : A → Bool) where
   pub keep-most : (xs : List A) → length (keep test xs) ≤ length xs
@@ -208,7 +178,7 @@ module _ {A : Type 0} (test : A → Bool) where
       go false l = omega arith
 
 -- where all entries are inside the window nothing moves
-all-kept : {window time k : ℕ} {xs : List ℕ} → Held k xs → recent window time (entriesOf k xs) ≡ entriesOf k xs → Kept window time k xs xs k
+pub all-kept : {window time k : ℕ} {xs : List ℕ} → Held k xs → recent window time (entriesOf k xs) ≡ entriesOf k xs → Kept window time k xs xs k
 all-kept {k = k} {xs = xs} h same =
     let es = entriesOf k xs in
     let long = length-places codec k xs in
@@ -219,13 +189,8 @@ all-kept {k = k} {xs = xs} h same =
       log = held-table h ∙ ap logTable (sym (rw (same, drop-of-length-le es end) (append-nil es)));
     }
 
-pub none-kept : {window time k : ℕ} {xs : List ℕ} → Held k xs → k ≡ 0 → Kept window time k xs xs 0
-unfolding recent keep places
-none-kept {window = window} {time = time} {k = k} {xs = xs} h none =
-    subst (λ (n : ℕ). Kept window time k xs xs n) none (all-kept h (rw none))
-
 -- in order of time, all are inside the window where the first time is
-ordered-kept : (window time from clock : ℕ) (es : List Entry) → time < from + window → areOrdered from clock es ≡ true → recent window time es ≡ es
+pub ordered-kept : (window time from clock : ℕ) (es : List Entry) → time < from + window → areOrdered from clock es ≡ true → recent window time es ≡ es
 unfolding recent keep areOrdered
 ordered-kept window time from clock [] l o = refl
 ordered-kept window time from clock (e ∷ es) l o =
@@ -235,22 +200,7 @@ ordered-kept window time from clock (e ∷ es) l o =
     rw (lt-ltb time (e .time + window) inside)
     (ap (λ (l : List Entry). e ∷ l) (ordered-kept window time (e .time) clock es inside (and-r (leb from (e .time) && leb (e .time) clock) (areOrdered (e .time) clock es) o)))
 
--- so they are where the oldest is
-pub oldest-kept : {window time k : ℕ} {xs : List ℕ} {e : Entry} → Held k xs → areOrdered 0 time (entriesOf k xs) ≡ true → e ≡ entryAt (drop 0 xs)
-    → isRecent window time e ≡ true → Kept window time k xs xs k
-unfolding recent keep areOrdered places
-oldest-kept {window = window} {time = time} {k = k} {xs = xs} {e = e} h o is test = all-kept h (go k o)
-  where
-    go : (n : ℕ) → areOrdered 0 time (entriesOf n xs) ≡ true → recent window time (entriesOf n xs) ≡ entriesOf n xs
-    go zero p = refl
-    go (suc n) p =
-        let a = entryAt xs in
-        let rest = entriesOf n (drop 2 xs) in
-        let inside : ltb time (a .time + window) ≡ true = ap (isRecent window time) (sym is) ∙ test in
-        rw inside
-        (ap (λ (l : List Entry). a ∷ l) (ordered-kept window time (a .time) time rest (ltb-true time (a .time + window) inside) (and-r (leb 0 (a .time) && leb (a .time) time) (areOrdered (a .time) time rest) p)))
-
-flat-append : (p q : List Entry) → flat entryNumbers (p ++ q) ≡ flat entryNumbers p ++ flat entryNumbers q
+pub flat-append : (p q : List Entry) → flat entryNumbers (p ++ q) ≡ flat entryNumbers p ++ flat entryNumbers q
 unfolding flat
 flat-append [] q = refl
 flat-append (e ∷ p) q =

@@ -14,7 +14,7 @@ use Rattle.rules.specs.declared.Kind.the-variants.{Rate, Absolute}
 use Rattle.rules.specs.declared.Limit.{Limit}
 use Rattle.rules.specs.declared.Rule.{Rule}
 use Rattle.tables.specs.EntryPlace.{flagNumber, fillWidths, fillValues}
-use Rattle.tables.specs.declared.Entry.{Entry}
+use Rattle.machine.specs.declared.Entry.{Entry}
 use Rattle.log.specs.declared.Sieve.{Sieve}
 
 -- the first time that still counts at this one, or a day's end if none does

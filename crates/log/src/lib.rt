@@ -1,28 +1,40 @@
 // The log: its entries in their places, in order of time.
 ghost use mathlib.Core.Path.{_≡_};
 ghost use mathlib.Core.Bool.{true, cond};
-ghost use mathlib.Core.List.{[], _∷_, map};
+ghost use mathlib.Core.List.{List, [], _∷_, _++_, map};
+ghost use Rattle.machine.specs.declared.Entry.{Entry};
+ghost use Rattle.machine.specs.Effects.{zeroing};
+ghost use Rattle.rules.specs.Valid.{isRule};
+ghost use Rattle.machine.specs.Entries.{isEntry, areOrdered, entryShare, isRecent, recent};
+ghost use Rattle.machine.specs.Order.{unflaggedLog};
+ghost use Rattle.laws.specs.Folds.{sumOf};
 ghost use Prim.Native.Nat.{_+_, _*_, _≤_, _<_};
-ghost use lib.ListN.{length, getD, drop};
+ghost use lib.ListN.{length, getD, take, drop};
 ghost use lib.Seq.{sets};
-ghost use Rattle.rules.specs.Rules.{added};
-ghost use Rattle.rules.specs.Resets.{zeroing};
+ghost use Rattle.rules.specs.Amounts.{amountIn};
 ghost use Rattle.tables.specs.Tables.{zeros};
-ghost use Rattle.tables.specs.RulePlace.{isRule};
-ghost use Rattle.tables.specs.EntryPlace.{flagNumber, entryNumbers, entryAt, isEntry, isEntryPlace, logTable};
-ghost use Rattle.log.specs.Log.{areOrdered, logHolds, Held, entriesOf, unflagged, entryShare, sumOf, isRecent, recent, OneKept, Kept, Joined};
+ghost use Rattle.tables.specs.EntryPlace.{flagNumber, entryNumbers, entryAt, isEntryPlace, logTable};
+ghost use Rattle.log.specs.Log.{logHolds, Held, entriesOf, Kept, Joined};
+ghost use Rattle.log.specs.Memo.{sumIn, noMemo, memoFor, recalledOf, Right, RightTwo, isFor, sievedIn};
 ghost use Rattle.log.specs.Sieve.{firstTime, sieveOf, passes, sifted, withoutFlags};
+use machine::Effect;
+use machine::Entry;
+use measures::Contracts;
+use measures::Executions;
+use measures::TenThousandths;
+use measures::Time;
+use rules::Amount;
 use rules::Kind;
 use rules::Limit;
 use rules::Rule;
 use rules::Scope;
-use tables::Entry;
 
 // Whether the first k places hold entries with so many roots, in order of time, none later than the clock, and the others 0.
 pub fn is_log(log: &[u64], k: usize, roots: u64, clock: u64) -> bool
     requires { ⌜ (length (now log) ≡ 1024) × (k ≤ 512) ⌝ }
     ensures { λ r. ⌜ r ≡ logHolds roots clock k (now (log .entry)) ⌝ }
 {
+    let mut good = true;
     let mut from: u64 = 0;
     let mut i: usize = 0;
     while i < k {
@@ -30,14 +42,13 @@ pub fn is_log(log: &[u64], k: usize, roots: u64, clock: u64) -> bool
         let first = log[at];
         let second = log[at + 1];
         let time = first / 1024;
-        if !(tables::is_entry_but_time(first, second, roots) & (from <= time)) {
-            return false;
-        }
+        // No way out of the loop before its end, so that the entries can be tested side by side.
+        good = good & (tables::is_entry_but_time(first, second, roots) & (from <= time));
         from = time;
         i += 1;
     }
     // No time is above the last one, and a time in range has nothing above it.
-    (from <= 86_399_999) & (from <= clock) & tables::is_zero(&log[k * 2..])
+    good & (from <= Time::MOST) & (from <= clock) & tables::is_zero(&log[k * 2..])
 }
 
 // The entry at place i of a log.
@@ -80,10 +91,10 @@ fn first_time(kind: Kind, time: u64) -> u64
                 return 0;
             }
             let past = time - window;
-            if past < 86_400_000 {
+            if past < Time::WINDOW_MOST {
                 past + 1
             } else {
-                86_400_000
+                Time::WINDOW_MOST
             }
         }
         Kind::Absolute => 0,
@@ -117,53 +128,143 @@ fn sieve_of(rule: Rule, time: u64) -> Sieve
     }
 }
 
-// What an entry counts in a limit's measure, if its first number passes a sieve.
-fn entry_share(limit: Limit, s: Sieve, fill: u64, e: Entry) -> u64
-    requires { ⌜ isEntry 64 e ≡ true ⌝ }
-    ensures { λ r. ⌜ r ≡ cond (passes s fill) (added limit (e .premium .0) (e .contracts .0)) 0 ⌝ }
+// What the entries that pass a sieve count in each measure.
+pub struct Memo {
+    pub mask: u64,
+    pub want: u64,
+    pub from: u64,
+    pub notional: TenThousandths,
+    pub volume: Contracts,
+    pub count: Executions,
+}
+
+// The memos of the last sieve and of the one before it.
+pub struct Two {
+    pub last: Memo,
+    pub other: Memo,
+}
+
+// Two memos of a sieve that no entry passes.
+pub fn no_memos() -> Two
+    ensures { λ r. ⌜ ((es : List Entry) → RightTwo es r) × (r ≡ record { last = noMemo; other = noMemo }) ⌝ }
+{
+    let none = Memo {
+        mask: 0,
+        want: 1,
+        from: 0,
+        notional: TenThousandths(0),
+        volume: Contracts(0),
+        count: Executions(0),
+    };
+    Two {
+        last: none,
+        other: none,
+    }
+}
+
+// What a memo says in a limit's measure.
+pub fn sum_in(limit: Limit, m: Memo) -> Amount
+    ensures { λ r. ⌜ r ≡ amountIn limit (sumIn limit m) ⌝ }
+{
+    let notional = m.notional;
+    let volume = m.volume;
+    let count = m.count;
+    match limit {
+        Limit::Notional(_) => Amount::Notional(notional),
+        Limit::Volume(_) => Amount::Volume(volume),
+        Limit::Count(_) => Amount::Count(count),
+    }
+}
+
+// The second number of an entry whose first number passes a sieve, else 0.
+fn sieved(s: Sieve, fill: u64, amount: u64) -> u64
+    ensures { λ r. ⌜ r ≡ cond (passes s fill) amount 0 ⌝ }
 {
     if (fill & s.mask == s.want) & (s.from <= fill) {
-        limit.added(e.premium, e.contracts)
+        amount
     } else {
         0
     }
 }
 
-// What those of the k entries of the log that pass a sieve count in a limit's measure.
-fn summed(log: &[u64], k: usize, limit: Limit, s: Sieve) -> u64
-    requires { ⌜ Held k (now log) ⌝ }
-    ensures { λ r. ⌜ r ≡ sumOf (sifted limit s) (entriesOf k (now (log .entry))) ⌝ }
+// The entry at place i of a log, with premium and contracts 0 unless its first number passes a sieve.
+fn sieved_at(log: &[u64], i: usize, s: Sieve) -> Entry
+    requires { ⌜ (length (now log) ≡ 1024) × (i < 512) ⌝ }
+    ensures { λ r. ⌜ r ≡ sievedIn s (now (log .entry)) (i * 2) ⌝ }
 {
-    let mut sum: u64 = 0;
-    let mut i: usize = 0;
-    while i < k {
-        let e = entry_at(log, i);
-        let fill = log[i * 2];
-        sum += entry_share(limit, s, fill, e);
-        i += 1;
-    }
-    sum
+    let at = i * 2;
+    let first = log[at];
+    let second = log[at + 1];
+    let amount = sieved(s, first, second);
+    tables::entry_of(first, amount)
 }
 
-// The same, each measure by itself, so that the loop does not ask for it at every entry.
-fn summed_in(log: &[u64], k: usize, limit: Limit, s: Sieve) -> u64
+// What the entries that pass a sieve count in each measure, in one pass.
+fn memo_of(log: &[u64], k: usize, s: Sieve) -> Memo
     requires { ⌜ Held k (now log) ⌝ }
-    ensures { λ r. ⌜ r ≡ sumOf (sifted limit s) (entriesOf k (now (log .entry))) ⌝ }
+    ensures { λ r. ⌜ Right (entriesOf k (now (log .entry))) r × (isFor s r ≡ true) × (r ≡ memoFor s (entriesOf k (now (log .entry)))) ⌝ }
 {
-    match limit {
-        Limit::Notional(most) => summed(log, k, Limit::Notional(most), s),
-        Limit::Volume(most) => summed(log, k, Limit::Volume(most), s),
-        Limit::Count(most) => summed(log, k, Limit::Count(most), s),
+    let mut notional = TenThousandths(0);
+    let mut volume = Contracts(0);
+    let mut count = Executions(0);
+    let mut i: usize = 0;
+    while i < k {
+        let e = sieved_at(log, i, s);
+        let premium = e.premium;
+        let contracts = e.contracts;
+        notional = notional.plus(premium.times(contracts));
+        volume = volume.plus(contracts);
+        count = count.plus(contracts.executions());
+        i += 1;
+    }
+    Memo {
+        mask: s.mask,
+        want: s.want,
+        from: s.from,
+        notional,
+        volume,
+        count,
     }
 }
 
 // What the k entries of the log count for a rule at a time.
-pub fn counted(log: &[u64], k: usize, rule: Rule, time: u64) -> u64
+pub fn counted(log: &[u64], k: usize, rule: Rule, time: u64) -> Amount
     requires { ⌜ Held k (now log) × (isRule 64 rule ≡ true) ⌝ }
-    ensures { λ r. ⌜ r ≡ sumOf (entryShare rule time) (entriesOf k (now (log .entry))) ⌝ }
+    ensures { λ r. ⌜ r ≡ amountIn (rule .limit) (sumOf (entryShare rule time) (entriesOf k (now (log .entry)))) ⌝ }
 {
     let limit = rule.limit;
-    summed_in(log, k, limit, sieve_of(rule, time))
+    sum_in(limit, memo_of(log, k, sieve_of(rule, time)))
+}
+
+// Whether a memo is that of a sieve.
+fn is_for(s: Sieve, m: Memo) -> bool
+    ensures { λ r. ⌜ r ≡ isFor s m ⌝ }
+{
+    (m.mask == s.mask) & (m.want == s.want) & (m.from == s.from)
+}
+
+// Memos of which the last is that of a rule at a time: one of those before, or a new one.
+pub fn recalled(log: &[u64], k: usize, rule: Rule, time: u64, before: Two) -> Two
+    requires { ⌜ Held k (now log) × (isRule 64 rule ≡ true) × RightTwo (entriesOf k (now log)) before ⌝ }
+    ensures { λ r. ⌜ RightTwo (entriesOf k (now (log .entry))) r × (sumIn (rule .limit) (r .last) ≡ sumOf (entryShare rule time) (entriesOf k (now (log .entry)))) × (r ≡ recalledOf (sieveOf rule time) (entriesOf k (now (log .entry))) before) ⌝ }
+{
+    let s = sieve_of(rule, time);
+    let last = before.last;
+    let other = before.other;
+    if is_for(s, last) {
+        return Two { last, other };
+    }
+    if is_for(s, other) {
+        return Two {
+            last: other,
+            other: last,
+        };
+    }
+    let new = memo_of(log, k, s);
+    Two {
+        last: new,
+        other: last,
+    }
 }
 
 // The digits of two flags, as they stand in an entry's first number.
@@ -179,25 +280,24 @@ fn flag_digits(forroot: bool, forfirm: bool) -> u64
     }
 }
 
-// The first number of an entry without the flags that a reset of an order for a root clears.
-fn cleared(fill: u64, root: u64, reset: u64) -> u64
-    ensures { λ r. ⌜ r ≡ withoutFlags (zeroing reset root) fill ⌝ }
+// The first number of an entry without the flags that an effect for a root clears.
+fn cleared(fill: u64, root: u64, effect: Effect) -> u64
+    ensures { λ r. ⌜ r ≡ withoutFlags (zeroing effect root) fill ⌝ }
 {
-    let forroot = (fill / 16 % 64 == root) & ((reset == 1) | (reset == 3));
-    let forfirm = (reset == 2) | (reset == 3);
-    fill - (fill & flag_digits(forroot, forfirm))
+    let forroot = (fill / 16 % 64 == root) & effect.zeroroot;
+    fill - (fill & flag_digits(forroot, effect.zerofirm))
 }
 
-// Clears the flags of the log's k entries that a reset of an order for a root clears.
-pub fn unflag(log: &mut [u64], k: usize, root: u64, reset: u64)
+// Clears the flags of the log's k entries that an effect for a root clears.
+pub fn unflag(log: &mut [u64], k: usize, root: u64, effect: Effect)
     requires { ⌜ Held k (now log) ⌝ }
-    ensures { λ _. ⌜ now (log .exit) ≡ logTable (map (unflagged (zeroing reset root)) (entriesOf k (now (log .entry)))) ⌝ }
+    ensures { λ _. ⌜ now (log .exit) ≡ logTable (unflaggedLog (zeroing effect root) (entriesOf k (now (log .entry)))) ⌝ }
 {
     let mut i: usize = 0;
     while i < k {
         let at = i * 2;
         let fill = log[at];
-        log[at] = cleared(fill, root, reset);
+        log[at] = cleared(fill, root, effect);
         i += 1;
     }
 }
@@ -211,68 +311,56 @@ fn is_recent(e: Entry, window: u64, time: u64) -> bool
     time < end
 }
 
-// How many of the log's k entries are inside a window at a time.
-pub fn recent_entries(log: &[u64], k: usize, window: u64, time: u64) -> usize
-    requires { ⌜ Held k (now log) × (window ≤ 86_400_000) ⌝ }
-    ensures { λ r. ⌜ r ≡ length (recent window time (entriesOf k (now (log .entry)))) ⌝ }
+// The first of the log's k places, in order of time, whose entry is inside a window at a time, or k: those before it are not, and those after it are.
+fn gone(log: &[u64], k: usize, window: u64, time: u64) -> usize
+    requires { ⌜ Held k (now log) × (window ≤ 86_400_000) × (areOrdered 0 time (entriesOf k (now log)) ≡ true) ⌝ }
+    ensures { λ r. ⌜ (r ≤ k) × (recent window time (entriesOf k (now (log .entry))) ≡ drop r (entriesOf k (now (log .entry)))) ⌝ }
 {
-    let mut n: usize = 0;
     let mut i: usize = 0;
     while i < k {
         let e = entry_at(log, i);
         if is_recent(e, window, time) {
-            n += 1;
+            return i;
         }
         i += 1;
     }
-    n
+    i
 }
 
-// The two numbers of place i go to place j.
-fn copy_place(log: &mut [u64], i: usize, j: usize)
-    requires { ⌜ (length (now log) ≡ 1024) × (i < 512) × (j < 512) ⌝ }
-    ensures { λ _. ⌜ now (log .exit) ≡ sets (now (log .entry)) (j * 2) (getD (now (log .entry)) (i * 2) 0 ∷ getD (now (log .entry)) (i * 2 + 1) 0 ∷ []) ⌝ }
+// How many of the log's k entries are inside a window at a time.
+pub fn recent_entries(log: &[u64], k: usize, window: u64, time: u64) -> usize
+    requires { ⌜ Held k (now log) × (window ≤ 86_400_000) × (areOrdered 0 time (entriesOf k (now log)) ≡ true) ⌝ }
+    ensures { λ r. ⌜ r ≡ length (recent window time (entriesOf k (now (log .entry)))) ⌝ }
 {
-    let from = i * 2;
-    let first = log[from];
-    let second = log[from + 1];
-    let to = j * 2;
-    log[to] = first;
-    log[to + 1] = second;
+    k - gone(log, k, window, time)
 }
 
-// The entry at place i goes to place j if it is inside a window at a time. Returns the place after the last that stays.
-fn keep_one(log: &mut [u64], i: usize, j: usize, window: u64, time: u64) -> usize
-    requires { ⌜ (length (now log) ≡ 1024) × (i < 512) × (j ≤ i) × (window ≤ 86_400_000) × (isEntryPlace 64 (drop (i * 2) (now log)) ≡ true) ⌝ }
-    ensures { λ r. ⌜ OneKept window time i j (now (log .entry)) (now (log .exit)) r ⌝ }
+// The n numbers from place d on go to the front.
+fn move_down(s: &mut [u64], d: usize, n: usize)
+    requires { ⌜ d + n ≤ length (now s) ⌝ }
+    ensures { λ _. ⌜ now (s .exit) ≡ take n (drop d (now (s .entry))) ++ drop n (now (s .entry)) ⌝ }
 {
-    let e = entry_at(log, i);
-    if is_recent(e, window, time) {
-        copy_place(log, i, j);
-        return j + 1;
+    let mut j: usize = 0;
+    while j < n {
+        s[j] = s[d + j];
+        j += 1;
     }
-    j
 }
 
-// The entries inside a window at a time move down, in their order. Returns how many they are. Where the oldest is inside, all are.
+// The entries inside a window at a time move down, in their order. Returns how many they are.
 fn keep(log: &mut [u64], k: usize, window: u64, time: u64) -> usize
     requires { ⌜ Held k (now log) × (window ≤ 86_400_000) × (areOrdered 0 time (entriesOf k (now log)) ≡ true) ⌝ }
     ensures { λ r. ⌜ Kept window time k (now (log .entry)) (now (log .exit)) r ⌝ }
 {
-    if k == 0 {
-        return 0;
-    }
-    let oldest = entry_at(log, 0);
-    if is_recent(oldest, window, time) {
+    let d = gone(log, k, window, time);
+    if d == 0 {
         return k;
     }
-    let mut j: usize = 0;
-    let mut i: usize = 0;
-    while i < k {
-        j = keep_one(log, i, j, window, time);
-        i += 1;
-    }
-    j
+    let left = k - d;
+    let from = d * 2;
+    let n = left * 2;
+    move_down(log, from, n);
+    left
 }
 
 // Every number becomes 0.

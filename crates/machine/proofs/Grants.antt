@@ -12,12 +12,10 @@ use Rattle.rules.specs.declared.Limit.{Limit}
 use Rattle.rules.specs.declared.Rule.{Rule}
 use Rattle.rules.specs.declared.Account.{Account}
 use Rattle.rules.proofs.Laws.{allowance-keeps, added-most, grant-largest as least-largest}
-use Rattle.tables.specs.Tables.{every}
-use Rattle.tables.specs.EntryPlace.{isEntry}
-use Rattle.tables.specs.declared.Entry.{Entry}
-use Rattle.state.specs.State.{State}
-use Rattle.state.specs.Sound.{SoundState}
-use Rattle.machine.specs.Machine.{flagOf, entryShare, sumOf, counted, coversOffer, limitIn, covering, grantOf, keep}
+use Rattle.laws.specs.Folds.{every, keep, sumOf}
+use Rattle.machine.specs.declared.Entry.{Entry}
+use Rattle.machine.specs.Entries.{isEntry, flagOf, entryShare}
+use Rattle.machine.specs.Offers.{counted, coversOffer, limitIn, covering, grantOf}
 use Rattle.machine.specs.declared.Offer.{Offer}
 use Rattle.machine.proofs.Lists.{sum-most}
 
@@ -83,7 +81,3 @@ share-most roots rule time e h =
 pub counted-most : (roots : ℕ) (rule : Rule) (time : ℕ) (log : List Entry) → every (isEntry roots) log ≡ true
     → sumOf (entryShare rule time) log ≤ length log * mostShare
 counted-most roots rule time log h = sum-most (isEntry roots) (entryShare rule time) mostShare (share-most roots rule time) log h
-
--- what the log of a sound state counts for a rule fits 64 bits
-pub sound-counted : (s : State) (rule : Rule) (time : ℕ) → SoundState s → sumOf (entryShare rule time) (s .log) ≤ 512 * mostShare
-sound-counted s rule time i = omega (arith, counted-most (length (s .roots)) rule time (s .log) (i .entries), i .number)

@@ -1,6 +1,6 @@
 pub mod Lists
 pub mod Grants
 pub mod Refusals
-pub mod Profiles
+pub mod Keeps
+pub mod Totals
 pub mod Sound
-pub mod Same

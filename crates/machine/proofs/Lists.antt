@@ -8,10 +8,9 @@ use lib.Dec.{leb}
 use borrow.Author.Tests.{leb-true, le-leb}
 use native.Mathlib.Omega.{arith}
 use Rattle.laws.specs.Tests.{and-l, and-r}
-use Rattle.tables.specs.Tables.{every}
-use Rattle.tables.specs.declared.Entry.{Entry}
-use Rattle.log.specs.Log.{areOrdered}
-use Rattle.machine.specs.Machine.{keep, sumOf}
+use Rattle.laws.specs.Folds.{every, keep, sumOf}
+use Rattle.machine.specs.declared.Entry.{Entry}
+use Rattle.machine.specs.Entries.{areOrdered}
 
 module _ {A : Type 0} where
   pub every-imp : (ok good : A → Bool) → ((x : A) → ok x ≡ true → good x ≡ true) → (xs : List A) → every ok xs ≡ true → every good xs ≡ true

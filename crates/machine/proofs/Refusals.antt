@@ -4,15 +4,18 @@ use mathlib.Core.Path.{_≡_, refl}
 use mathlib.Core.Bool.{Bool, true, false, not, cond, _&&_}
 use mathlib.Core.List.{List, [], _∷_}
 use lib.ListN.{length}
-use lib.Dec.{leb, eqb}
+use lib.Dec.{leb, ltb, eqb}
 use borrow.Author.Tests.{ltb-true, not-false}
 use native.Mathlib.Nat.{suc-ne-zero}
 use Rattle.laws.specs.Tests.{and-l, tests}
 use Rattle.measures.specs.Ranges.{In, isIn, times, units, premiums, offers}
 use Rattle.rules.specs.declared.Level.{Level}
 use Rattle.rules.specs.declared.Level.the-variants.{Firm, Root}
-use Rattle.state.specs.State.{State}
-use Rattle.machine.specs.Machine.{order, lockout, offer, levelNamed, logFull, firstOf, badTime, isRoot, refusalOf}
+use Rattle.machine.specs.State.{Part, State}
+use Rattle.machine.specs.Calls.{order, lockout, offer, remaining}
+use Rattle.machine.specs.Effects.{lastReset}
+use Rattle.machine.specs.Order.{levelNamed}
+use Rattle.machine.specs.Refusals.{logFull, firstOf, badTime, isRoot, refusalOf}
 use Rattle.machine.specs.declared.Offer.{Offer}
 
 -- the first refusal did not apply, and none of the rest did
@@ -22,59 +25,71 @@ passed true n rest e = absurd (suc-ne-zero n e)
 passed false n rest e = (refl, e)
 
 -- a time in its range that is not below the clock
-pub record Timely (s : State) (time : ℕ) : Type 0 where
+pub record Timely (p : Part) (time : ℕ) : Type 0 where
   pub range : In times time
-  pub after : s .clock ≤ time
+  pub after : p .clock ≤ time
 
-timely : (s : State) (time : ℕ) → badTime s time ≡ false → Timely s time
+timely : (p : Part) (time : ℕ) → badTime p time ≡ false → Timely p time
 unfolding badTime
-timely s time e =
-    let h = not-false (isIn times time && leb (s .clock) time) e in
+timely p time e =
+    let h = not-false (isIn times time && leb (p .clock) time) e in
     record { range = (search tests depth 6, search tests depth 6); after = search tests depth 6 }
 
-pub orderable : (s : State) (time root reset : ℕ) → refusalOf s (order time root reset) ≡ 0 → Timely s time
-unfolding refusalOf
-orderable s time root reset e = timely s time (passed (badTime s time) 11 _ e .0)
+pub orderable : (room : ℕ) (s : State) (time root reset : ℕ) → refusalOf room s (order time root reset) ≡ 0 → Timely (s .part) time × (root < length (s .part .profile .roots))
+unfolding refusalOf isRoot
+orderable room s time root reset e =
+    let t = passed (badTime (s .part) time) 11 _ e in
+    let k = not-false _ (passed (not (isRoot (s .part) root && leb reset lastReset)) 12 [] (t .1) .0) in
+    (timely (s .part) time (t .0), ltb-true _ _ (and-l (isRoot (s .part) root) (leb reset lastReset) k))
 
 -- the firm, or a root of the profile
-abbrev pub Known : State → Level → Type 0
-Known s Firm = Unit
-Known s (Root root) = root < length (s .roots)
+abbrev pub Known : Part → Level → Type 0
+Known p Firm = Unit
+Known p (Root root) = root < length (p .profile .roots)
 
-pub lockable : (s : State) (time level root : ℕ) → refusalOf s (lockout time level root) ≡ 0 → Timely s time × Known s (levelNamed level root)
+pub lockable : (room : ℕ) (s : State) (time level root : ℕ) → refusalOf room s (lockout time level root) ≡ 0
+    → Timely (s .part) time × Known (s .part) (levelNamed level root)
 unfolding refusalOf isRoot levelNamed
-lockable s time level root e =
-    let t = passed (badTime s time) 11 _ e in (
-      timely s time (t .0),
-      known level (not-false _ (passed (not (leb level 1 && cond (eqb level 0) (isRoot s root) (eqb root 0))) 12 [] (t .1) .0)),
+lockable room s time level root e =
+    let t = passed (badTime (s .part) time) 11 _ e in (
+      timely (s .part) time (t .0),
+      known level (not-false _ (passed (not (leb level 1 && cond (eqb level 0) (isRoot (s .part) root) (eqb root 0))) 12 [] (t .1) .0)),
     )
   where
-    known : (n : ℕ) → (leb n 1 && cond (eqb n 0) (isRoot s root) (eqb root 0)) ≡ true → Known s (levelNamed n root)
-    known zero h = ltb-true root (length (s .roots)) h
+    known : (n : ℕ) → (leb n 1 && cond (eqb n 0) (isRoot (s .part) root) (eqb root 0)) ≡ true → Known (s .part) (levelNamed n root)
+    known zero h = ltb-true root (length (s .part .profile .roots)) h
     known (suc n) h = tt
 
+-- what Remaining asks for is an account's rule
+pub askable : (room : ℕ) (s : State) (time rule : ℕ) → refusalOf room s (remaining time rule) ≡ 0
+    → Timely (s .part) time × (rule < length (s .part .accounts))
+unfolding refusalOf
+askable room s time rule e =
+    let t = passed (badTime (s .part) time) 11 _ e in
+    (timely (s .part) time (t .0), ltb-true _ _ (not-false _ (passed (not (ltb rule (length (s .part .accounts)))) 12 [] (t .1) .0)))
+
 -- an offer whose numbers are in range, and which finds the log not full
-pub record Accepted (s : State) (o : Offer) : Type 0 where
-  pub time : Timely s (o .time)
-  pub root : o .root < length (s .roots)
+pub record Accepted (room : ℕ) (s : State) (o : Offer) : Type 0 where
+  pub time : Timely (s .part) (o .time)
+  pub root : o .root < length (s .part .profile .roots)
   pub unit : In units (o .unit)
   pub premium : In premiums (o .premium)
   pub contracts : In offers (o .contracts)
-  pub place : logFull s o ≡ false
+  pub place : logFull room s o ≡ false
 
-pub accepted : (s : State) (o : Offer) → refusalOf s (offer o) ≡ 0 → Accepted s o
+pub accepted : (room : ℕ) (s : State) (o : Offer) → refusalOf room s (offer o) ≡ 0 → Accepted room s o
 unfolding refusalOf isRoot
-accepted s o e =
-    let t = passed (badTime s (o .time)) 11 _ e in
-    let r = passed (not (isRoot s (o .root) && isIn units (o .unit))) 12 _ (t .1) in
+accepted room s o e =
+    let t = passed (badTime (s .part) (o .time)) 11 _ e in
+    let r = passed (not (isRoot (s .part) (o .root) && isIn units (o .unit))) 12 _ (t .1) in
     let p = passed (not (isIn premiums (o .premium) && isIn offers (o .contracts))) 13 _ (r .1) in
-    let known = not-false (isRoot s (o .root) && isIn units (o .unit)) (r .0) in
+    let known = not-false (isRoot (s .part) (o .root) && isIn units (o .unit)) (r .0) in
     let ranged = not-false (isIn premiums (o .premium) && isIn offers (o .contracts)) (p .0) in
     record {
-      time = timely s (o .time) (t .0);
-      root = ltb-true _ _ (and-l (isRoot s (o .root)) (isIn units (o .unit)) known);
+      time = timely (s .part) (o .time) (t .0);
+      root = ltb-true _ _ (and-l (isRoot (s .part) (o .root)) (isIn units (o .unit)) known);
       unit = (search tests depth 6, search tests depth 6);
       premium = (search tests depth 6, search tests depth 6);
       contracts = (search tests depth 6, search tests depth 6);
-      place = passed (logFull s o) 14 [] (p .1) .0;
+      place = passed (logFull room s o) 14 [] (p .1) .0;
     }

@@ -1,1 +1,13 @@
-pub mod Machine
+pub mod State
+pub mod Entries
+pub mod Effects
+pub mod Calls
+pub mod Deeds
+pub mod Locks
+pub mod Order
+pub mod Offers
+pub mod Remaining
+pub mod Refusals
+pub mod Step
+pub mod Judge
+pub mod Sound

@@ -1,5 +1,26 @@
-// What the calls answer. What they mean is the machine of specs/.
+// What the machine of specs/ speaks of, by value: an entry of the log, an offered fill, and what a call is answered.
 use bits::Standing;
+use measures::Contracts;
+use measures::TenThousandths;
+
+// An entry of the log: a fill, and whether it counts for its root and for the firm.
+pub struct Entry {
+    pub time: u64,
+    pub root: u64,
+    pub unit: u64,
+    pub premium: TenThousandths,
+    pub contracts: Contracts,
+    pub forroot: bool,
+    pub forfirm: bool,
+}
+
+// What a reset does: it zeroes the counters of the order's root or of the firm, and takes away the trip and the lockout of either.
+pub struct Effect {
+    pub zeroroot: bool,
+    pub zerofirm: bool,
+    pub liftroot: bool,
+    pub liftfirm: bool,
+}
 
 // An offered fill: so many contracts of a unit of a root, at a premium.
 pub struct Offer {

@@ -15,9 +15,10 @@ use Rattle.rules.specs.declared.Scope.{Scope}
 use Rattle.rules.specs.declared.Scope.the-variants.{EveryFill, WholeRoot, OneUnit}
 use Rattle.rules.specs.declared.Rule.{Rule}
 use Rattle.text.specs.Text.{indexOf, isDigit, isNameByte}
-use Rattle.tables.specs.Tables.{every}
-use Rattle.tables.specs.RulePlace.{isScope, isRule}
-use Rattle.profile.specs.Profile.{Profile, Outcome, howMany, isFirmRule, onUnit, crowded, outcomeOf}
+use Rattle.laws.specs.Folds.{every}
+use Rattle.rules.specs.Valid.{isScope, isRule}
+use Rattle.machine.specs.State.{Profile}
+use Rattle.profile.specs.Profile.{Outcome, howMany, isFirmRule, onUnit, crowded, outcomeOf}
 use Rattle.profile.specs.Lawful.{IsNameNumber, isNext as isNextOf, knownWith, inOrder, Lawful}
 use Rattle.profile.proofs.Counts.{howMany-join}
 use Rattle.profile.proofs.Laws.{lawful, accepted-some, accepted-named}

@@ -3,7 +3,7 @@ use Prim.Native.Nat.{ℕ, zero, suc, _+_, _*_, _-_, _≤_, _<_, max}
 use mathlib.Core.Path.{_≡_, refl, sym, ap, ap₂, _∙_}
 use mathlib.Core.Bool.{Bool, true, false, _&&_, and-false}
 use mathlib.Core.List.{List, [], _∷_, _++_}
-use lib.ListN.{take, drop, replicate}
+use lib.ListN.{length, getD, take, drop, replicate}
 use lib.Seq.{sets, drop-drop}
 use lib.Dec.{eqb, leb, ltb}
 use borrow.Author.Tests.{lt-ltb, le-ltb, le-leb, lt-leb, ltb-true}
@@ -17,7 +17,8 @@ use Rattle.rules.specs.declared.Scope.{Scope}
 use Rattle.rules.specs.declared.Scope.the-variants.{EveryFill, WholeRoot, OneUnit}
 use Rattle.rules.specs.declared.Rule.{Rule}
 use Rattle.tables.specs.Tables.{allZero, places, isPlace, placesPass}
-use Rattle.tables.specs.RulePlace.{ruleAt, ruleNumbers, isLimit, isKind, isScope, isRule, isRulePlace}
+use Rattle.tables.specs.RulePlace.{ruleAt, ruleNumbers, isRulePlace}
+use Rattle.rules.specs.Valid.{isLimit, isKind, isScope, isRule}
 use Rattle.tables.proofs.Tables.{pass-on}
 use Rattle.tables.proofs.RulePlace.{rule-wider}
 use Rattle.profile.specs.Profile.{howMany, crowded}
@@ -26,15 +27,24 @@ use Rattle.profile.proofs.Covering.{then-over, then-free, then-counts}
 use Rattle.profile.proofs.Counts.{counted-none, firm-stays, unit-stays, over-is, root-counted, firm-over, firm-counted}
 use Rattle.made.specs.Made.{seenAfter, isNext, areInOrder}
 use Rattle.made.specs.Parts.{rulesHold}
-use Rattle.made.specs.Counting.{SoFar, mayFollow, Follows}
+use Rattle.made.specs.Counting.{SoFar, mayFollow, Follows, spread}
 use Rattle.made.specs.declared.Step.the-variants.{With, Stop}
 use Rattle.made.specs.declared.Tally.{Tally}
+use Rattle.made.proofs.Spread.{length-spread}
 use Rattle.made.proofs.Places.{rulesFrom, rules-start, rules-on, rules-end}
 
 -- no rule yet
 pub none-so-far : SoFar [] 0 (replicate 256 0)
 unfolding howMany
 none-so-far = record { counted = counted-none; firm-most = omega arith; unit-most = λ root unit u. omega arith }
+
+-- the counts stand in 64 numbers, and none is above 6
+module _ {rules : List Rule} {firms : ℕ} (ws : List ℕ) (held : SoFar rules firms (spread ws)) where
+  pub held-long : length ws ≡ 64
+  held-long = omega (arith, length-spread ws, held .counted .long)
+
+  pub held-small : {root : ℕ} → root < 64 → (unit : ℕ) → unit < 4 → getD (spread ws) (root * 4 + unit) 0 ≤ 6
+  held-small {root} h unit u = rw (held .counted .counts-are root unit h u) (held .unit-most root unit u)
 
 -- the rules so far and one more, whose scope is not crowded with it
 one-more : {before : List Rule} {firms : ℕ} {counts : List ℕ} → SoFar before firms counts → (rule : Rule)
@@ -169,8 +179,8 @@ pub record Gone (n k : ℕ) (xs : List ℕ) (i : ℕ) (tally : Tally) (counts : 
   pub held : SoFar (places 2 ruleAt i xs) (tally .firms) counts
   pub rest : leftHolds n k xs 0 0 ≡ leftHolds n k xs (tally .seen) i
 
-pub gone-start : (n k : ℕ) (xs : List ℕ) → Gone n k xs 0 (record { seen = 0; firms = 0 }) (replicate 256 0)
-unfolding places
+pub gone-start : (n k : ℕ) (xs : List ℕ) → Gone n k xs 0 (record { seen = 0; firms = 0 }) (spread (replicate 64 0))
+unfolding places spread
 gone-start n k xs = record { reach = omega arith; held = none-so-far; rest = refl }
 
 module _ {n k : ℕ} {xs : List ℕ} {i : ℕ} {tally : Tally} {counts : List ℕ} (gone : Gone n k xs i tally counts) where

@@ -16,7 +16,8 @@ use Rattle.tables.specs.RulePlace.{ruleAt}
 use Rattle.tables.proofs.Tables.{places-on}
 use Rattle.made.specs.Names.{isNameNumber}
 use Rattle.made.specs.Made.{isFresh, areRoots}
-use Rattle.made.specs.Parts.{rootsHold, isTotal, totalsHold, hasRate}
+use Rattle.made.specs.Parts.{rootsHold, totalsHold}
+use Rattle.rules.specs.Valid.{isTotalNumber, hasRate}
 
 -- the part of a slice from a place to its end
 pub to-end : (n : ℕ) (xs : List ℕ) → take (length xs - n) (drop n xs) ≡ drop n xs
@@ -39,20 +40,6 @@ namesFrom n xs i = take (n - i) (drop i xs)
 pub roots-start : (n : ℕ) (xs : List ℕ) → rootsHold n xs ≡ (areRoots (namesFrom n xs 0) && allZero (drop n xs))
 unfolding rootsHold
 roots-start n xs = rw sub-zero
-
-module _ (n : ℕ) (xs : List ℕ) (i : ℕ) (more : i < n) (within : n ≤ length xs) (named fresh : Bool) (is-named : named ≡ isNameNumber 1 6 (getD xs i 0))
-    (is-fresh : fresh ≡ isFresh (getD xs i 0) (namesFrom n xs (i + 1))) where
-  next-root : areRoots (namesFrom n xs i) ≡ (named && fresh && areRoots (namesFrom n xs (i + 1)))
-  unfolding areRoots
-  next-root =
-      let left : n - i ≡ suc (n - (i + 1)) = omega arith in
-      rw (left, from xs i (omega arith), is-named, is-fresh)
-
-  pub roots-on : (named && fresh) ≡ true → areRoots (namesFrom n xs i) ≡ areRoots (namesFrom n xs (i + 1))
-  roots-on h = next-root ∙ rw h
-
-  pub roots-off : (named && fresh) ≡ false → areRoots (namesFrom n xs i) ≡ false
-  roots-off h = next-root ∙ rw h
 
 pub roots-end : (n : ℕ) (xs : List ℕ) (i : ℕ) → n ≤ i → areRoots (namesFrom n xs i) ≡ true
 unfolding areRoots
@@ -78,15 +65,15 @@ module _ (k : ℕ) (xs : List ℕ) where
 module _ (k : ℕ) (xs : List ℕ) (i : ℕ) (more : i < k) (rule : Rule) (is : rule ≡ ruleAt (drop (i * 2) xs)) where
   -- the totals from place i on
   module _ (totals : List ℕ) (within : i < length totals) where
-    next-total : totalsHold (rulesFrom k xs i) (drop i totals) ≡ (isTotal rule (getD totals i 0) && totalsHold (rulesFrom k xs (i + 1)) (drop (i + 1) totals))
+    next-total : totalsHold (rulesFrom k xs i) (drop i totals) ≡ (isTotalNumber rule (getD totals i 0) && totalsHold (rulesFrom k xs (i + 1)) (drop (i + 1) totals))
     unfolding totalsHold
     next-total = rw (rules-on k xs i more, from totals i within, is)
 
-    pub totals-on : isTotal rule (getD totals i 0) ≡ true
+    pub totals-on : isTotalNumber rule (getD totals i 0) ≡ true
         → totalsHold (rulesFrom k xs i) (drop i totals) ≡ totalsHold (rulesFrom k xs (i + 1)) (drop (i + 1) totals)
     totals-on h = next-total ∙ rw h
 
-    pub totals-off : isTotal rule (getD totals i 0) ≡ false → totalsHold (rulesFrom k xs i) (drop i totals) ≡ false
+    pub totals-off : isTotalNumber rule (getD totals i 0) ≡ false → totalsHold (rulesFrom k xs i) (drop i totals) ≡ false
     totals-off h = next-total ∙ rw h
 
   -- the rate rules from place i on

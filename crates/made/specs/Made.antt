@@ -8,9 +8,10 @@ use Rattle.measures.specs.Ranges.{_to_, isIn}
 use Rattle.rules.specs.declared.Scope.{Scope}
 use Rattle.rules.specs.declared.Scope.the-variants.{EveryFill, WholeRoot, OneUnit}
 use Rattle.rules.specs.declared.Rule.{Rule}
-use Rattle.tables.specs.Tables.{every}
-use Rattle.tables.specs.RulePlace.{isRule}
-use Rattle.profile.specs.Profile.{Profile, crowded}
+use Rattle.laws.specs.Folds.{every}
+use Rattle.rules.specs.Valid.{isRule}
+use Rattle.machine.specs.State.{Profile}
+use Rattle.profile.specs.Profile.{crowded}
 use Rattle.made.specs.Names.{isNameNumber}
 
 -- a name that does not stand among these

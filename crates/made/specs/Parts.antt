@@ -5,7 +5,7 @@ use mathlib.Core.List.{List, [], _∷_}
 use lib.ListN.{take, drop}
 use lib.Dec.{eqb}
 use Rattle.measures.specs.Ranges.{isIn, totals}
-use Rattle.rules.specs.Rules.{isRate}
+use Rattle.rules.specs.Valid.{isTotalNumber}
 use Rattle.rules.specs.declared.Rule.{Rule}
 use Rattle.tables.specs.Tables.{allZero, places, placesPass}
 use Rattle.tables.specs.RulePlace.{ruleAt, isRulePlace}
@@ -19,17 +19,8 @@ rootsHold n xs = areRoots (take n xs) && allZero (drop n xs)
 unfoldable pub rulesHold : ℕ → ℕ → List ℕ → Bool
 rulesHold n k xs = placesPass 2 (isRulePlace n) k xs && areInOrder n [] 0 (places 2 ruleAt k xs) && allZero (drop (k * 2) xs)
 
--- whether one of these rules is a rate rule
-unfoldable pub hasRate : List Rule → Bool
-hasRate [] = false
-hasRate (rule ∷ rest) = isRate (rule .kind) || hasRate rest
-
--- the total of an absolute rule is at most 10^15; a rate rule has none, so its place holds 0
-unfoldable pub isTotal : Rule → ℕ → Bool
-isTotal rule total = cond (isRate (rule .kind)) (eqb total 0) (isIn totals total)
-
 -- the totals' places hold the totals of these rules, and the others 0
 unfoldable pub totalsHold : List Rule → List ℕ → Bool
 totalsHold [] xs = allZero xs
 totalsHold (rule ∷ rules) [] = false
-totalsHold (rule ∷ rules) (x ∷ xs) = isTotal rule x && totalsHold rules xs
+totalsHold (rule ∷ rules) (x ∷ xs) = isTotalNumber rule x && totalsHold rules xs

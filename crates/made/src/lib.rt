@@ -1,19 +1,21 @@
 // The tests of a state's roots, rules and totals: whether they are such as some accepted profile gives.
 ghost use mathlib.Core.Path.{_≡_};
-ghost use Prim.Native.Nat.{_+_, _*_, _≤_, _<_, max};
-ghost use mathlib.Core.Bool.{true};
+ghost use Prim.Native.Nat.{ℕ, _+_, _*_, _≤_, _<_, max};
+ghost use mathlib.Core.Bool.{true, not, cond};
 ghost use mathlib.Core.List.{List};
-ghost use lib.ListN.{length, drop};
+ghost use lib.ListN.{length, getD, drop};
 ghost use Rattle.rules.specs.Rules.{isRate};
 ghost use Rattle.rules.specs.declared.Rule.{Rule};
 ghost use Rattle.text.specs.Text.{isNameByte};
 ghost use Rattle.tables.specs.Tables.{places};
-ghost use Rattle.tables.specs.RulePlace.{ruleAt, isRule};
-ghost use Rattle.profile.specs.Held.{Names};
+ghost use Rattle.tables.specs.RulePlace.{ruleAt};
+ghost use Rattle.rules.specs.Valid.{isRule, isTotalNumber, hasRate};
+ghost use Rattle.profile.specs.Held.{Names, mayCover, countsWith};
 ghost use Rattle.made.specs.Names.{isNameNumber};
 ghost use Rattle.made.specs.Made.{isFresh};
-ghost use Rattle.made.specs.Parts.{rootsHold, rulesHold, isTotal, totalsHold, hasRate};
-ghost use Rattle.made.specs.Counting.{SoFar, Holds, Follows};
+ghost use Rattle.made.specs.Parts.{rootsHold, rulesHold, totalsHold};
+ghost use Rattle.made.specs.Counting.{SoFar, Holds, Follows, spread, overIn, coveredIn};
+use measures::Contracts;
 use rules::Kind;
 use rules::Rule;
 use rules::Scope;
@@ -54,19 +56,34 @@ fn is_fresh(name: u64, names: &[u64]) -> bool
     fresh
 }
 
-// Whether the first n places hold the names of roots, no two the same, and the others 0.
+// Whether a name does not stand among these, none of which is it if the mark is 0.
+fn is_new(name: u64, names: &[u64], mark: u8) -> bool
+    requires { ⌜ (mark ≡ 0 → isFresh name (now names) ≡ true) ⌝ }
+    ensures { λ r. ⌜ r ≡ isFresh name (now (names .entry)) ⌝ }
+{
+    if mark == 0 {
+        return true;
+    }
+    is_fresh(name, names)
+}
+
+// Whether the first n places hold the names of roots, no two the same, and the others 0. From the last name on; the names that were looked at are marked by
+// a remainder, and compared only where a name has the remainder of one of them.
 pub fn are_roots(names: &[u64], n: usize) -> bool
     requires { ⌜ (length (now names) ≡ 64) × (n ≤ 64) ⌝ }
     ensures { λ r. ⌜ r ≡ rootsHold n (now (names .entry)) ⌝ }
 {
-    let mut i: usize = 0;
-    while i < n {
+    let mut marks = [0u8; 256];
+    let mut i: usize = n;
+    while 0 < i {
+        let next = i;
+        i -= 1;
         let name = names[i];
-        let next = i + 1;
-        if !(is_name_number(name, 1, 6) & is_fresh(name, &names[next..n])) {
+        let slot = (name % 229) as usize;
+        if !(is_name_number(name, 1, 6) & is_new(name, &names[next..n], marks[slot])) {
             return false;
         }
-        i = next;
+        marks[slot] = 1;
     }
     tables::is_zero(&names[n..])
 }
@@ -91,16 +108,64 @@ fn seen_with(seen: u64, root: u64) -> u64
     if root < seen { seen } else { root + 1 }
 }
 
+// 1 for true, 0 for false.
+fn one(test: bool) -> u64
+    ensures { λ r. ⌜ (r ≡ cond test 1 0) × (r ≤ 1) ⌝ }
+{
+    if test { 1 } else { 0 }
+}
+
+// What a rule adds to the counts of a root's four units, which stand in one number, a byte each.
+fn covered(rule: Rule, root: u64) -> u64
+    ensures { λ r. ⌜ r ≡ coveredIn rule root ⌝ }
+{
+    one(rule.covers(root, 0))
+        + one(rule.covers(root, 1)) * 256
+        + one(rule.covers(root, 2)) * 65_536
+        + one(rule.covers(root, 3)) * 16_777_216
+}
+
+// Whether none of the four counts in a number is above 6.
+fn fits(w: u64) -> bool
+    ensures { λ r. ⌜ r ≡ not (overIn w) ⌝ }
+{
+    if 6 < w % 256 {
+        return false;
+    }
+    if 6 < w / 256 % 256 {
+        return false;
+    }
+    if 6 < w / 65_536 % 256 {
+        return false;
+    }
+    w / 16_777_216 <= 6
+}
+
+// Counts a rule on the units of a root that it covers, and answers whether it did: not if a unit then has more than 6.
+fn cover(counts: &mut [u64], root: usize, rule: Rule) -> bool
+    requires { ⌜ (length (now counts) ≡ 64) × (root < 64) × ((unit : ℕ) → unit < 4 → getD (spread (now counts)) (root * 4 + unit) 0 ≤ 6) ⌝ }
+    ensures { λ r. ⌜ r ≡ mayCover (spread (now (counts .entry))) root rule ⌝ }
+    ensures { λ r. ⌜ spread (now (counts .exit)) ≡ countsWith (spread (now (counts .entry))) root rule ⌝ }
+{
+    let more = covered(rule, root as u64);
+    let all = counts[root] + more;
+    if !fits(all) {
+        return false;
+    }
+    counts[root] = all;
+    true
+}
+
 // Counts a rule of a root, unless that root is not next or a unit then has 7 rules.
 fn with_root(rule: Rule, root: u64, tally: Tally, counts: &mut [u64]) -> Step
-    requires { ⌜ Holds (tally .firms) (now counts) × (isRule 64 rule ≡ true) × Names root (rule .scope) ⌝ }
-    ensures { λ r. ⌜ ((before : List Rule) → SoFar before (tally .firms) (now (counts .entry)) → Follows before (tally .seen) rule r (now (counts .exit))) ⌝ }
+    requires { ⌜ Holds (tally .firms) (spread (now counts)) × (isRule 64 rule ≡ true) × Names root (rule .scope) ⌝ }
+    ensures { λ r. ⌜ ((before : List Rule) → SoFar before (tally .firms) (spread (now (counts .entry))) → Follows before (tally .seen) rule r (spread (now (counts .exit)))) ⌝ }
 {
     let seen = tally.seen;
     if seen < root {
         return Step::Stop;
     }
-    if !profile::cover(counts, root as usize, rule) {
+    if !cover(counts, root as usize, rule) {
         return Step::Stop;
     }
     Step::With(Tally {
@@ -111,8 +176,8 @@ fn with_root(rule: Rule, root: u64, tally: Tally, counts: &mut [u64]) -> Step
 
 // Counts a rule, unless its root is not next or it is one too many.
 fn with_rule(rule: Rule, tally: Tally, counts: &mut [u64]) -> Step
-    requires { ⌜ Holds (tally .firms) (now counts) × (isRule 64 rule ≡ true) ⌝ }
-    ensures { λ r. ⌜ ((before : List Rule) → SoFar before (tally .firms) (now (counts .entry)) → Follows before (tally .seen) rule r (now (counts .exit))) ⌝ }
+    requires { ⌜ Holds (tally .firms) (spread (now counts)) × (isRule 64 rule ≡ true) ⌝ }
+    ensures { λ r. ⌜ ((before : List Rule) → SoFar before (tally .firms) (spread (now (counts .entry))) → Follows before (tally .seen) rule r (spread (now (counts .exit)))) ⌝ }
 {
     let scope = rule.scope;
     match scope {
@@ -136,7 +201,7 @@ pub fn are_rules(rules: &[u64], k: usize, n: u64) -> bool
     requires { ⌜ (length (now rules) ≡ 512) × (k ≤ 256) × (n ≤ 64) ⌝ }
     ensures { λ r. ⌜ r ≡ rulesHold n k (now (rules .entry)) ⌝ }
 {
-    let mut counts = [0u64; 256];
+    let mut counts = [0u64; 64];
     let mut tally = Tally { seen: 0, firms: 0 };
     let mut i: usize = 0;
     while i < k {
@@ -178,12 +243,12 @@ fn is_rate(kind: Kind) -> bool
 
 // Whether a rule may have this total.
 fn is_total(rule: Rule, total: u64) -> bool
-    ensures { λ r. ⌜ r ≡ isTotal rule total ⌝ }
+    ensures { λ r. ⌜ r ≡ isTotalNumber rule total ⌝ }
 {
     let kind = rule.kind;
     match kind {
         Kind::Rate(_) => total == 0,
-        Kind::Absolute => measures::is_in(total, 0, 1_000_000_000_000_000),
+        Kind::Absolute => measures::is_in(total, 0, Contracts::TOTAL_MOST),
     }
 }
 

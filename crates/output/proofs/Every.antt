@@ -3,7 +3,7 @@ use mathlib.Core.Path.{_≡_}
 use mathlib.Core.Bool.{Bool, true}
 use mathlib.Core.List.{List, _∷_}
 use Rattle.laws.specs.Tests.{and-l, and-r}
-use Rattle.tables.specs.Tables.{every}
+use Rattle.laws.specs.Folds.{every}
 
 module _ {A : Type 0} (ok : A → Bool) (r : A) (rs : List A) (h : every ok (r ∷ rs) ≡ true) where
   pub every-first : ok r ≡ true

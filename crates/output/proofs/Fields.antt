@@ -25,7 +25,8 @@ use Rattle.line.specs.Line.{typeOf, isAbsolute, limitsOf, limitOf, timeOf, lett
 use Rattle.line.specs.declared.LimitType.{LimitType}
 use Rattle.line.specs.declared.LimitType.the-variants.{RateNtnl, RateVol, RateCount, AbsNtnl, AbsVol, AbsCount}
 use Rattle.line.specs.declared.TypeRead.the-variants.{Known}
-use Rattle.tables.specs.RulePlace.{limitNumber, windowNumber, isLimit, isKind, isScope, isRule, windows}
+use Rattle.tables.specs.RulePlace.{limitNumber, windowNumber}
+use Rattle.rules.specs.Valid.{isLimit, isKind, isScope, isRule, windows}
 use Rattle.made.specs.Names.{nameBytes, isNameNumber}
 use Rattle.made.specs.Made.{areRoots}
 use Rattle.output.specs.Output.{decimal, typeName, limitText, windowText, rootText, levelText, callPutText, monthText}

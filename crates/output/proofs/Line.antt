@@ -14,8 +14,9 @@ use Rattle.line.specs.Line.{isAbsolute, limitOf, kindOf, timeOf, firmField, typ
 use Rattle.line.specs.declared.LimitType.{LimitType}
 use Rattle.line.specs.declared.TypeRead.the-variants.{Known}
 use Rattle.line.specs.declared.Line.the-variants.{Is}
-use Rattle.tables.specs.Tables.{every}
-use Rattle.tables.specs.RulePlace.{limitNumber, windowNumber, isRule}
+use Rattle.laws.specs.Folds.{every}
+use Rattle.rules.specs.Valid.{isRule}
+use Rattle.tables.specs.RulePlace.{limitNumber, windowNumber}
 use Rattle.made.specs.Names.{isNameNumber}
 use Rattle.made.specs.Made.{areRoots}
 use Rattle.output.specs.Output.{limitText, rootText, fieldTexts, trimmed, lineText}

@@ -10,8 +10,8 @@ use native.Mathlib.Omega.{arith}
 use Rattle.laws.specs.Tests.{and-r}
 use Rattle.rules.specs.declared.Rule.{Rule}
 use Rattle.text.specs.Text.{all, pieces, lines}
-use Rattle.tables.specs.Tables.{every}
-use Rattle.tables.specs.RulePlace.{isRule}
+use Rattle.laws.specs.Folds.{every}
+use Rattle.rules.specs.Valid.{isRule}
 use Rattle.made.specs.Names.{isNameNumber}
 use Rattle.made.specs.Made.{areRoots}
 use Rattle.output.specs.Output.{lineText, linesText}

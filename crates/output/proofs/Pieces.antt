@@ -10,7 +10,7 @@ use native.Mathlib.Decide.{decLt}
 use native.Mathlib.Omega.{arith}
 use Rattle.laws.specs.Tests.{and-l, and-r}
 use Rattle.text.specs.Text.{all, made, onto, pieces, fields}
-use Rattle.tables.specs.Tables.{every}
+use Rattle.laws.specs.Folds.{every}
 use Rattle.output.specs.Output.{inFront, trimmed, withCommas}
 use Rattle.made.proofs.Bytes.{and-both, all-append, all-weaker, made-most, made-all}
 use Rattle.output.proofs.Every.{every-first, every-rest}

@@ -11,9 +11,10 @@ use Rattle.measures.specs.Ranges.{_to_, isIn}
 use Rattle.rules.specs.declared.Rule.{Rule}
 use Rattle.text.specs.Text.{lines}
 use Rattle.line.specs.Line.{theNumber, firmIn}
-use Rattle.tables.specs.Tables.{every}
-use Rattle.tables.specs.RulePlace.{isRule}
-use Rattle.profile.specs.Profile.{Profile, outcomeOf}
+use Rattle.laws.specs.Folds.{every}
+use Rattle.rules.specs.Valid.{isRule}
+use Rattle.machine.specs.State.{Profile}
+use Rattle.profile.specs.Profile.{outcomeOf}
 use Rattle.made.specs.Names.{isNameNumber}
 use Rattle.made.specs.Made.{areRoots, areInOrder, isMade}
 use Rattle.output.specs.Output.{lineText, textOf}

@@ -15,9 +15,10 @@ use Rattle.rules.specs.declared.Scope.{Scope}
 use Rattle.rules.specs.declared.Scope.the-variants.{EveryFill, WholeRoot, OneUnit}
 use Rattle.rules.specs.declared.Rule.{Rule}
 use Rattle.text.specs.Text.{indexOf}
-use Rattle.tables.specs.Tables.{every}
-use Rattle.tables.specs.RulePlace.{isScope, isRule}
-use Rattle.profile.specs.Profile.{Profile, withRoot, rootsWith, numbered, joined, crowded, tooMany, afterLine, readOn}
+use Rattle.laws.specs.Folds.{every}
+use Rattle.rules.specs.Valid.{isScope, isRule}
+use Rattle.machine.specs.State.{Profile}
+use Rattle.profile.specs.Profile.{withRoot, rootsWith, numbered, joined, crowded, tooMany, afterLine, readOn}
 use Rattle.made.specs.Names.{isNameNumber}
 use Rattle.made.specs.Made.{areRoots, seenAfter, isNext, areInOrder}
 use Rattle.output.specs.Output.{lineText}

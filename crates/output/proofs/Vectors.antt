@@ -7,9 +7,10 @@ use Rattle.rules.specs.declared.Scope.the-variants.{EveryFill, WholeRoot, OneUn
 use Rattle.rules.specs.declared.Kind.the-variants.{Rate, Absolute}
 use Rattle.rules.specs.declared.Limit.the-variants.{Notional, Volume, Count}
 use Rattle.text.specs.Text.{bytes, all, made, numeral, nameNumber}
-use Rattle.tables.specs.Tables.{every}
-use Rattle.tables.specs.RulePlace.{isLimit, isKind, isScope, isRule}
-use Rattle.profile.specs.Profile.{Profile, howMany, isFirmRule, onUnit, crowded}
+use Rattle.laws.specs.Folds.{every}
+use Rattle.rules.specs.Valid.{isLimit, isKind, isScope, isRule}
+use Rattle.machine.specs.State.{Profile}
+use Rattle.profile.specs.Profile.{howMany, isFirmRule, onUnit, crowded}
 use Rattle.made.specs.Names.{digitsUpTo, nameBytes, isNameNumber}
 use Rattle.made.specs.Made.{isFresh, areRoots, seenAfter, isNext, areInOrder, isMade}
 use Rattle.output.specs.Output.{decimal, typeName, limitText, windowText, rootText, levelText, callPutText, monthText, fieldTexts, inFront, trimmed, withCommas, lineText, linesText, textOf}

@@ -13,7 +13,7 @@ use Rattle.rules.specs.declared.Limit.{Limit}
 use Rattle.rules.specs.declared.Limit.the-variants.{Notional, Volume, Count}
 use Rattle.rules.specs.declared.Rule.{Rule}
 use Rattle.text.specs.Text.{bytes}
-use Rattle.profile.specs.Profile.{Profile}
+use Rattle.machine.specs.State.{Profile}
 use Rattle.made.specs.Names.{digitsUpTo, nameBytes}
 
 -- a number in decimal digits

@@ -13,8 +13,10 @@ use Rattle.rules.specs.declared.Scope.{Scope}
 use Rattle.rules.specs.declared.Scope.the-variants.{EveryFill, WholeRoot, OneUnit}
 use Rattle.rules.specs.declared.Rule.{Rule}
 use Rattle.text.specs.Text.{indexOf}
-use Rattle.tables.specs.RulePlace.{isScope, isRule, ruleNumbers}
-use Rattle.profile.specs.Profile.{Profile, withRoot, rootsWith, numbered, joined, crowded, tooMany}
+use Rattle.tables.specs.RulePlace.{ruleNumbers}
+use Rattle.rules.specs.Valid.{isScope, isRule}
+use Rattle.machine.specs.State.{Profile}
+use Rattle.profile.specs.Profile.{withRoot, rootsWith, numbered, joined, crowded, tooMany}
 use Rattle.profile.specs.Lawful.{SaidScope, Said}
 use Rattle.profile.specs.Held.{Held, Joins, Names, scopeAt, unitsWith, isOver, unitNumbers}
 use Rattle.profile.specs.declared.Tally.{Tally}

@@ -16,7 +16,7 @@ use Rattle.rules.specs.declared.Scope.the-variants.{EveryFill, WholeRoot, OneUn
 use Rattle.rules.specs.declared.Kind.{Kind}
 use Rattle.rules.specs.declared.Limit.{Limit}
 use Rattle.rules.specs.declared.Rule.{Rule}
-use Rattle.tables.specs.RulePlace.{isScope}
+use Rattle.rules.specs.Valid.{isScope}
 use Rattle.profile.specs.Profile.{howMany, isFirmRule, onUnit, crowded}
 use Rattle.profile.specs.Held.{Counted, Names, unitWith, unitsWith, isOver, unitNumbers}
 use Rattle.profile.proofs.Memory.{sets-other, sets-here}

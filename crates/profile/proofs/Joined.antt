@@ -13,10 +13,11 @@ use Rattle.rules.specs.declared.Scope.the-variants.{EveryFill, WholeRoot, OneUn
 use Rattle.rules.specs.declared.Rule.{Rule}
 use Rattle.text.specs.Text.{indexOf}
 use Rattle.text.proofs.Lists.{index-le}
-use Rattle.tables.specs.Tables.{every}
-use Rattle.tables.specs.RulePlace.{isScope, isRule}
+use Rattle.laws.specs.Folds.{every}
+use Rattle.rules.specs.Valid.{isScope, isRule}
+use Rattle.machine.specs.State.{Profile}
 use Rattle.tables.proofs.RulePlace.{rule-wider}
-use Rattle.profile.specs.Profile.{Profile, withRoot, rootsWith, numbered, joined, howMany, crowded, tooMany, startOf}
+use Rattle.profile.specs.Profile.{withRoot, rootsWith, numbered, joined, howMany, crowded, tooMany, startOf}
 use Rattle.profile.specs.Lawful.{IsNameNumber, SaidScope, Said, isNext, knownWith, inOrder, Lawful}
 use Rattle.profile.proofs.Roots.{with-index, with-length, with-named, with-placed}
 use Rattle.profile.proofs.Counts.{or-l, or-r, firm-stays, unit-stays}

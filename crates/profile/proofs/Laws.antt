@@ -17,7 +17,8 @@ use Rattle.text.proofs.Lists.{line-here}
 use Rattle.line.specs.Line.{firmIn, lineOf}
 use Rattle.line.specs.declared.Line.{Line}
 use Rattle.line.specs.declared.Line.the-variants.{Is, Refused as Faulty}
-use Rattle.profile.specs.Profile.{Profile, joined, tooMany, Outcome, afterLine, readOn, startOf, outcomeOf, readingOf}
+use Rattle.profile.specs.Profile.{joined, tooMany, Outcome, afterLine, readOn, startOf, outcomeOf, readingOf}
+use Rattle.machine.specs.State.{Profile}
 use Rattle.profile.specs.declared.Reading.the-variants.{Accepted, Refused}
 use Rattle.profile.specs.Lawful.{IsNameNumber, isNext, knownWith, inOrder, Lawful}
 use Rattle.profile.proofs.Joined.{start-lawful, joined-length, lawful-joined}

@@ -21,7 +21,7 @@ use Rattle.text.specs.declared.Number.the-variants.{Is as Read, Bad}
 use Rattle.line.specs.Line.{isRead, theNumber, firmField, rootField, rootIn, isFirmLevel, callPut, month, malformed, scopeOf, ruleOf, lineOf}
 use Rattle.line.specs.declared.Line.the-variants.{Is}
 use Rattle.line.proofs.Laws.{InScope, InWindow, line-accepted, line-rule, line-firm}
-use Rattle.tables.specs.RulePlace.{isLimit, isKind}
+use Rattle.rules.specs.Valid.{isLimit, isKind}
 use Rattle.profile.specs.Lawful.{IsNameNumber, SaidScope, Said}
 
 -- a number in its range passes the test

@@ -18,7 +18,8 @@ use Rattle.line.proofs.Laws.{any-line}
 use Rattle.tables.specs.Tables.{zeros, flat, table}
 use Rattle.line.specs.declared.Line.the-variants.{Is, Refused as Faulty}
 use Rattle.line.proofs.Laws.{line-refused}
-use Rattle.profile.specs.Profile.{Profile, joined, howMany, Outcome, afterLine, readOn, startOf, outcomeOf, readingOf, rootsTable, scanOf}
+use Rattle.profile.specs.Profile.{joined, howMany, Outcome, afterLine, readOn, startOf, outcomeOf, readingOf, rootsTable, scanOf}
+use Rattle.machine.specs.State.{Profile}
 use Rattle.profile.specs.Held.{Stored, Held, Joins, Told, noTally}
 use Rattle.profile.specs.declared.Reading.{Reading}
 use Rattle.profile.specs.declared.Reading.the-variants.{Accepted, Refused}

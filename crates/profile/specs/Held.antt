@@ -11,7 +11,8 @@ use Rattle.rules.specs.declared.Scope.{Scope}
 use Rattle.rules.specs.declared.Scope.the-variants.{EveryFill, WholeRoot, OneUnit}
 use Rattle.rules.specs.declared.Rule.{Rule}
 use Rattle.tables.specs.RulePlace.{rulesTable}
-use Rattle.profile.specs.Profile.{Profile, joined, howMany, isFirmRule, onUnit, tooMany, Outcome, readingOf, rootsTable}
+use Rattle.profile.specs.Profile.{joined, howMany, isFirmRule, onUnit, tooMany, Outcome, readingOf, rootsTable}
+use Rattle.machine.specs.State.{Profile}
 use Rattle.profile.specs.Lawful.{Lawful}
 use Rattle.profile.specs.declared.Reading.{Reading}
 use Rattle.profile.specs.declared.Tally.{Tally}

@@ -10,9 +10,10 @@ use Rattle.rules.specs.declared.Scope.{Scope}
 use Rattle.rules.specs.declared.Scope.the-variants.{EveryFill, WholeRoot, OneUnit}
 use Rattle.rules.specs.declared.Rule.{Rule}
 use Rattle.text.specs.Text.{indexOf, isName, nameNumber}
-use Rattle.tables.specs.Tables.{every}
-use Rattle.tables.specs.RulePlace.{isLimit, isKind, isRule}
-use Rattle.profile.specs.Profile.{Profile, howMany, isFirmRule, onUnit}
+use Rattle.laws.specs.Folds.{every}
+use Rattle.rules.specs.Valid.{isLimit, isKind, isRule}
+use Rattle.machine.specs.State.{Profile}
+use Rattle.profile.specs.Profile.{howMany, isFirmRule, onUnit}
 
 -- the number of a name of least to most capitals or digits
 pub record IsNameNumber (least most n : ℕ) : Type 0 where

@@ -9,6 +9,7 @@ use Rattle.rules.specs.Rules.{covers}
 use Rattle.rules.specs.declared.Scope.{Scope}
 use Rattle.rules.specs.declared.Scope.the-variants.{EveryFill, WholeRoot, OneUnit}
 use Rattle.rules.specs.declared.Rule.{Rule}
+use Rattle.machine.specs.State.{Profile}
 use Rattle.text.specs.Text.{lines, indexOf}
 use Rattle.line.specs.Line.{firmIn, lineOf}
 use Rattle.line.specs.declared.Line.{Line}
@@ -18,12 +19,6 @@ use Rattle.tables.specs.RulePlace.{rulesTable}
 use Rattle.profile.specs.declared.Reading.{Reading}
 use Rattle.profile.specs.declared.Scan.{Scan}
 use Rattle.profile.specs.declared.Reading.the-variants.{Accepted, Refused}
-
--- the firm's name, the roots' names in order of first appearance, and the rules by line; a rule's scope has its root's number
-pub record Profile : Type 0 where
-  pub firm : ℕ
-  pub roots : List ℕ
-  pub rules : List Rule
 
 -- the roots with a name among them: at the end, where it is new
 unfoldable pub withRoot : ℕ → List ℕ → List ℕ

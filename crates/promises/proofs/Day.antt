@@ -8,16 +8,17 @@ use lib.ListN.{drop}
 use Rattle.tables.specs.Tables.{zeros}
 use Rattle.profile.specs.Profile.{outcomeOf}
 use Rattle.profile.specs.declared.Reading.the-variants.{Accepted}
-use Rattle.state.specs.State.{State, size, armedState}
+use Rattle.machine.specs.State.{State, armed}
+use Rattle.state.specs.State.{size}
 use Rattle.state.proofs.Restored.{taken-apart}
 use Rattle.state.proofs.Exactly.{exactly}
-use Rattle.machine.specs.Machine.{Call}
+use Rattle.machine.specs.Calls.{Call}
 use Rattle.calls.specs.Calls.{armAnswer}
 use Rattle.calls.proofs.Cases.{arm-marked, clear-done}
-use Rattle.promises.specs.Run.{Event, runOf}
-use Rattle.promises.specs.Demand.{Demand3}
+use Rattle.demand.specs.Run.{Event, runOf}
+use Rattle.demand.specs.Demand.{Demand3}
 use Rattle.promises.specs.Day.{callsOn, dayOf, NeverRefused, DayPromised}
-use Rattle.promises.proofs.Theorem.{demand3}
+use Rattle.demand.proofs.Theorem.{demand3}
 use Rattle.promises.proofs.Holds.{arm-holds}
 use Rattle.promises.proofs.Follows.{Follows, follows-on}
 use Rattle.promises.proofs.Never.{run-never}
@@ -32,7 +33,7 @@ module _ (memory text : List ℕ) (firm rules roots : ℕ) (ok : armAnswer memor
   unfolding runOf NeverRefused
   never k low =
       subst⁻¹ (NeverRefused k) (follows .same)
-      (run-never k low (record { now = armedState (outcomeOf text .profile); history = [] }) tt calls)
+      (run-never k low (record { now = armed (outcomeOf text .profile); history = [] }) tt calls)
 
   -- EVERY DAY: for any memory, any text that Arm accepts into it, and any calls after
   pub day-promised : DayPromised memory text calls

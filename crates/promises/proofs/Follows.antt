@@ -2,8 +2,8 @@
 use Prim.Native.Nat.{ℕ}
 use mathlib.Core.Path.{_≡_}
 use mathlib.Core.List.{List, [], _∷_}
-use Rattle.machine.specs.Machine.{Call}
-use Rattle.promises.specs.Run.{Run, afterCall, runFrom}
+use Rattle.machine.specs.Calls.{Call}
+use Rattle.demand.specs.Run.{Run, afterCall, runFrom}
 use Rattle.promises.specs.Day.{Day, afterCallOn, dayFrom}
 use Rattle.promises.proofs.Holds.{Holds, call-answers, call-holds}
 

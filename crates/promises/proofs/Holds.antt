@@ -11,17 +11,23 @@ use borrow.Author.Tests.{eqb-true}
 use Rattle.profile.specs.Profile.{outcomeOf, readingOf}
 use Rattle.profile.specs.declared.Reading.the-variants.{Accepted, Refused as NotRead}
 use Rattle.profile.proofs.Laws.{reading-accepted}
-use Rattle.state.specs.State.{State, profileIn, size, armedState, decode, stored}
+use Rattle.machine.specs.State.{State, armed}
+use Rattle.state.specs.State.{size, decode, stored}
 use Rattle.state.specs.Sound.{SoundState, isSound}
 use Rattle.state.specs.Laid.{Fits}
 use Rattle.state.proofs.Restored.{taken-apart}
 use Rattle.state.proofs.Stored.{stored-rest, decode-stored}
 use Rattle.state.proofs.Exactly.{made-parts, sound-fits, given-is-made, sound-stored}
 use Rattle.machine.specs.declared.Answer.the-variants.{Refused}
-use Rattle.machine.specs.Machine.{Call, order, lockout, offer, remaining, status, verdictOf, refusalOf, judged, acted, unless, step}
-use Rattle.calls.specs.Calls.{memoryRefusal, armRefusal, armAnswer, armMemory, callAnswer, isRefusal, callMemory}
+use Rattle.machine.specs.Calls.{Call, order, lockout, offer, remaining, status}
+use Rattle.machine.specs.Locks.{verdictOf}
+use Rattle.machine.specs.Refusals.{refusalOf}
+use Rattle.machine.specs.Step.{after}
+use Rattle.machine.specs.Judge.{logPlaces, grantedSo, offered, ordered, judged, unless, judge, stepIn, step, isRefusal}
+use Rattle.machine.proofs.Keeps.{nothing-same}
+use Rattle.calls.specs.Calls.{memoryRefusal, armRefusal, armAnswer, armMemory, callAnswer, callMemory}
 use Rattle.calls.proofs.Armed.{refusal-none, sound-memory, call-taken}
-use Rattle.calls.proofs.Steps.{refused, acts, after-sound}
+use Rattle.calls.proofs.Steps.{done, refused, acts, after-sound}
 use Rattle.promises.proofs.Fresh.{fresh-sound, accepted-made}
 
 -- a sound memory that holds a state, with these numbers past it
@@ -32,7 +38,7 @@ pub record Holds (s : State) (past xs : List ℕ) : Type 0 where
 
 stored-holds : (s : State) (xs : List ℕ) → SoundState s → Holds s (drop size xs) (stored s xs)
 stored-holds s xs k =
-    let fits : Fits s = sound-fits s k (made-parts (profileIn s) (given-is-made (profileIn s) (k .given))) in
+    let fits : Fits s = sound-fits s k (made-parts (s .part .profile) (given-is-made (s .part .profile) (k .given))) in
     record { sound = sound-stored s xs k; state = decode-stored s fits xs; rest = stored-rest s fits xs }
 
 -- a sound memory meets no refusal
@@ -64,49 +70,50 @@ module _ (memory text : List ℕ) (firm rules roots : ℕ) (ok : armAnswer memor
   text-accepted : outcomeOf text .refusal ≡ 0
   text-accepted = reading-accepted (outcomeOf text) firm rules roots (arm-accepts .1) .0
 
-  armed-is : stored (armedState (outcomeOf text .profile)) memory ≡ armMemory memory text
+  armed-is : stored (armed (outcomeOf text .profile)) memory ≡ armMemory memory text
   unfolding armMemory
   armed-is = rw (arm-accepts .0, text-accepted)
 
   -- it leaves the freshly armed state of the text's profile
-  pub arm-holds : Holds (armedState (outcomeOf text .profile)) (drop size memory) (armMemory memory text)
+  pub arm-holds : Holds (armed (outcomeOf text .profile)) (drop size memory) (armMemory memory text)
   arm-holds =
       let p = outcomeOf text .profile in
-      subst (Holds (armedState p) (drop size memory)) armed-is
-      (stored-holds (armedState p) memory (fresh-sound p (accepted-made text text-accepted)))
+      subst (Holds (armed p) (drop size memory)) armed-is
+      (stored-holds (armed p) memory (fresh-sound p (accepted-made text text-accepted)))
 
 -- ---- the other calls
 
 -- where the machine acts, it does not answer with a refusal
-pub acts-answered : (s : State) (call : Call) → isRefusal (acted s call .answer) ≡ false
-unfolding acted judged isRefusal
+pub acts-answered : (s : State) (call : Call) → isRefusal (judged s call .answer) ≡ false
+unfolding judged ordered offered grantedSo isRefusal
 acts-answered s (order time root reset) = refl
 acts-answered s (lockout time level root) = refl
-acts-answered s (offer o) = go (verdictOf s (o .root))
+acts-answered s (offer o) = go (verdictOf (s .part .locks) (o .root))
   where
-    go : (verdict : ℕ) → isRefusal (judged s o verdict .answer) ≡ false
+    go : (verdict : ℕ) → isRefusal (offered s o verdict .answer) ≡ false
     go zero = refl
     go (suc verdict) = refl
 acts-answered s (remaining time rule) = refl
 acts-answered s status = refl
 
-pub acts-unrefused : (s : State) (call : Call) (n : ℕ) → acted s call .answer ≡ Refused n → ⊥
+pub acts-unrefused : (s : State) (call : Call) (n : ℕ) → judged s call .answer ≡ Refused n → ⊥
 unfolding isRefusal
 acts-unrefused s call n e = false≢true (sym (acts-answered s call) ∙ ap isRefusal e)
 
 module _ (xs : List ℕ) (ready : memoryRefusal xs ≡ 0) (call : Call) where
   -- a call on a sound memory leaves the machine's state
   call-stores : Holds (step (decode xs) call .after) (drop size xs) (callMemory xs call)
-  unfolding step unless
-  call-stores = go (refusalOf (decode xs) call) refl
+  unfolding step stepIn judge unless
+  call-stores = go (refusalOf logPlaces (decode xs) call) refl
     where
-      go : (n : ℕ) → refusalOf (decode xs) call ≡ n
-          → Holds (unless n (decode xs) (acted (decode xs) call) .after) (drop size xs) (callMemory xs call)
+      go : (n : ℕ) → refusalOf logPlaces (decode xs) call ≡ n
+          → Holds (after (unless n (judged (decode xs) call) .deed) (decode xs)) (drop size xs) (callMemory xs call)
       go zero e =
-          subst (Holds (acted (decode xs) call .after) (drop size xs)) (acts xs ready call e (acts-answered (decode xs) call) .1)
-          (stored-holds (acted (decode xs) call .after) xs (after-sound xs ready call e))
+          subst (Holds (done xs call) (drop size xs)) (acts xs ready call e (acts-answered (decode xs) call) .1)
+          (stored-holds (done xs call) xs (after-sound xs ready call e))
       go (suc n) e =
-          subst (Holds (decode xs) (drop size xs)) (refused xs ready call n e .1) (ready-holds xs ready)
+          subst (λ (s : State). Holds s (drop size xs) (callMemory xs call)) (sym (nothing-same (decode xs)))
+          (subst (Holds (decode xs) (drop size xs)) (refused xs ready call n e .1) (ready-holds xs ready))
 
 -- so a memory that holds a state answers as the machine does, and holds the machine's state after
 module _ {s : State} {past xs : List ℕ} (h : Holds s past xs) (call : Call) where

@@ -1,14 +1,6 @@
-pub mod Lists
-pub mod Past
-pub mod Locks
-pub mod Marks
-pub mod Counted
-pub mod Keeps
 pub mod Fresh
-pub mod Theorem
 pub mod Holds
 pub mod Follows
 pub mod Never
 pub mod Unarmed
 pub mod Day
-pub mod Resets

@@ -5,10 +5,12 @@ use mathlib.Core.Path.{_≡_, refl}
 use mathlib.Core.Bool.{Bool, true, false}
 use mathlib.Core.List.{List, [], _∷_}
 use Rattle.rules.specs.Allowance.{All}
-use Rattle.state.specs.State.{State}
+use Rattle.machine.specs.State.{State}
 use Rattle.machine.specs.declared.Answer.the-variants.{Refused}
-use Rattle.machine.specs.Machine.{Call, order, lockout, offer, remaining, status, firstOf, refusalOf, acted, unless, step}
-use Rattle.promises.specs.Run.{Run, afterCall, runFrom}
+use Rattle.machine.specs.Calls.{Call, order, lockout, offer, remaining, status}
+use Rattle.machine.specs.Refusals.{firstOf, refusalOf}
+use Rattle.machine.specs.Judge.{logPlaces, judged, unless, judge, stepIn, step}
+use Rattle.demand.specs.Run.{Run, afterCall, runFrom}
 use Rattle.promises.specs.Day.{NeverRefused}
 use Rattle.promises.proofs.Holds.{acts-unrefused}
 
@@ -22,7 +24,7 @@ first-least (test ∷ tests) all n e = go (test .0) (first-least tests (all .1) 
     go true rest e = omega (arith, all .0)
     go false rest e = rest e
 
-refusal-least : (s : State) (call : Call) (n : ℕ) → refusalOf s call ≡ suc n → 12 ≤ suc n
+refusal-least : (s : State) (call : Call) (n : ℕ) → refusalOf logPlaces s call ≡ suc n → 12 ≤ suc n
 unfolding refusalOf
 refusal-least s (order time root reset) n e = first-least _ (omega arith, (omega arith, tt)) n e
 refusal-least s (lockout time level root) n e = first-least _ (omega arith, (omega arith, tt)) n e
@@ -33,10 +35,10 @@ refusal-least s status n e = absurd (omega arith)
 -- a number below 12 is the answer to no call of the machine
 module _ (k : ℕ) (low : k < 12) where
   step-never : (s : State) (call : Call) → step s call .answer ≡ Refused k → ⊥
-  unfolding step unless
-  step-never s call = go (refusalOf s call) refl
+  unfolding step stepIn judge unless
+  step-never s call = go (refusalOf logPlaces s call) refl
     where
-      go : (n : ℕ) → refusalOf s call ≡ n → unless n s (acted s call) .answer ≡ Refused k → ⊥
+      go : (n : ℕ) → refusalOf logPlaces s call ≡ n → unless n (judged s call) .answer ≡ Refused k → ⊥
       go zero e h = acts-unrefused s call k h
       go (suc n) e h = let same : suc n ≡ k = cc in omega (arith, refusal-least s call n e)
 

@@ -12,11 +12,14 @@ use Rattle.tables.proofs.Tables.{length-zeros}
 use Rattle.profile.specs.Profile.{outcomeOf, readingOf}
 use Rattle.profile.specs.declared.Reading.the-variants.{Accepted, Refused as NotRead}
 use Rattle.profile.proofs.Laws.{accepted-some, reading-accepted, reading-refused}
-use Rattle.state.specs.State.{profileIn, size, armedState, decode, stored}
+use Rattle.machine.specs.State.{armed}
+use Rattle.state.specs.State.{size, decode, stored}
 use Rattle.state.proofs.Restored.{taken-apart}
 use Rattle.state.proofs.Exactly.{made-parts, decode-made}
-use Rattle.machine.specs.Machine.{Call, firstOf}
-use Rattle.calls.specs.Calls.{isShort, markOf, armRefusal, armAnswer, armMemory, clearMemory, memoryRefusal, callAnswer, isRefusal, callMemory}
+use Rattle.machine.specs.Calls.{Call}
+use Rattle.machine.specs.Refusals.{firstOf}
+use Rattle.calls.specs.Calls.{isShort, markOf, armRefusal, armAnswer, armMemory, clearMemory, memoryRefusal, callAnswer, callMemory}
+use Rattle.machine.specs.Judge.{isRefusal}
 use Rattle.calls.proofs.Cases.{clear-done}
 use Rattle.calls.proofs.Armed.{refusal-short, refusal-unarmed, sound-memory, call-refused}
 use Rattle.promises.specs.Day.{Day, afterCallOn, dayFrom, callsOn, AlwaysRefused, Idle}
@@ -41,11 +44,11 @@ unarmed-refuses memory call m = go (leb size (length memory)) refl
 
 -- WHAT PASSES HAS RULES: memory on which any call but Arm, Clear and Text is answered with something else than a refusal holds at least one rule
 pub armed-has-rules : (memory : List ℕ) (call : Call) → isRefusal (callAnswer memory call) ≡ false
-    → 0 < length (profileIn (decode memory) .rules)
+    → 0 < length (decode memory .part .profile .rules)
 armed-has-rules memory call answered = go (memoryRefusal memory) refl
   where
-    go : (n : ℕ) → memoryRefusal memory ≡ n → 0 < length (profileIn (decode memory) .rules)
-    go zero e = made-parts (profileIn (decode memory)) (decode-made memory (taken-apart memory (sound-memory memory e))) .some
+    go : (n : ℕ) → memoryRefusal memory ≡ n → 0 < length (decode memory .part .profile .rules)
+    go zero e = made-parts (decode memory .part .profile) (decode-made memory (taken-apart memory (sound-memory memory e))) .some
     go (suc n) e =
         absurd (false≢true (sym answered ∙ refusal-answered memory call (suc n) (sym e) (λ z. omega arith) .0))
 
@@ -60,7 +63,7 @@ arm-has-rules memory text firm rules roots ok =
 -- a refused Arm changes nothing
 pub refused-arm-same : (memory text : List ℕ) (number line : ℕ) → armAnswer memory text ≡ NotRead number line → armMemory memory text ≡ memory
 unfolding armAnswer armMemory
-refused-arm-same memory text number line = go (eqb (armRefusal memory) 0) (stored (armedState (outcomeOf text .profile)) memory)
+refused-arm-same memory text number line = go (eqb (armRefusal memory) 0) (stored (armed (outcomeOf text .profile)) memory)
   where
     go : (b : Bool) (written : List ℕ) → cond b (readingOf (outcomeOf text)) (NotRead (armRefusal memory) 0) ≡ NotRead number line
         → cond b (cond (eqb (outcomeOf text .refusal) 0) written memory) memory ≡ memory
@@ -92,7 +95,7 @@ module _ (memory : List ℕ) (long : size ≤ length memory) (mark : markOf memo
     unfolding readingOf
     unarmed-accepts = idle-judged text ∙ rw ok
 
-    pub unarmed-armed : Holds (armedState (outcomeOf text .profile)) (drop size memory) (armMemory memory text)
+    pub unarmed-armed : Holds (armed (outcomeOf text .profile)) (drop size memory) (armMemory memory text)
     unarmed-armed = arm-holds memory text _ _ _ unarmed-accepts
 
   -- memory of at least the state's size whose mark is 0 is idle

@@ -11,11 +11,11 @@ use Rattle.profile.specs.declared.Reading.the-variants.{Refused as NotRead}
 use Rattle.state.specs.State.{size, decode}
 use Rattle.state.specs.Sound.{Sound}
 use Rattle.machine.specs.declared.Answer.the-variants.{Refused}
-use Rattle.machine.specs.Machine.{Call}
+use Rattle.machine.specs.Calls.{Call}
 use Rattle.calls.specs.Calls.{armAnswer, armMemory, clearAnswer, clearMemory, callAnswer, callMemory}
 use Rattle.calls.specs.declared.Clearing.the-variants.{Done}
-use Rattle.promises.specs.Run.{Event, runOf}
-use Rattle.promises.specs.Demand.{Demand3}
+use Rattle.demand.specs.Run.{Event, runOf}
+use Rattle.demand.specs.Demand.{Demand3}
 
 -- ---- a day
 

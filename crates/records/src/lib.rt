@@ -4,6 +4,9 @@ ghost use lib.ListN.{length};
 ghost use Rattle.laws.specs.Lists.{same as sameNumbers};
 ghost use Rattle.records.specs.Form.{written};
 ghost use Rattle.records.specs.Event.{valuesOf, eventOf, isValid, form, eventIn, readOf, wroteOf};
+use measures::Contracts;
+use measures::TenThousandths;
+use measures::Time;
 
 // An event: each kind holds what it uses, and nothing else.
 pub enum Event {
@@ -92,7 +95,7 @@ pub fn is_valid(e: Event) -> bool
 {
     match e {
         Event::Order { time, root, reset } => {
-            measures::is_in(time, 0, 86_399_999)
+            measures::is_in(time, 0, Time::MOST)
                 & measures::is_in(root, 0, 63)
                 & measures::is_in(reset, 0, 3)
         }
@@ -103,14 +106,18 @@ pub fn is_valid(e: Event) -> bool
             premium,
             contracts,
         } => {
-            measures::is_in(time, 0, 86_399_999)
+            measures::is_in(time, 0, Time::MOST)
                 & measures::is_in(root, 0, 63)
                 & measures::is_in(unit, 0, 3)
-                & measures::is_in(premium, 1, 100_000_000)
-                & measures::is_in(contracts, 1, 1_000_000)
+                & measures::is_in(
+                    premium,
+                    TenThousandths::PREMIUM_LEAST,
+                    TenThousandths::PREMIUM_MOST,
+                )
+                & measures::is_in(contracts, Contracts::OFFER_LEAST, Contracts::OFFER_MOST)
         }
         Event::Lockout { time, level, root } => {
-            measures::is_in(time, 0, 86_399_999)
+            measures::is_in(time, 0, Time::MOST)
                 & measures::is_in(root, 0, 63)
                 & measures::is_in(level, 0, 1)
                 & ((level == 0) | (root == 0))

@@ -6,16 +6,20 @@ use mathlib.Core.List.{List, [], _∷_, map}
 use lib.Dec.{eqb}
 use lib.ListN.{set}
 use Rattle.bits.specs.Locks.{withoutBit}
+use Rattle.rules.specs.Amounts.{amountIn}
 use Rattle.rules.specs.Rules.{levelOf}
-use Rattle.rules.specs.Resets.{zeroing, lifting}
 use Rattle.rules.specs.declared.Level.{Level}
 use Rattle.rules.specs.declared.Level.the-variants.{Firm, Root}
 use Rattle.rules.specs.declared.Account.{Account}
-use Rattle.tables.specs.declared.Entry.{Entry}
-use Rattle.log.specs.Log.{unflagged}
-use Rattle.state.specs.State.{State, encode, stored, decode}
+use Rattle.machine.specs.declared.Entry.{Entry}
+use Rattle.machine.specs.State.{State, Locks}
+use Rattle.machine.specs.Effects.{effectOf, zeroing, lifting}
+use Rattle.machine.specs.Deeds.{passing, resetting, clockAfter}
+use Rattle.machine.specs.Locks.{lifted}
+use Rattle.machine.specs.Order.{unflagged, unflaggedLog, wiped}
+use Rattle.machine.specs.Step.{accountsAfter, locksAfter, logAfter, partAfter, after}
+use Rattle.state.specs.State.{encode, stored, decode}
 use Rattle.state.specs.Laid.{Laid}
-use Rattle.machine.specs.Machine.{wiped, resetState, ticked}
 
 map-same : {A : Type 0} (f : A → A) → ((x : A) → f x ≡ x) → (xs : List A) → map f xs ≡ xs
 map-same f same [] = refl
@@ -23,16 +27,21 @@ map-same f same (x ∷ xs) = λ i. same x i ∷ map-same f same xs i
 
 module _ (root : ℕ) where
   -- it concerns no level
-  zeroes-none : (level : Level) → zeroing 0 root level ≡ false
-  unfolding zeroing
+  zeroes-none : (level : Level) → zeroing (effectOf 0) root level ≡ false
+  unfolding zeroing effectOf
   zeroes-none Firm = refl
   zeroes-none (Root r) = and-false (eqb r root)
 
-  total-stays : (a : Account) → wiped (zeroing 0 root) a ≡ a
-  unfolding wiped
-  total-stays a = λ i. record { rule = a .rule; total = cond (zeroes-none (levelOf (a .rule .scope)) i) 0 (a .total) }
+  lifts-none : (level : Level) → lifting (effectOf 0) root level ≡ false
+  unfolding lifting effectOf
+  lifts-none Firm = refl
+  lifts-none (Root r) = and-false (eqb r root)
 
-  flags-stay : (e : Entry) → unflagged (zeroing 0 root) e ≡ e
+  total-stays : (a : Account) → wiped (zeroing (effectOf 0) root) a ≡ a
+  unfolding wiped
+  total-stays a = λ i. record { rule = a .rule; total = cond (zeroes-none (levelOf (a .rule .scope)) i) (amountIn (a .rule .limit) 0) (a .total) }
+
+  flags-stay : (e : Entry) → unflagged (zeroing (effectOf 0) root) e ≡ e
   unfolding unflagged
   flags-stay e = λ i. record {
     time = e .time;
@@ -44,25 +53,33 @@ module _ (root : ℕ) where
     forfirm = not (zeroes-none Firm i) && e .forfirm;
   }
 
-  none-ticks : (s : State) (time : ℕ) → resetState s time root 0 ≡ ticked s time
-  unfolding resetState ticked lifting
+  locks-stay : (l : Locks) → lifted (lifting (effectOf 0) root) root l ≡ l
+  unfolding lifted
+  locks-stay l = λ i. record {
+    firmTripped = not (lifts-none Firm i) && l .firmTripped;
+    firmByUser = not (lifts-none Firm i) && l .firmByUser;
+    tripped = cond (lifts-none (Root root) i) (withoutBit (l .tripped) root) (l .tripped);
+    byUser = cond (lifts-none (Root root) i) (withoutBit (l .byUser) root) (l .byUser);
+  }
+
+  none-ticks : (s : State) (time : ℕ) → after (resetting time root (effectOf 0)) s ≡ after (passing time) s
+  unfolding after partAfter clockAfter accountsAfter locksAfter logAfter unflaggedLog
   none-ticks s time = λ i. record {
-    clock = time;
-    firm = s .firm;
-    roots = s .roots;
-    accounts = map-same (wiped (zeroing 0 root)) total-stays (s .accounts) i;
-    firmTripped = not (zeroes-none Firm i) && s .firmTripped;
-    firmLocked = not (zeroes-none Firm i) && s .firmLocked;
-    tripped = cond (zeroes-none (Root root) i) (withoutBit (s .tripped) root) (s .tripped);
-    locked = cond (zeroes-none (Root root) i) (withoutBit (s .locked) root) (s .locked);
-    log = map-same (unflagged (zeroing 0 root)) flags-stay (s .log) i;
+    part = record {
+      clock = time;
+      profile = s .part .profile;
+      accounts = map-same (wiped (zeroing (effectOf 0) root)) total-stays (s .part .accounts) i;
+      locks = locks-stay (s .part .locks) i;
+    };
+    log = map-same (unflagged (zeroing (effectOf 0) root)) flags-stay (s .log) i;
   }
 
 -- the clock's number alone is stored
-pub ticked-stored : {xs : List ℕ} → Laid xs → (time : ℕ) → set xs 1 time ≡ stored (ticked (decode xs) time) xs
-unfolding stored encode ticked
+pub ticked-stored : {xs : List ℕ} → Laid xs → (time : ℕ) → set xs 1 time ≡ stored (after (passing time) (decode xs)) xs
+unfolding stored encode after partAfter clockAfter accountsAfter locksAfter logAfter
 ticked-stored l time = ap (λ (q : List ℕ). set q 1 time) (l .is)
 
-pub clock-moved : {xs : List ℕ} → Laid xs → (time root : ℕ) {reset : ℕ} → reset ≡ 0 → set xs 1 time ≡ stored (resetState (decode xs) time root reset) xs
+pub clock-moved : {xs : List ℕ} → Laid xs → (time root : ℕ) {reset : ℕ} → reset ≡ 0
+    → set xs 1 time ≡ stored (after (resetting time root (effectOf reset)) (decode xs)) xs
 clock-moved {xs = xs} l time root none =
     ticked-stored l time ∙ (ap (λ (s : State). stored s xs) (sym (none-ticks root (decode xs) time)) ∙ rw none)

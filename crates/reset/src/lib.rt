@@ -6,23 +6,32 @@ ghost use Prim.Native.Nat.{ℕ, _*_, _<_};
 ghost use lib.ListN.{length, getD, drop};
 ghost use lib.Dec.{eqb};
 ghost use Rattle.bits.specs.Locks.{withBit, withoutBit};
+ghost use Rattle.rules.specs.Amounts.{amountIn};
 ghost use Rattle.rules.specs.Rules.{levelOf, countedOf};
-ghost use Rattle.rules.specs.Resets.{zeroing, lifting};
-ghost use Rattle.rules.specs.declared.Level.the-variants.{Root};
-ghost use Rattle.tables.specs.RulePlace.{ruleAt, isRule};
-ghost use Rattle.log.specs.Log.{entriesOf, entryShare, sumOf};
+ghost use Rattle.rules.specs.Valid.{isRule};
+ghost use Rattle.rules.specs.declared.Amount.{Amount as AnAmount};
+ghost use Rattle.tables.specs.RulePlace.{ruleAt};
+ghost use Rattle.laws.specs.Folds.{sumOf};
+ghost use Rattle.log.specs.Log.{entriesOf};
+ghost use Rattle.machine.specs.Deeds.{Deed};
+ghost use Rattle.machine.specs.Effects.{effectOf, zeroing};
+ghost use Rattle.machine.specs.Entries.{entryShare};
+ghost use Rattle.machine.specs.Locks.{verdictOf};
+ghost use Rattle.machine.specs.Order.{wiped, levelNamed};
+ghost use Rattle.machine.specs.Remaining.{accountAt, leftOf};
+ghost use Rattle.machine.specs.Step.{after};
 ghost use Rattle.state.specs.State.{stored, logPart, decode};
 ghost use Rattle.state.specs.Laid.{Laid, withAccounts};
-ghost use Rattle.machine.specs.Machine.{verdictOf, levelNamed, lockedOut, wiped, resetState, leftOf, noAccount};
+use machine::Effect;
+use rules::Amount;
 use rules::Kind;
-use rules::Level;
 use rules::Rule;
 use rules::Scope;
 
 // The verdict on an order for a root: 1 if the firm is locked, else 2 if the root is, else 0.
 pub fn verdict(m: &[u64], root: u64) -> u64
     requires { ⌜ Laid (now m) × (root < 64) ⌝ }
-    ensures { λ r. ⌜ r ≡ verdictOf (decode (now (m .entry))) root ⌝ }
+    ensures { λ r. ⌜ r ≡ verdictOf (decode (now (m .entry)) .part .locks) root ⌝ }
 {
     if (m[6] == 1) | (m[7] == 1) {
         return 1;
@@ -55,52 +64,52 @@ fn lock_word(word: u64, level: u64, root: u64) -> u64
 // Locks a level for the user: 0 a root, else the firm.
 pub fn lock_out(m: &mut [u64], time: u64, level: u64, root: u64)
     requires { ⌜ Laid (now m) × (root < 64) ⌝ }
-    ensures { λ _. ⌜ now (m .exit) ≡ stored (lockedOut (decode (now (m .entry))) time (levelNamed level root)) (now (m .entry)) ⌝ }
+    ensures { λ _. ⌜ now (m .exit) ≡ stored (after (Deed.lockingOut time (levelNamed level root)) (decode (now (m .entry)))) (now (m .entry)) ⌝ }
 {
     m[1] = time;
     m[7] = firm_mark(m[7], level);
     m[9] = lock_word(m[9], level, root);
 }
 
-// The level that a rule counts for.
-fn level_of(rule: Rule) -> Level
-    ensures { λ r. ⌜ r ≡ levelOf (rule .scope) ⌝ }
+// What a reset does, by its number: 1 is SYMBOL, 2 FIRM, 3 BOTH.
+pub fn effect_of(reset: u64) -> Effect
+    ensures { λ r. ⌜ r ≡ effectOf reset ⌝ }
+{
+    let root = (reset == 1) | (reset == 3);
+    let firm = (reset == 2) | (reset == 3);
+    Effect {
+        zeroroot: root,
+        zerofirm: firm,
+        liftroot: root,
+        liftfirm: firm,
+    }
+}
+
+// Whether the effect of an order for a root zeroes the counters of a rule.
+fn zeroes(rule: Rule, root: u64, effect: Effect) -> bool
+    ensures { λ r. ⌜ r ≡ zeroing effect root (levelOf (rule .scope)) ⌝ }
 {
     let scope = rule.scope;
     match scope {
-        Scope::EveryFill => Level::Firm,
-        Scope::WholeRoot(root) => Level::Root(root),
-        Scope::OneUnit(root, _) => Level::Root(root),
+        Scope::EveryFill => effect.zerofirm,
+        Scope::WholeRoot(r) => (r == root) & effect.zeroroot,
+        Scope::OneUnit(r, _) => (r == root) & effect.zeroroot,
     }
 }
 
-// Whether the reset of an order for a root concerns a level: 1 the root, 2 the firm, 3 both.
-fn concerns(level: Level, root: u64, reset: u64) -> bool
-    ensures { λ r. ⌜ r ≡ zeroing reset root level ⌝ }
+// A number, or 0 where a test holds.
+fn unless(test: bool, n: u64) -> u64
+    ensures { λ r. ⌜ r ≡ cond test 0 n ⌝ }
 {
-    match level {
-        Level::Firm => (reset == 2) | (reset == 3),
-        Level::Root(r) => (r == root) & ((reset == 1) | (reset == 3)),
-    }
+    if test { 0 } else { n }
 }
 
-// A number of a level after the reset of an order for a root: 0 if the reset concerns that level.
-fn kept(level: Level, n: u64, root: u64, reset: u64) -> u64
-    ensures { λ r. ⌜ r ≡ cond (zeroing reset root level) 0 n ⌝ }
-{
-    if concerns(level, root, reset) { 0 } else { n }
-}
-
-// A word of roots after the reset of an order for a root.
-fn lifted(word: u64, root: u64, reset: u64) -> u64
+// A word of roots, without a root's mark where a test holds.
+fn lifted(word: u64, root: u64, test: bool) -> u64
     requires { ⌜ root < 64 ⌝ }
-    ensures { λ r. ⌜ r ≡ cond (lifting reset root (Root root)) (withoutBit word root) word ⌝ }
+    ensures { λ r. ⌜ r ≡ cond test (withoutBit word root) word ⌝ }
 {
-    if concerns(Level::Root(root), root, reset) {
-        bits::unmark(word, root)
-    } else {
-        word
-    }
+    if test { bits::unmark(word, root) } else { word }
 }
 
 // The rule at place i of the rules.
@@ -114,52 +123,52 @@ fn rule_at(rules: &[u64], i: usize) -> Rule
     tables::rule_of(first, second)
 }
 
-// Zeroes the totals of the rules whose level the reset of an order for a root concerns.
-fn wipe(m: &mut [u64], root: u64, reset: u64)
+// Zeroes the totals of the rules whose counters the effect of an order for a root zeroes.
+fn wipe(m: &mut [u64], root: u64, effect: Effect)
     requires { ⌜ Laid (now m) ⌝ }
-    ensures { λ _. ⌜ now (m .exit) ≡ stored (withAccounts (decode (now (m .entry))) (map (wiped (zeroing reset root)) (decode (now (m .entry)) .accounts))) (now (m .entry)) ⌝ }
+    ensures { λ _. ⌜ now (m .exit) ≡ stored (withAccounts (decode (now (m .entry))) (map (wiped (zeroing effect root)) (decode (now (m .entry)) .part .accounts))) (now (m .entry)) ⌝ }
 {
     let rules = m[4] as usize;
     let mut i: usize = 0;
     while i < rules {
         let rule = rule_at(&m[74..586], i);
         let at = 586 + i;
-        m[at] = kept(level_of(rule), m[at], root, reset);
+        m[at] = unless(zeroes(rule, root, effect), m[at]);
         i += 1;
     }
 }
 
-// Carries out the reset of an order for a root: clock, marks and words, totals, then the log's flags.
-fn carry_out(m: &mut [u64], time: u64, root: u64, reset: u64)
+// Carries out the effect of an order for a root: clock, marks and words, totals, then the log's flags.
+fn carry_out(m: &mut [u64], time: u64, root: u64, effect: Effect)
     requires { ⌜ Laid (now m) × (root < 64) ⌝ }
-    ensures { λ _. ⌜ now (m .exit) ≡ stored (resetState (decode (now (m .entry))) time root reset) (now (m .entry)) ⌝ }
+    ensures { λ _. ⌜ now (m .exit) ≡ stored (after (Deed.resetting time root effect) (decode (now (m .entry)))) (now (m .entry)) ⌝ }
 {
     m[1] = time;
-    m[6] = kept(Level::Firm, m[6], root, reset);
-    m[7] = kept(Level::Firm, m[7], root, reset);
-    m[8] = lifted(m[8], root, reset);
-    m[9] = lifted(m[9], root, reset);
-    wipe(m, root, reset);
+    m[6] = unless(effect.liftfirm, m[6]);
+    m[7] = unless(effect.liftfirm, m[7]);
+    m[8] = lifted(m[8], root, effect.liftroot);
+    m[9] = lifted(m[9], root, effect.liftroot);
+    wipe(m, root, effect);
     let entries = m[5] as usize;
-    log::unflag(&mut m[842..1866], entries, root, reset);
+    log::unflag(&mut m[842..1866], entries, root, effect);
 }
 
 // What an order's reset leaves: without one the clock alone moves.
 pub fn reset_state(m: &mut [u64], time: u64, root: u64, reset: u64)
     requires { ⌜ Laid (now m) × (root < 64) ⌝ }
-    ensures { λ _. ⌜ now (m .exit) ≡ stored (resetState (decode (now (m .entry))) time root reset) (now (m .entry)) ⌝ }
+    ensures { λ _. ⌜ now (m .exit) ≡ stored (after (Deed.resetting time root (effectOf reset)) (decode (now (m .entry)))) (now (m .entry)) ⌝ }
 {
     if reset == 0 {
         m[1] = time;
         return;
     }
-    carry_out(m, time, root, reset);
+    carry_out(m, time, root, effect_of(reset));
 }
 
 // What the log counts for a rule at a time, as far as the rule asks for it: an absolute rule does not.
-fn logged(m: &[u64], rule: Rule, time: u64) -> u64
+fn logged(m: &[u64], rule: Rule, time: u64) -> Amount
     requires { ⌜ Laid (now m) × (isRule 64 rule ≡ true) ⌝ }
-    ensures { λ r. ⌜ ((total : ℕ) → countedOf (rule .kind) total r ≡ countedOf (rule .kind) total (sumOf (entryShare rule time) (entriesOf (getD (now (m .entry)) 5 0) (logPart (now (m .entry)))))) ⌝ }
+    ensures { λ r. ⌜ ((total : AnAmount) → countedOf (rule .kind) total r ≡ countedOf (rule .kind) total (amountIn (rule .limit) (sumOf (entryShare rule time) (decode (now (m .entry)) .log)))) ⌝ }
 {
     let kind = rule.kind;
     match kind {
@@ -167,17 +176,22 @@ fn logged(m: &[u64], rule: Rule, time: u64) -> u64
             let entries = m[5] as usize;
             log::counted(&m[842..1866], entries, rule, time)
         }
-        Kind::Absolute => 0,
+        Kind::Absolute => {
+            let limit = rule.limit;
+            limit.amount(0)
+        }
     }
 }
 
 // What remains of a rule's limit at a time, and 0 if more than the limit is counted.
-pub fn left(m: &[u64], time: u64, rule: usize) -> u64
-    requires { ⌜ Laid (now m) × (rule < length (decode (now m) .accounts)) ⌝ }
-    ensures { λ r. ⌜ r ≡ leftOf (decode (now (m .entry))) time (getD (decode (now (m .entry)) .accounts) rule noAccount) ⌝ }
+pub fn left(m: &[u64], time: u64, rule: usize) -> Amount
+    requires { ⌜ Laid (now m) × (rule < length (decode (now m) .part .accounts)) ⌝ }
+    ensures { λ r. ⌜ r ≡ amountIn (accountAt (decode (now (m .entry)) .part .accounts) rule .rule .limit) (leftOf (decode (now (m .entry))) time (accountAt (decode (now (m .entry)) .part .accounts) rule)) ⌝ }
 {
     let asked = rule_at(&m[74..586], rule);
+    let limit = asked.limit;
     let at = 586 + rule;
-    let total = m[at];
-    asked.left(asked.counted(total, logged(m, asked, time)))
+    let total = limit.amount(m[at]);
+    let counted = asked.counted(total, logged(m, asked, time));
+    asked.left(counted)
 }

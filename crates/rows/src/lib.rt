@@ -2,7 +2,7 @@
 ghost use mathlib.Core.Path.{_≡_};
 ghost use mathlib.Core.Bool.{cond};
 ghost use mathlib.Core.List.{[], _∷_};
-ghost use Rattle.machine.specs.Machine.{numbers};
+ghost use Rattle.machine.specs.Judge.{numbers};
 use machine::Answer;
 
 // Writes five numbers to a row.

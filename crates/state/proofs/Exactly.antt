@@ -12,25 +12,31 @@ use Rattle.laws.specs.Tests.{and-l, and-r, tests}
 use Rattle.measures.specs.Ranges.{_to_}
 use Rattle.rules.specs.declared.Rule.{Rule}
 use Rattle.rules.specs.declared.Account.{Account}
-use Rattle.tables.specs.Tables.{zeros, allZero, places, every}
-use Rattle.tables.specs.RulePlace.{ruleAt, isRule, isRulePlace}
+use Rattle.laws.specs.Folds.{every}
+use Rattle.rules.specs.Amounts.{numberOf, isOf}
+use Rattle.rules.specs.Valid.{isRule, hasRate, isTotalNumber, isTotal}
+use Rattle.machine.specs.State.{Profile, State, cellsOf, rulesIn, rootsIn, ruleOf, Fitting}
+use Rattle.machine.specs.Entries.{areOrdered}
+use Rattle.machine.proofs.Lists.{every-imp}
+use Rattle.machine.proofs.Totals.{isPaid, total-in, total-of}
+use Rattle.tables.specs.Tables.{zeros, allZero, places}
+use Rattle.tables.specs.RulePlace.{ruleAt, isRulePlace}
 use Rattle.tables.specs.EntryPlace.{entryAt, isEntryPlace, flagNumber}
 use Rattle.tables.proofs.Tables.{place-table, rest-table, each-pass, all-zeros, length-places}
 use Rattle.tables.proofs.RulePlace.{rule-codec}
 use Rattle.tables.proofs.EntryPlace.{entry-codec}
-use Rattle.profile.specs.Profile.{Profile, rootsTable}
+use Rattle.profile.specs.Profile.{rootsTable}
 use Rattle.made.specs.Names.{isNameNumber}
 use Rattle.made.specs.Made.{areRoots, areInOrder, isMade}
-use Rattle.made.specs.Parts.{isTotal, totalsHold}
-use Rattle.log.specs.Log.{areOrdered}
-use Rattle.state.specs.State.{State, profileIn, size, totalsTable, encode, stored, rulesPart, totalsPart, logPart, accountsOf, decode}
-use Rattle.state.specs.Sound.{Given, hasRate, SoundState, Sound, isSound}
+use Rattle.made.specs.Parts.{totalsHold}
+use Rattle.state.specs.State.{size, totalsTable, totalsIn, encode, stored, rulesPart, totalsPart, logPart, rulesAt, accountsOf, decode}
+use Rattle.state.specs.Sound.{Given, SoundState, Sound, isSound}
 use Rattle.made.proofs.Given.{given-made}
 use Rattle.output.proofs.ReadBack.{given-by-text}
 use Rattle.state.specs.Laid.{Fits, Laid}
 use Rattle.state.proofs.Parts.{ones-table, ones-rest}
-use Rattle.state.proofs.Restored.{Tests, taken-apart, together, put-together, restored, roots-number, many-rules, rules-again, rules-valid, log-valid}
-use Rattle.state.proofs.Stored.{map-length, stored-roots, stored-rules, stored-totals, stored-log, encode-long, roots-back, rules-back, log-back, is-stored}
+use Rattle.state.proofs.Restored.{Tests, taken-apart, together, put-together, restored, roots-number, many-rules, accounts-fit, rules-valid, log-valid}
+use Rattle.state.proofs.Stored.{stored-roots, stored-rules, stored-totals, stored-log, encode-long, roots-back, rules-back, log-back, is-stored}
 
 -- what the test of a profile says, part by part
 pub record MadeParts (p : Profile) : Type 0 where
@@ -55,30 +61,33 @@ made-parts p h = record {
 }
 
 -- a sound state has room in its tables
-pub sound-fits : (s : State) → SoundState s → MadeParts (profileIn s) → Fits s
-unfolding profileIn
+pub sound-fits : (s : State) → SoundState s → MadeParts (s .part .profile) → Fits s
+unfolding rootsIn rulesIn
 sound-fits s k m = record {
   roots = m .few;
-  accounts = omega (arith, m .most, map-length (λ a. a .rule) (s .accounts));
+  rules = m .most;
   log = k .number;
-  rules = m .valid;
+  fitting = k .fitting;
+  measured = every-imp isPaid (λ a. isOf (a .rule .limit) (a .total)) (λ a h. total-in (a .rule) (a .total) h .0) (s .part .accounts) (k .totals);
+  valid = m .valid;
   entries = k .entries;
 }
 
 -- totals in their places, from the accounts and back
-totals-hold : (accounts : List Account) (k : ℕ) → every (λ a. isTotal (a .rule) (a .total)) accounts ≡ true
-    → totalsHold (map (λ a. a .rule) accounts) (map (λ a. a .total) accounts ++ zeros k) ≡ true
-unfolding totalsHold every
+totals-hold : (accounts : List Account) (k : ℕ) → every isPaid accounts ≡ true → totalsHold (map ruleOf accounts) (totalsIn accounts ++ zeros k) ≡ true
+unfolding totalsHold every isTotal
 totals-hold [] k h = all-zeros k
 totals-hold (a ∷ rest) k h =
-    ap₂ (λ (p q : Bool). p && q) (and-l (isTotal (a .rule) (a .total)) _ h) (totals-hold rest k (and-r (isTotal (a .rule) (a .total)) _ h))
+    let others = every isPaid rest in
+    ap₂ (λ (p q : Bool). p && q) (and-r (isOf (a .rule .limit) (a .total)) (isTotalNumber (a .rule) (numberOf (a .total))) (and-l (isPaid a) others h))
+    (totals-hold rest k (and-r (isPaid a) others h))
 
-hold-totals : (rules : List Rule) (xs : List ℕ) → totalsHold rules xs ≡ true → every (λ a. isTotal (a .rule) (a .total)) (accountsOf rules xs) ≡ true
+hold-totals : (rules : List Rule) (xs : List ℕ) → totalsHold rules xs ≡ true → every isPaid (accountsOf rules xs) ≡ true
 unfolding totalsHold every accountsOf
 hold-totals [] xs h = refl
 hold-totals (rule ∷ rules) [] h = refl
 hold-totals (rule ∷ rules) (x ∷ xs) h =
-    ap₂ (λ (p q : Bool). p && q) (and-l (isTotal rule x) _ h) (hold-totals rules xs (and-r (isTotal rule x) _ h))
+    ap₂ (λ (p q : Bool). p && q) (total-of rule x (and-l (isTotalNumber rule x) _ h)) (hold-totals rules xs (and-r (isTotalNumber rule x) _ h))
 
 or-none : (a : Bool) (n : ℕ) → (a || eqb n 0) ≡ true → a ≡ false → n ≡ 0
 or-none true n h e = absurd (false≢true (sym e))
@@ -89,96 +98,94 @@ none-or true n h = refl
 none-or false n h = eq-eqb n 0 (h refl)
 
 -- a sound state passes the test where it is stored
-module _ (s : State) (k : SoundState s) (m : MadeParts (profileIn s)) (xs : List ℕ) where
+module _ (s : State) (k : SoundState s) (m : MadeParts (s .part .profile)) (xs : List ℕ) where
   f : Fits s
   f = sound-fits s k m
 
   stored-tests : Tests (stored s xs)
-  unfolding stored encode profileIn rootsTable totalsTable
+  unfolding stored encode rootsTable totalsTable rootsIn rulesIn cellsOf Fitting
   stored-tests = record {
     long = omega (arith, length-append (encode s) (drop size xs), encode-long s f xs);
     mark = refl;
     clock = k .clock;
     firm = m .firm;
     roots = m .few;
-    rules = (omega (arith, m .some, same), omega (arith, m .most, same));
+    rules = (m .some, m .most);
     entries = k .number;
-    trip = flag-le (s .firmTripped);
-    lock = flag-le (s .firmLocked);
+    trip = flag-le (s .part .locks .firmTripped);
+    lock = flag-le (s .part .locks .firmByUser);
     tripped = k .tripped;
-    locked = k .locked;
+    locked = k .byUser;
     names = ap areRoots (roots-back s f xs) ∙ m .names;
-    names-rest = ap (λ (l : List ℕ). allZero (drop (length (s .roots)) l)) (stored-roots s f xs) ∙ ones-rest 64 (s .roots);
+    names-rest = ap (λ (l : List ℕ). allZero (drop (length (s .part .profile .roots)) l)) (stored-roots s f xs) ∙ ones-rest 64 (s .part .profile .roots);
     places-rules =
-        each-pass 2 (isRulePlace (length (s .roots))) (length (s .accounts)) (rulesPart (stored s xs))
-        (λ i l. ap (λ (q : List ℕ). isRulePlace (length (s .roots)) (drop (i * 2) q)) (stored-rules s f xs)
-        ∙ place-table (rule-codec (length (s .roots)) (m .few)) 256 (profileIn s .rules) i (ruleAt []) (m .valid) (omega (arith, same)));
-    order-rules = ap (areInOrder (length (s .roots)) [] 0) (rules-back s f xs) ∙ m .order;
+        each-pass 2 (isRulePlace (length (s .part .profile .roots))) (length (s .part .profile .rules)) (rulesPart (stored s xs))
+        (λ i l. ap (λ (q : List ℕ). isRulePlace (length (s .part .profile .roots)) (drop (i * 2) q)) (stored-rules s f xs)
+        ∙ place-table (rule-codec (length (s .part .profile .roots)) (m .few)) 256 (s .part .profile .rules) i (ruleAt []) (m .valid) l);
+    order-rules = ap (areInOrder (length (s .part .profile .roots)) [] 0) (rules-back s f xs) ∙ m .order;
     rules-rest =
-        ap₂ (λ (n : ℕ) (q : List ℕ). allZero (drop (n * 2) q)) (sym same) (stored-rules s f xs)
-        ∙ rest-table (rule-codec (length (s .roots)) (m .few)) 256 (profileIn s .rules);
+        ap (λ (q : List ℕ). allZero (drop (length (s .part .profile .rules) * 2) q)) (stored-rules s f xs)
+        ∙ rest-table (rule-codec (length (s .part .profile .roots)) (m .few)) 256 (s .part .profile .rules);
     totals =
-        ap₂ totalsHold (rules-back s f xs) (stored-totals s f xs ∙ ones-table 256 (map (λ a. a .total) (s .accounts)))
-        ∙ totals-hold (s .accounts) _ (k .totals);
-    rate = ap (λ (l : List Rule). hasRate l || eqb (length (s .log)) 0) (rules-back s f xs) ∙ none-or (hasRate (profileIn s .rules)) (length (s .log)) (k .none);
+        ap₂ totalsHold (rules-back s f xs ∙ sym (k .fitting)) (stored-totals s f xs ∙ ones-table 256 (totalsIn (s .part .accounts)))
+        ∙ totals-hold (s .part .accounts) _ (k .totals);
+    rate = ap (λ (l : List Rule). hasRate l || eqb (length (s .log)) 0) (rules-back s f xs) ∙ none-or (hasRate (s .part .profile .rules)) (length (s .log)) (k .none);
     places-log =
-        each-pass 2 (isEntryPlace (length (s .roots))) (length (s .log)) (logPart (stored s xs))
-        (λ i l. ap (λ (q : List ℕ). isEntryPlace (length (s .roots)) (drop (i * 2) q)) (stored-log s f xs)
-        ∙ place-table (entry-codec (length (s .roots)) (m .few)) 512 (s .log) i (entryAt []) (k .entries) l);
-    order-log = ap (areOrdered 0 (s .clock)) (log-back s f xs) ∙ k .ordered;
+        each-pass 2 (isEntryPlace (length (s .part .profile .roots))) (length (s .log)) (logPart (stored s xs))
+        (λ i l. ap (λ (q : List ℕ). isEntryPlace (length (s .part .profile .roots)) (drop (i * 2) q)) (stored-log s f xs)
+        ∙ place-table (entry-codec (length (s .part .profile .roots)) (m .few)) 512 (s .log) i (entryAt []) (k .entries) l);
+    order-log = ap (areOrdered 0 (s .part .clock)) (log-back s f xs) ∙ k .ordered;
     log-rest =
         ap (λ (q : List ℕ). allZero (drop (length (s .log) * 2) q)) (stored-log s f xs)
-        ∙ rest-table (entry-codec (length (s .roots)) (m .few)) 512 (s .log);
+        ∙ rest-table (entry-codec (length (s .part .profile .roots)) (m .few)) 512 (s .log);
   }
     where
-      same : length (profileIn s .rules) ≡ length (s .accounts)
-      same = map-length (λ a. a .rule) (s .accounts)
-
       flag-le : (b : Bool) → flagNumber b ≤ 1
       flag-le true = omega arith
       flag-le false = omega arith
 
 -- a memory that passes the test stands for a sound state
 module _ (xs : List ℕ) (t : Tests xs) where
-  few-roots : length (decode xs .roots) ≡ getD xs 3 0
+  few-roots : length (decode xs .part .profile .roots) ≡ getD xs 3 0
   unfolding decode
   few-roots = roots-number xs t
 
-  pub decode-made : isMade (profileIn (decode xs)) ≡ true
-  unfolding isMade profileIn decode
+  pub decode-made : isMade (decode xs .part .profile) ≡ true
+  unfolding isMade decode
   decode-made = search (together, le-leb, zero-le, head, small, names, some, most, valid, order) depth 20
     where
-      head : isNameNumber 1 4 (decode xs .firm) ≡ true
+      head : isNameNumber 1 4 (decode xs .part .profile .firm) ≡ true
       head = t .firm
 
-      small : length (decode xs .roots) ≤ 64
+      small : length (decode xs .part .profile .roots) ≤ 64
       small = omega (arith, few-roots, t .roots)
 
-      names : areRoots (decode xs .roots) ≡ true
+      names : areRoots (decode xs .part .profile .roots) ≡ true
       names = t .names
 
-      some : 1 ≤ length (map (λ a. a .rule) (decode xs .accounts))
+      some : 1 ≤ length (rulesAt xs)
       some = omega (arith, many-rules xs t, t .rules)
 
-      most : length (map (λ a. a .rule) (decode xs .accounts)) ≤ 256
+      most : length (rulesAt xs) ≤ 256
       most = omega (arith, many-rules xs t, t .rules)
 
-      valid : every (isRule (length (decode xs .roots))) (map (λ a. a .rule) (decode xs .accounts)) ≡ true
-      valid = rw (few-roots, rules-again xs t) (rules-valid xs t)
+      valid : every (isRule (length (decode xs .part .profile .roots))) (rulesAt xs) ≡ true
+      valid = rw few-roots (rules-valid xs t)
 
-      order : areInOrder (length (decode xs .roots)) [] 0 (map (λ a. a .rule) (decode xs .accounts)) ≡ true
-      order = rw (few-roots, rules-again xs t) (t .order-rules)
+      order : areInOrder (length (decode xs .part .profile .roots)) [] 0 (rulesAt xs) ≡ true
+      order = rw few-roots (t .order-rules)
 
-  pub decode-sound : Given (profileIn (decode xs)) → SoundState (decode xs)
-  unfolding decode profileIn
+  pub decode-sound : Given (decode xs .part .profile) → SoundState (decode xs)
+  unfolding decode rootsIn rulesIn cellsOf
   decode-sound given = record {
     clock = t .clock;
     given = given;
+    fitting = accounts-fit xs t;
     totals = hold-totals _ (totalsPart xs) (t .totals);
     tripped = rw few-roots (t .tripped);
-    locked = rw few-roots (t .locked);
+    byUser = rw few-roots (t .locked);
     number = omega (arith, entries, t .entries);
-    none = λ e. entries ∙ or-none _ (getD xs 5 0) (t .rate) (ap hasRate (sym (rules-again xs t)) ∙ e);
+    none = λ e. entries ∙ or-none _ (getD xs 5 0) (t .rate) e;
     ordered = t .order-log;
     entries = rw few-roots (log-valid xs t);
   }
@@ -196,10 +203,10 @@ unfolding Given
 given-is-made p g = given-made (g .0) p (g .1 .1)
 
 pub sound-decode : (xs : List ℕ) → isSound xs ≡ true → SoundState (decode xs)
-sound-decode xs h = let t = taken-apart xs h in decode-sound xs t (made-given (profileIn (decode xs)) (decode-made xs t))
+sound-decode xs h = let t = taken-apart xs h in decode-sound xs t (made-given (decode xs .part .profile) (decode-made xs t))
 
 pub sound-stored : (s : State) (xs : List ℕ) → SoundState s → isSound (stored s xs) ≡ true
-sound-stored s xs k = put-together (stored s xs) (stored-tests s k (made-parts (profileIn s) (given-is-made (profileIn s) (k .given))) xs)
+sound-stored s xs k = put-together (stored s xs) (stored-tests s k (made-parts (s .part .profile) (given-is-made (s .part .profile) (k .given))) xs)
 
 -- EXACTLY: the test that the code runs holds exactly if the sentence of document 01 does
 pub exactly : (xs : List ℕ) → Sound xs ↔ (isSound xs ≡ true)
@@ -216,9 +223,8 @@ sound-is-laid xs h =
     record {
       long = t .long;
       is = is-stored (decode xs) xs (restored xs t);
-      fits = sound-fits (decode xs) (sound-decode xs h) (made-parts (profileIn (decode xs)) (decode-made xs t));
+      fits = sound-fits (decode xs) (sound-decode xs h) (made-parts (decode xs .part .profile) (decode-made xs t));
     }
 
-pub sound-rules : (xs : List ℕ) → isSound xs ≡ true → every (isRule (length (decode xs .roots))) (profileIn (decode xs) .rules) ≡ true
-unfolding profileIn
-sound-rules xs h = made-parts (profileIn (decode xs)) (decode-made xs (taken-apart xs h)) .valid
+pub sound-rules : (xs : List ℕ) → isSound xs ≡ true → every (isRule (length (decode xs .part .profile .roots))) (decode xs .part .profile .rules) ≡ true
+sound-rules xs h = made-parts (decode xs .part .profile) (decode-made xs (taken-apart xs h)) .valid

@@ -11,7 +11,12 @@ use Rattle.rules.specs.declared.Rule.{Rule}
 use Rattle.rules.specs.declared.Account.{Account}
 use Rattle.tables.specs.Tables.{zeros, allZero, flat, table}
 use Rattle.tables.proofs.Tables.{length-zeros, zeros-all, all-zeros}
-use Rattle.state.specs.State.{size, rootsPart, rulesPart, totalsPart, logPart, accountsOf}
+use Rattle.laws.specs.Tests.{and-l, and-r}
+use Rattle.laws.specs.Folds.{every}
+use Rattle.rules.specs.Amounts.{isOf}
+use Rattle.rules.proofs.Amounts.{number-in, of-in, in-number}
+use Rattle.machine.specs.State.{ruleOf}
+use Rattle.state.specs.State.{size, totalsIn, rootsPart, rulesPart, totalsPart, logPart, accountsOf}
 
 -- the first n numbers, one by one
 unfoldable pub upTo : ℕ → (ℕ → ℕ) → List ℕ
@@ -105,28 +110,33 @@ module _ (head r u t g rest : List ℕ) (ten : length head ≡ 10) (roots : leng
       )
 
 -- rules with their totals, and the two apart again
-pub accounts-rules : (rules : List Rule) (totals : List ℕ) → length rules ≤ length totals → map (λ a. a .rule) (accountsOf rules totals) ≡ rules
+pub accounts-rules : (rules : List Rule) (totals : List ℕ) → length rules ≤ length totals → map ruleOf (accountsOf rules totals) ≡ rules
 unfolding accountsOf
 accounts-rules [] totals h = refl
 accounts-rules (rule ∷ rules) [] h = absurd (not-suc-le-zero h)
 accounts-rules (rule ∷ rules) (t ∷ totals) h = ap (λ (l : List Rule). rule ∷ l) (accounts-rules rules totals (le-of-suc-le-suc h))
 
-pub accounts-totals : (rules : List Rule) (totals : List ℕ) → length rules ≤ length totals → map (λ a. a .total) (accountsOf rules totals) ≡ take (length rules) totals
+pub accounts-totals : (rules : List Rule) (totals : List ℕ) → length rules ≤ length totals → totalsIn (accountsOf rules totals) ≡ take (length rules) totals
 unfolding accountsOf
 accounts-totals [] totals h = refl
 accounts-totals (rule ∷ rules) [] h = absurd (not-suc-le-zero h)
-accounts-totals (rule ∷ rules) (t ∷ totals) h = ap (λ (l : List ℕ). t ∷ l) (accounts-totals rules totals (le-of-suc-le-suc h))
+accounts-totals (rule ∷ rules) (t ∷ totals) h =
+    ap₂ (λ (x : ℕ) (l : List ℕ). x ∷ l) (number-in (rule .limit) t) (accounts-totals rules totals (le-of-suc-le-suc h))
 
-pub accounts-length : (rules : List Rule) (totals : List ℕ) → length rules ≤ length totals → length (accountsOf rules totals) ≡ length rules
-unfolding accountsOf
-accounts-length [] totals h = refl
-accounts-length (rule ∷ rules) [] h = absurd (not-suc-le-zero h)
-accounts-length (rule ∷ rules) (t ∷ totals) h = ap suc (accounts-length rules totals (le-of-suc-le-suc h))
+pub accounts-measured : (rules : List Rule) (totals : List ℕ) → every (λ a. isOf (a .rule .limit) (a .total)) (accountsOf rules totals) ≡ true
+unfolding accountsOf every
+accounts-measured [] totals = refl
+accounts-measured (rule ∷ rules) [] = refl
+accounts-measured (rule ∷ rules) (t ∷ totals) = rw (of-in (rule .limit) t) (accounts-measured rules totals)
 
-pub accounts-again : (accounts : List Account) (more : List ℕ) → accountsOf (map (λ a. a .rule) accounts) (map (λ a. a .total) accounts ++ more) ≡ accounts
-unfolding accountsOf
-accounts-again [] more = refl
-accounts-again (a ∷ rest) more = ap (λ (l : List Account). a ∷ l) (accounts-again rest more)
+pub accounts-again : (accounts : List Account) (more : List ℕ) → every (λ a. isOf (a .rule .limit) (a .total)) accounts ≡ true
+    → accountsOf (map ruleOf accounts) (totalsIn accounts ++ more) ≡ accounts
+unfolding accountsOf every
+accounts-again [] more h = refl
+accounts-again (a ∷ rest) more h =
+    let others = every (λ (b : Account). isOf (b .rule .limit) (b .total)) rest in
+    (λ k. record { rule = a .rule; total = in-number (a .rule .limit) (a .total) (and-l (isOf (a .rule .limit) (a .total)) others h) k }
+    ∷ accounts-again rest more (and-r (isOf (a .rule .limit) (a .total)) others h) k)
 
 -- a store past the front of a list
 set-after : (p q : List ℕ) (i v : ℕ) → set (p ++ q) (length p + i) v ≡ p ++ set q i v

@@ -11,20 +11,24 @@ use borrow.Author.Tests.{eqb-true, ltb-true, le-leb, lt-leb, lt-ltb, eq-eqb}
 use Rattle.laws.specs.Tests.{and-r, tests}
 use Rattle.measures.specs.Ranges.{_to_, In, times}
 use Rattle.rules.specs.declared.Rule.{Rule}
-use Rattle.tables.specs.Tables.{allZero, table, places, every, placesPass}
-use Rattle.tables.specs.RulePlace.{ruleAt, isRule, isRulePlace, rulesTable}
-use Rattle.tables.specs.EntryPlace.{entryAt, isEntry, isEntryPlace, logTable, flagNumber}
+use Rattle.laws.specs.Folds.{every}
+use Rattle.rules.specs.Valid.{isRule, hasRate, isTotalNumber}
+use Rattle.machine.specs.State.{cellsOf, Fitting}
+use Rattle.machine.specs.Entries.{isEntry, areOrdered}
+use Rattle.tables.specs.Tables.{allZero, table, places, placesPass}
+use Rattle.tables.specs.RulePlace.{ruleAt, isRulePlace, rulesTable}
+use Rattle.tables.specs.EntryPlace.{entryAt, isEntryPlace, logTable, flagNumber}
 use Rattle.tables.proofs.Tables.{is-table, valid-places, length-places, pass-each}
 use Rattle.tables.proofs.RulePlace.{rule-codec}
 use Rattle.tables.proofs.EntryPlace.{entry-codec}
 use Rattle.profile.specs.Profile.{rootsTable}
 use Rattle.made.specs.Names.{isNameNumber}
 use Rattle.made.specs.Made.{areRoots, areInOrder}
-use Rattle.made.specs.Parts.{rootsHold, rulesHold, isTotal, totalsHold}
-use Rattle.log.specs.Log.{areOrdered, logHolds}
-use Rattle.state.specs.State.{size, totalsTable, encode, rootsPart, rulesPart, totalsPart, logPart, accountsOf, decode}
-use Rattle.state.specs.Sound.{hasRate, headHolds, isSound}
-use Rattle.state.proofs.Parts.{upTo, parts, ones-are, accounts-rules, accounts-totals, accounts-length}
+use Rattle.made.specs.Parts.{rootsHold, rulesHold, totalsHold}
+use Rattle.log.specs.Log.{logHolds}
+use Rattle.state.specs.State.{size, totalsTable, totalsIn, encode, rootsPart, rulesPart, totalsPart, logPart, rulesAt, decode}
+use Rattle.state.specs.Sound.{headHolds, isSound}
+use Rattle.state.proofs.Parts.{upTo, parts, ones-are, accounts-rules, accounts-totals}
 
 -- what the test says, part by part
 pub record Tests (xs : List ℕ) : Type 0 where
@@ -42,10 +46,10 @@ pub record Tests (xs : List ℕ) : Type 0 where
   pub names : areRoots (take (getD xs 3 0) (rootsPart xs)) ≡ true
   pub names-rest : allZero (drop (getD xs 3 0) (rootsPart xs)) ≡ true
   pub places-rules : placesPass 2 (isRulePlace (getD xs 3 0)) (getD xs 4 0) (rulesPart xs) ≡ true
-  pub order-rules : areInOrder (getD xs 3 0) [] 0 (places 2 ruleAt (getD xs 4 0) (rulesPart xs)) ≡ true
+  pub order-rules : areInOrder (getD xs 3 0) [] 0 (rulesAt xs) ≡ true
   pub rules-rest : allZero (drop (getD xs 4 0 * 2) (rulesPart xs)) ≡ true
-  pub totals : totalsHold (places 2 ruleAt (getD xs 4 0) (rulesPart xs)) (totalsPart xs) ≡ true
-  pub rate : (hasRate (places 2 ruleAt (getD xs 4 0) (rulesPart xs)) || eqb (getD xs 5 0) 0) ≡ true
+  pub totals : totalsHold (rulesAt xs) (totalsPart xs) ≡ true
+  pub rate : (hasRate (rulesAt xs) || eqb (getD xs 5 0) 0) ≡ true
   pub places-log : placesPass 2 (isEntryPlace (getD xs 3 0)) (getD xs 5 0) (logPart xs) ≡ true
   pub order-log : areOrdered 0 (getD xs 1 0) (places 2 entryAt (getD xs 5 0) (logPart xs)) ≡ true
   pub log-rest : allZero (drop (getD xs 5 0 * 2) (logPart xs)) ≡ true
@@ -87,7 +91,7 @@ pub totals-rest : (rules : List Rule) (xs : List ℕ) → totalsHold rules xs �
 unfolding totalsHold allZero
 totals-rest [] xs h = h
 totals-rest (rule ∷ rules) [] h = refl
-totals-rest (rule ∷ rules) (x ∷ xs) h = totals-rest rules xs (and-r (isTotal rule x) (totalsHold rules xs) h)
+totals-rest (rule ∷ rules) (x ∷ xs) h = totals-rest rules xs (and-r (isTotalNumber rule x) (totalsHold rules xs) h)
 
 module _ (xs : List ℕ) (t : Tests xs) where
   rules-length : length (rulesPart xs) ≡ 512
@@ -96,12 +100,12 @@ module _ (xs : List ℕ) (t : Tests xs) where
   totals-length : length (totalsPart xs) ≡ 256
   totals-length = length-take-le 256 (drop 586 xs) (omega (arith, t .long, length-drop 586 xs))
 
-  pub rules-table : rulesPart xs ≡ rulesTable (places 2 ruleAt (getD xs 4 0) (rulesPart xs))
+  pub rules-table : rulesPart xs ≡ rulesTable (rulesAt xs)
   rules-table =
       is-table (rule-codec (getD xs 3 0) (t .roots)) 256 (getD xs 4 0) (rulesPart xs) rules-length
       (pass-each 2 (isRulePlace (getD xs 3 0)) (getD xs 4 0) (rulesPart xs) (t .places-rules)) (t .rules-rest)
 
-  pub rules-valid : every (isRule (getD xs 3 0)) (places 2 ruleAt (getD xs 4 0) (rulesPart xs)) ≡ true
+  pub rules-valid : every (isRule (getD xs 3 0)) (rulesAt xs) ≡ true
   rules-valid =
       valid-places (rule-codec (getD xs 3 0) (t .roots)) (getD xs 4 0) (rulesPart xs)
       (pass-each 2 (isRulePlace (getD xs 3 0)) (getD xs 4 0) (rulesPart xs) (t .places-rules))
@@ -124,42 +128,37 @@ module _ (xs : List ℕ) (t : Tests xs) where
   pub roots-number : length (take (getD xs 3 0) (rootsPart xs)) ≡ getD xs 3 0
   roots-number = length-take-le (getD xs 3 0) (rootsPart xs) (omega (arith, t .roots, length-take-le 64 (drop 10 xs) (omega (arith, t .long, length-drop 10 xs))))
 
-  rules-many : length (places 2 ruleAt (getD xs 4 0) (rulesPart xs)) ≡ getD xs 4 0
+  rules-many : length (rulesAt xs) ≡ getD xs 4 0
   rules-many = length-places (rule-codec (getD xs 3 0) (t .roots)) (getD xs 4 0) (rulesPart xs)
 
-  rules-few : length (places 2 ruleAt (getD xs 4 0) (rulesPart xs)) ≤ length (totalsPart xs)
+  rules-few : length (rulesAt xs) ≤ length (totalsPart xs)
   rules-few = omega (arith, rules-many, totals-length, t .rules)
 
-  pub rules-again : map (λ a. a .rule) (decode xs .accounts) ≡ places 2 ruleAt (getD xs 4 0) (rulesPart xs)
-  unfolding decode
-  rules-again = accounts-rules _ (totalsPart xs) rules-few
+  pub many-rules : length (rulesAt xs) ≡ getD xs 4 0
+  many-rules = rules-many
 
-  pub many-rules : length (map (λ a. a .rule) (decode xs .accounts)) ≡ getD xs 4 0
-  many-rules = ap length rules-again ∙ rules-many
+  -- the accounts are those of the rules, each total in its rule's measure
+  pub accounts-fit : Fitting (decode xs .part)
+  unfolding Fitting cellsOf decode
+  accounts-fit = accounts-rules (rulesAt xs) (totalsPart xs) rules-few
 
-  pub totals-table : totalsPart xs ≡ totalsTable (map (λ a. a .total) (decode xs .accounts))
-  unfolding totalsTable decode
+  pub totals-table : totalsPart xs ≡ totalsTable (totalsIn (decode xs .part .accounts))
+  unfolding totalsTable decode cellsOf
   totals-table =
       ones-are 256 (getD xs 4 0) (totalsPart xs) totals-length (omega (arith, t .rules))
       (ap (λ (k : ℕ). allZero (drop k (totalsPart xs))) (sym rules-many) ∙ totals-rest _ (totalsPart xs) (t .totals))
-      ∙ ap (table 1 256 (λ total. total ∷ [])) (ap (λ (k : ℕ). take k (totalsPart xs)) (sym rules-many) ∙ sym (accounts-totals _ (totalsPart xs) rules-few))
+      ∙ ap (table 1 256 (λ total. total ∷ [])) (ap (λ (k : ℕ). take k (totalsPart xs)) (sym rules-many) ∙ sym (accounts-totals (rulesAt xs) (totalsPart xs) rules-few))
 
   -- THE LAW: the numbers are just those of the state that they stand for
   pub restored : take size xs ≡ encode (decode xs)
   unfolding encode decode upTo
   restored =
       parts xs (t .long)
-      ∙ (λ i. (t .mark) i ∷ getD xs 1 0 ∷ getD xs 2 0 ∷ sym roots-number i ∷ rules-number i ∷ log-number i ∷ flag-again (getD xs 6 0) (t .trip) i
-      ∷ flag-again (getD xs 7 0) (t .lock) i ∷ getD xs 8 0 ∷ getD xs 9 0 ∷ (roots-table i ++ (rules-there i ++ (totals-table i ++ log-table i))))
+      ∙ (λ i. (t .mark) i ∷ getD xs 1 0 ∷ getD xs 2 0 ∷ sym roots-number i ∷ sym rules-many i ∷ log-number i ∷ flag-again (getD xs 6 0) (t .trip) i
+      ∷ flag-again (getD xs 7 0) (t .lock) i ∷ getD xs 8 0 ∷ getD xs 9 0 ∷ (roots-table i ++ (rules-table i ++ (totals-table i ++ log-table i))))
     where
-      rules-number : getD xs 4 0 ≡ length (accountsOf (places 2 ruleAt (getD xs 4 0) (rulesPart xs)) (totalsPart xs))
-      rules-number = sym (accounts-length _ (totalsPart xs) rules-few ∙ rules-many)
-
       log-number : getD xs 5 0 ≡ length (places 2 entryAt (getD xs 5 0) (logPart xs))
       log-number = sym (length-places (entry-codec (getD xs 3 0) (t .roots)) (getD xs 5 0) (logPart xs))
-
-      rules-there : rulesPart xs ≡ rulesTable (map (λ a. a .rule) (accountsOf (places 2 ruleAt (getD xs 4 0) (rulesPart xs)) (totalsPart xs)))
-      rules-there = rules-table ∙ ap rulesTable (sym (accounts-rules _ (totalsPart xs) rules-few))
 
 -- the parts put together again
 pub together : (a b : Bool) → a ≡ true → b ≡ true → (a && b) ≡ true
@@ -196,8 +195,8 @@ module _ (xs : List ℕ) where
   sound-front h e = rw (le-leb _ _ h, e)
 
   pub sound-parts : size ≤ length xs → headHolds xs ≡ true → (a b c d e : Bool) → a ≡ rootsHold (getD xs 3 0) (rootsPart xs)
-      → b ≡ rulesHold (getD xs 3 0) (getD xs 4 0) (rulesPart xs) → c ≡ totalsHold (places 2 ruleAt (getD xs 4 0) (rulesPart xs)) (totalsPart xs)
-      → d ≡ hasRate (places 2 ruleAt (getD xs 4 0) (rulesPart xs)) → e ≡ logHolds (getD xs 3 0) (getD xs 1 0) (getD xs 5 0) (logPart xs)
+      → b ≡ rulesHold (getD xs 3 0) (getD xs 4 0) (rulesPart xs) → c ≡ totalsHold (rulesAt xs) (totalsPart xs)
+      → d ≡ hasRate (rulesAt xs) → e ≡ logHolds (getD xs 3 0) (getD xs 1 0) (getD xs 5 0) (logPart xs)
       → (a && b && c && (d || eqb (getD xs 5 0) 0) && e) ≡ isSound xs
   unfolding isSound
   sound-parts h k a b c d e p q r s t = rw (le-leb _ _ h, k, ← p, ← q, ← r, ← s, ← t)

@@ -4,17 +4,19 @@ use native.Mathlib.Omega.{arith}
 use mathlib.Core.Path.{_≡_, refl, sym, ap, ap₂, _∙_, subst}
 use mathlib.Core.List.{List, [], _∷_, _++_, map}
 use lib.ListN.{length, getD, take, drop, set, length-append, length-set}
-use lib.Seq.{set-append-left, map-set-same}
+use lib.Seq.{set-append-left}
 use Rattle.rules.specs.declared.Account.{Account}
 use Rattle.tables.specs.Tables.{table, zeros}
 use Rattle.tables.specs.RulePlace.{rulesTable}
 use Rattle.tables.specs.EntryPlace.{logTable, flagNumber}
-use Rattle.tables.specs.declared.Entry.{Entry}
+use Rattle.rules.specs.Amounts.{numberOf}
+use Rattle.machine.specs.declared.Entry.{Entry}
+use Rattle.machine.specs.State.{State, rulesIn}
 use Rattle.profile.specs.Profile.{rootsTable}
-use Rattle.state.specs.State.{State, size, totalsTable, encode, stored}
+use Rattle.state.specs.State.{size, totalsTable, totalsIn, encode, stored}
 use Rattle.state.specs.Laid.{Fits, Laid, withLog, withAccounts}
 use Rattle.state.proofs.Parts.{ones-table, put-log, put-total}
-use Rattle.state.proofs.Stored.{headOf, map-length, roots-long, rules-long, totals-long, log-long, encode-long, stored-rest, decode-stored}
+use Rattle.state.proofs.Stored.{headOf, map-length, many-accounts, roots-long, rules-long, totals-long, log-long, encode-long, stored-rest, decode-stored}
 
 -- where a state that fits is stored, it is laid out
 pub stored-laid : (s : State) (xs : List ℕ) → Fits s → Laid (stored s xs)
@@ -42,11 +44,11 @@ map-set g (x ∷ l) (suc i) y = ap (λ m. g x ∷ m) (map-set g l i y)
 module _ (s : State) (f : Fits s) (xs : List ℕ) where
   pub put-entries : (log : List Entry)
       → take 842 (stored s xs) ++ (logTable log ++ drop 1024 (drop 842 (stored s xs)))
-      ≡ (headOf s ++ (rootsTable (s .roots) ++ (rulesTable (map (λ a. a .rule) (s .accounts)) ++ (totalsTable (map (λ a. a .total) (s .accounts)) ++ logTable log))))
+      ≡ (headOf s ++ (rootsTable (s .part .profile .roots) ++ (rulesTable (s .part .profile .rules) ++ (totalsTable (totalsIn (s .part .accounts)) ++ logTable log))))
       ++ drop size xs
   unfolding stored encode
   put-entries log =
-      put-log (headOf s) (rootsTable (s .roots)) (rulesTable (map (λ a. a .rule) (s .accounts))) (totalsTable (map (λ a. a .total) (s .accounts)))
+      put-log (headOf s) (rootsTable (s .part .profile .roots)) (rulesTable (s .part .profile .rules)) (totalsTable (totalsIn (s .part .accounts)))
       (logTable (s .log)) (drop size xs) refl (roots-long s f xs) (rules-long s f xs) (totals-long s f xs) (log-long s f xs) (logTable log)
 
   -- as many entries as before
@@ -55,9 +57,9 @@ module _ (s : State) (f : Fits s) (xs : List ℕ) where
   unfolding stored encode
   put-same log e =
       put-entries log
-      ∙ (λ i. (1 ∷ s .clock ∷ s .firm ∷ length (s .roots) ∷ length (s .accounts) ∷ sym e i ∷ flagNumber (s .firmTripped) ∷ flagNumber (s .firmLocked)
-      ∷ s .tripped ∷ s .locked
-      ∷ (rootsTable (s .roots) ++ (rulesTable (map (λ a. a .rule) (s .accounts)) ++ (totalsTable (map (λ a. a .total) (s .accounts)) ++ logTable log))))
+      ∙ (λ i. (1 ∷ s .part .clock ∷ s .part .profile .firm ∷ length (s .part .profile .roots) ∷ length (s .part .profile .rules) ∷ sym e i ∷ flagNumber (s .part .locks .firmTripped) ∷ flagNumber (s .part .locks .firmByUser)
+      ∷ s .part .locks .tripped ∷ s .part .locks .byUser
+      ∷ (rootsTable (s .part .profile .roots) ++ (rulesTable (s .part .profile .rules) ++ (totalsTable (totalsIn (s .part .accounts)) ++ logTable log))))
       ++ drop size xs)
 
   -- another number of entries
@@ -67,25 +69,24 @@ module _ (s : State) (f : Fits s) (xs : List ℕ) where
   put-other log = ap (λ (l : List ℕ). set l 5 (length log)) (put-entries log)
 
   -- another total of account i
-  pub put-account : (i : ℕ) (a d : Account) → i < length (s .accounts) → a .rule ≡ getD (s .accounts) i d .rule
-      → set (stored s xs) (586 + i) (a .total) ≡ stored (withAccounts s (set (s .accounts) i a)) xs
-  unfolding stored encode totalsTable
+  pub put-account : (i : ℕ) (a d : Account) → i < length (s .part .accounts) → a .rule ≡ getD (s .part .accounts) i d .rule
+      → set (stored s xs) (586 + i) (numberOf (a .total)) ≡ stored (withAccounts s (set (s .part .accounts) i a)) xs
+  unfolding stored encode totalsTable rulesIn
   put-account i a d h e =
-      put-total (headOf s) (rootsTable (s .roots)) (rulesTable (map (λ b. b .rule) (s .accounts))) (totalsTable (map (λ b. b .total) (s .accounts)))
-      (logTable (s .log)) (drop size xs) refl (roots-long s f xs) (rules-long s f xs) (totals-long s f xs) (log-long s f xs) i (a .total)
-      (omega (arith, f .accounts))
-      ∙ (λ k. (1 ∷ s .clock ∷ s .firm ∷ length (s .roots) ∷ sym (length-set (s .accounts) i a) k ∷ length (s .log) ∷ flagNumber (s .firmTripped)
-      ∷ flagNumber (s .firmLocked) ∷ s .tripped ∷ s .locked
-      ∷ (rootsTable (s .roots) ++ (rulesTable (sym same-rules k) ++ (totals-set k ++ logTable (s .log))))) ++ drop size xs)
+      put-total (headOf s) (rootsTable (s .part .profile .roots)) (rulesTable (s .part .profile .rules)) (totalsTable (totalsIn (s .part .accounts)))
+      (logTable (s .log)) (drop size xs) refl (roots-long s f xs) (rules-long s f xs) (totals-long s f xs) (log-long s f xs) i (numberOf (a .total))
+      (omega (arith, f .rules, many-accounts s f xs, many))
+      ∙ ap (λ (l : List ℕ). (headOf s ++ (rootsTable (s .part .profile .roots) ++ (rulesTable (s .part .profile .rules) ++ (l ++ logTable (s .log))))) ++ drop size xs) totals-set
     where
-      same-rules : map (λ b. b .rule) (set (s .accounts) i a) ≡ map (λ b. b .rule) (s .accounts)
-      same-rules = map-set-same (λ (b : Account). b .rule) (s .accounts) i a d e
+      many : length (totalsIn (s .part .accounts)) ≡ length (s .part .accounts)
+      many = map-length (λ b. numberOf (b .total)) (s .part .accounts)
 
-      totals-set : set (table 1 256 (λ total. total ∷ []) (map (λ b. b .total) (s .accounts))) i (a .total)
-          ≡ table 1 256 (λ total. total ∷ []) (map (λ b. b .total) (set (s .accounts) i a))
+      totals-set : set (table 1 256 (λ total. total ∷ []) (totalsIn (s .part .accounts))) i (numberOf (a .total))
+          ≡ table 1 256 (λ total. total ∷ []) (totalsIn (set (s .part .accounts) i a))
       totals-set =
-          let ts = map (λ (b : Account). b .total) (s .accounts) in
-          ap (λ (l : List ℕ). set l i (a .total)) (ones-table 256 ts)
-          ∙ set-append-left ts (zeros (256 - length ts)) i (a .total) (omega (arith, map-length (λ b. b .total) (s .accounts)))
-          ∙ ap₂ (λ (l : List ℕ) (n : ℕ). l ++ zeros (256 - n)) (sym (map-set (λ (b : Account). b .total) (s .accounts) i a)) (sym (ap length (map-set (λ (b : Account). b .total) (s .accounts) i a) ∙ length-set ts i (a .total)))
-          ∙ sym (ones-table 256 (map (λ b. b .total) (set (s .accounts) i a)))
+          let ts = totalsIn (s .part .accounts) in
+          let e : totalsIn (set (s .part .accounts) i a) ≡ set ts i (numberOf (a .total)) = map-set (λ (b : Account). numberOf (b .total)) (s .part .accounts) i a in
+          ap (λ (l : List ℕ). set l i (numberOf (a .total))) (ones-table 256 ts)
+          ∙ set-append-left ts (zeros (256 - length ts)) i (numberOf (a .total)) (omega (arith, many))
+          ∙ ap₂ (λ (l : List ℕ) (n : ℕ). l ++ zeros (256 - n)) (sym e) (sym (ap length e ∙ length-set ts i (numberOf (a .total))))
+          ∙ sym (ones-table 256 (totalsIn (set (s .part .accounts) i a)))

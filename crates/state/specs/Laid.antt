@@ -2,22 +2,26 @@
 use Prim.Native.Nat.{ℕ, _≤_}
 use mathlib.Core.Path.{_≡_}
 use mathlib.Core.Bool.{true}
-use mathlib.Core.List.{List, map}
+use mathlib.Core.List.{List}
 use lib.ListN.{length}
+use Rattle.laws.specs.Folds.{every}
+use Rattle.rules.specs.Amounts.{isOf}
+use Rattle.rules.specs.Valid.{isRule}
 use Rattle.rules.specs.declared.Account.{Account}
-use Rattle.tables.specs.Tables.{every}
-use Rattle.tables.specs.RulePlace.{isRule}
-use Rattle.tables.specs.EntryPlace.{isEntry}
-use Rattle.tables.specs.declared.Entry.{Entry}
-use Rattle.state.specs.State.{State, size, stored, decode}
+use Rattle.machine.specs.declared.Entry.{Entry}
+use Rattle.machine.specs.State.{State, rulesIn, rootsIn, Fitting}
+use Rattle.machine.specs.Entries.{isEntry}
+use Rattle.state.specs.State.{size, stored, decode}
 
--- a state whose tables have room, and whose rules and entries are valid
+-- a state whose tables have room, whose accounts are those of its rules, and whose rules, totals' measures and entries are valid
 pub record Fits (s : State) : Type 0 where
-  pub roots : length (s .roots) ≤ 64
-  pub accounts : length (s .accounts) ≤ 256
+  pub roots : rootsIn s ≤ 64
+  pub rules : length (rulesIn s) ≤ 256
   pub log : length (s .log) ≤ 512
-  pub rules : every (isRule (length (s .roots))) (map (λ a. a .rule) (s .accounts)) ≡ true
-  pub entries : every (isEntry (length (s .roots))) (s .log) ≡ true
+  pub fitting : Fitting (s .part)
+  pub measured : every (λ a. isOf (a .rule .limit) (a .total)) (s .part .accounts) ≡ true
+  pub valid : every (isRule (rootsIn s)) (rulesIn s) ≡ true
+  pub entries : every (isEntry (rootsIn s)) (s .log) ≡ true
 
 -- a memory that holds just the numbers of the state that it stands for
 pub record Laid (xs : List ℕ) : Type 0 where
@@ -27,27 +31,10 @@ pub record Laid (xs : List ℕ) : Type 0 where
 
 -- a state with another log, and with other accounts
 abbrev pub withLog : State → List Entry → State
-withLog s log = record {
-  clock = s .clock;
-  firm = s .firm;
-  roots = s .roots;
-  accounts = s .accounts;
-  firmTripped = s .firmTripped;
-  firmLocked = s .firmLocked;
-  tripped = s .tripped;
-  locked = s .locked;
-  log = log;
-}
+withLog s log = record { part = s .part; log = log }
 
 abbrev pub withAccounts : State → List Account → State
 withAccounts s accounts = record {
-  clock = s .clock;
-  firm = s .firm;
-  roots = s .roots;
-  accounts = accounts;
-  firmTripped = s .firmTripped;
-  firmLocked = s .firmLocked;
-  tripped = s .tripped;
-  locked = s .locked;
+  part = record { clock = s .part .clock; profile = s .part .profile; accounts = accounts; locks = s .part .locks };
   log = s .log;
 }

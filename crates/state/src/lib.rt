@@ -37,7 +37,7 @@ fn is_head(m: &[u64]) -> bool
 {
     let roots = m[3];
     (m[0] == 1)
-        & measures::is_in(m[1], 0, 86_399_999)
+        & measures::is_in(m[1], 0, measures::Time::MOST)
         & made::is_name_number(m[2], 1, 4)
         & measures::is_in(roots, 0, 64)
         & measures::is_in(m[4], 1, 256)

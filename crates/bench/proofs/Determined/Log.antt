@@ -14,6 +14,12 @@ use Rattle.log.proofs.blank.Kinds as blank-kinds
 use Rattle.log.proofs.blank.Reads as blank-reads
 use Rattle.log.proofs.join.Kinds as join-kinds
 use Rattle.log.proofs.join.Reads as join-reads
+use Rattle.log.proofs.no_memos.Kinds as no-memos-kinds
+use Rattle.log.proofs.no_memos.Reads as no-memos-reads
+use Rattle.log.proofs.sum_in.Kinds as sum-in-kinds
+use Rattle.log.proofs.sum_in.Reads as sum-in-reads
+use Rattle.log.proofs.recalled.Kinds as recalled-kinds
+use Rattle.log.proofs.recalled.Reads as recalled-reads
 
 pub is-log : Determines 1 is-log-kinds.ps is-log-kinds.r is-log-reads.Asked is-log-reads.Learnt
 is-log κs args asked x y u v p q = (one p q, refl)
@@ -32,3 +38,12 @@ blank κs args asked x y u v p q = (refl, λ i. (one p q i, v .1))
 
 pub join : Determines 1 join-kinds.ps join-kinds.r join-reads.Asked join-reads.Learnt
 join κs args asked x y u v p q = (one (p .count) (q .count), λ i. (one (p .log) (q .log) i, v .1))
+
+pub no-memos : Determines 0 no-memos-kinds.ps no-memos-kinds.r no-memos-reads.Asked no-memos-reads.Learnt
+no-memos κs args asked x y u v p q = (one (p .1) (q .1), refl)
+
+pub sum-in : Determines 0 sum-in-kinds.ps sum-in-kinds.r sum-in-reads.Asked sum-in-reads.Learnt
+sum-in κs args asked x y u v p q = (one p q, refl)
+
+pub recalled : Determines 1 recalled-kinds.ps recalled-kinds.r recalled-reads.Asked recalled-reads.Learnt
+recalled κs args asked x y u v p q = (one (p .2) (q .2), refl)

@@ -24,6 +24,16 @@ use Rattle.measures.proofs.Executions.limit.Kinds as executions-limit-kinds
 use Rattle.measures.proofs.Executions.limit.Reads as executions-limit-reads
 use Rattle.measures.proofs.Executions.total.Kinds as executions-total-kinds
 use Rattle.measures.proofs.Executions.total.Reads as executions-total-reads
+use Rattle.measures.proofs.TenThousandths.times.Kinds as ten-thousandths-times-kinds
+use Rattle.measures.proofs.TenThousandths.times.Reads as ten-thousandths-times-reads
+use Rattle.measures.proofs.TenThousandths.plus.Kinds as ten-thousandths-plus-kinds
+use Rattle.measures.proofs.TenThousandths.plus.Reads as ten-thousandths-plus-reads
+use Rattle.measures.proofs.Contracts.executions.Kinds as contracts-executions-kinds
+use Rattle.measures.proofs.Contracts.executions.Reads as contracts-executions-reads
+use Rattle.measures.proofs.Contracts.plus.Kinds as contracts-plus-kinds
+use Rattle.measures.proofs.Contracts.plus.Reads as contracts-plus-reads
+use Rattle.measures.proofs.Executions.plus.Kinds as executions-plus-kinds
+use Rattle.measures.proofs.Executions.plus.Reads as executions-plus-reads
 
 pub is-in : Determines 0 is-in-kinds.ps is-in-kinds.r is-in-reads.Asked is-in-reads.Learnt
 is-in κs args asked x y u v p q = (one p q, refl)
@@ -54,3 +64,18 @@ executions-limit κs args asked x y u v p q = (one (executions-determined number
 
 pub executions-total : Determines 0 executions-total-kinds.ps executions-total-kinds.r executions-total-reads.Asked executions-total-reads.Learnt
 executions-total κs args asked x y u v p q = (one (executions-determined totals _ x p) (executions-determined totals _ y q), refl)
+
+pub ten-thousandths-times : Determines 0 ten-thousandths-times-kinds.ps ten-thousandths-times-kinds.r ten-thousandths-times-reads.Asked ten-thousandths-times-reads.Learnt
+ten-thousandths-times κs args asked x y u v p q = (λ i. record { 0 = one p q i }, refl)
+
+pub ten-thousandths-plus : Determines 0 ten-thousandths-plus-kinds.ps ten-thousandths-plus-kinds.r ten-thousandths-plus-reads.Asked ten-thousandths-plus-reads.Learnt
+ten-thousandths-plus κs args asked x y u v p q = (λ i. record { 0 = one p q i }, refl)
+
+pub contracts-executions : Determines 0 contracts-executions-kinds.ps contracts-executions-kinds.r contracts-executions-reads.Asked contracts-executions-reads.Learnt
+contracts-executions κs args asked x y u v p q = (λ i. record { 0 = one p q i }, refl)
+
+pub contracts-plus : Determines 0 contracts-plus-kinds.ps contracts-plus-kinds.r contracts-plus-reads.Asked contracts-plus-reads.Learnt
+contracts-plus κs args asked x y u v p q = (λ i. record { 0 = one p q i }, refl)
+
+pub executions-plus : Determines 0 executions-plus-kinds.ps executions-plus-kinds.r executions-plus-reads.Asked executions-plus-reads.Learnt
+executions-plus κs args asked x y u v p q = (λ i. record { 0 = one p q i }, refl)

@@ -10,6 +10,8 @@ use Rattle.reset.proofs.reset_state.Kinds as reset-state-kinds
 use Rattle.reset.proofs.reset_state.Reads as reset-state-reads
 use Rattle.reset.proofs.left.Kinds as left-kinds
 use Rattle.reset.proofs.left.Reads as left-reads
+use Rattle.reset.proofs.effect_of.Kinds as effect-of-kinds
+use Rattle.reset.proofs.effect_of.Reads as effect-of-reads
 
 pub verdict : Determines 1 verdict-kinds.ps verdict-kinds.r verdict-reads.Asked verdict-reads.Learnt
 verdict κs args asked x y u v p q = (one p q, refl)
@@ -22,3 +24,6 @@ reset-state κs args asked x y u v p q = (refl, λ i. (one p q i, v .1))
 
 pub left : Determines 1 left-kinds.ps left-kinds.r left-reads.Asked left-reads.Learnt
 left κs args asked x y u v p q = (one p q, refl)
+
+pub effect-of : Determines 0 effect-of-kinds.ps effect-of-kinds.r effect-of-reads.Asked effect-of-reads.Learnt
+effect-of κs args asked x y u v p q = (one p q, refl)

@@ -16,6 +16,12 @@ use Rattle.rules.proofs.Rule.reached.Kinds as rule-reached-kinds
 use Rattle.rules.proofs.Rule.reached.Reads as rule-reached-reads
 use Rattle.rules.proofs.Limit.added.Kinds as limit-added-kinds
 use Rattle.rules.proofs.Limit.added.Reads as limit-added-reads
+use Rattle.rules.proofs.Amount.number.Kinds as amount-number-kinds
+use Rattle.rules.proofs.Amount.number.Reads as amount-number-reads
+use Rattle.rules.proofs.Limit.amount.Kinds as limit-amount-kinds
+use Rattle.rules.proofs.Limit.amount.Reads as limit-amount-reads
+use Rattle.rules.proofs.Limit.ceiling.Kinds as limit-ceiling-kinds
+use Rattle.rules.proofs.Limit.ceiling.Reads as limit-ceiling-reads
 
 pub rule-covers : Determines 0 rule-covers-kinds.ps rule-covers-kinds.r rule-covers-reads.Asked rule-covers-reads.Learnt
 rule-covers κs args asked x y u v p q = (one p q, refl)
@@ -37,3 +43,12 @@ rule-reached κs args asked x y u v p q = (one p q, refl)
 
 pub limit-added : Determines 0 limit-added-kinds.ps limit-added-kinds.r limit-added-reads.Asked limit-added-reads.Learnt
 limit-added κs args asked x y u v p q = (one p q, refl)
+
+pub amount-number : Determines 0 amount-number-kinds.ps amount-number-kinds.r amount-number-reads.Asked amount-number-reads.Learnt
+amount-number κs args asked x y u v p q = (one p q, refl)
+
+pub limit-amount : Determines 0 limit-amount-kinds.ps limit-amount-kinds.r limit-amount-reads.Asked limit-amount-reads.Learnt
+limit-amount κs args asked x y u v p q = (one p q, refl)
+
+pub limit-ceiling : Determines 0 limit-ceiling-kinds.ps limit-ceiling-kinds.r limit-ceiling-reads.Asked limit-ceiling-reads.Learnt
+limit-ceiling κs args asked x y u v p q = (one p q, refl)

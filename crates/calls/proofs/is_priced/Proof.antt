@@ -2,15 +2,22 @@
 use borrow.Author.Needs.{needs}
 use Rattle.calls.proofs.is_priced.Statement.{statement}
 use Rattle.calls.proofs.is_priced.Tie as tie
+use Rattle.calls.proofs.is_priced.Reads as reads
+use Rattle.calls.proofs.is_priced.Lts as lts
+use Rattle.calls.proofs.is_offer.Reads as is-offer-reads
+use Rattle.calls.proofs.is_premium.Reads as is-premium-reads
 
-is-in-requires : tie.Need-is-in-requires
-is-in-requires c κs = search needs
+-- src/lib.rt:178:5
+is-premium-requires : tie.Need-is-premium-requires
+is-premium-requires c κs = search needs
 
-is-in-requires-2 : tie.Need-is-in-requires-2
-is-in-requires-2 c κs = search needs
+-- src/lib.rt:178:29
+is-offer-requires : tie.Need-is-offer-requires
+is-offer-requires c κs = search needs
 
+-- src/lib.rt:175:1
 returns : tie.Need-returns
-returns c = rw (c .before .is-in .ensures, c .is-in2 .ensures)
+returns c = rw (c .before .is-premium .ensures, c .is-offer .ensures)
 
 pub is-priced-spec : {M : Type 1} → statement M
-is-priced-spec = tie.close (tie.spec is-in-requires is-in-requires-2 returns)
+is-priced-spec = tie.close (tie.spec is-premium-requires is-offer-requires returns)

@@ -2,8 +2,8 @@
 use mathlib.Core.Path.{refl, sym, _∙_}
 use native.Mathlib.Omega.{arith}
 use borrow.Author.Tests.{not-false}
-use Rattle.machine.specs.Machine.{Call, acted}
-use Rattle.calls.specs.Calls.{isRefusal}
+use Rattle.machine.specs.Judge.{judged, isRefusal}
+use Rattle.machine.specs.Calls.{Call}
 use Rattle.calls.proofs.Armed.{sound-long, call-refused}
 use mathlib.Core.Bool.{true, false}
 use Rattle.calls.proofs.Steps.{laid, few-roots, refused, acts, lockout-late, lockout-known, lockout-root}
@@ -50,7 +50,7 @@ same-length-4 : tie.Need-same-length-4
 same-length-4 c = search needs
 
 returns-4 : tie.Need-returns-4
-unfolding acted isRefusal
+unfolding judged isRefusal
 returns-4 c =
     let d = acts _ (sym (c .before .before .before .before .before .before .before .before .before .before .memory-refusal .ensures) ∙ c .before .before .before .before .before .before .before .before .before .if1 .left) (Call.lockout _ _ _) (lockout-known _ (sym (c .before .before .before .before .before .before .before .before .before .before .memory-refusal .ensures) ∙ c .before .before .before .before .before .before .before .before .before .if1 .left) _ _ (c .before .before .before .before .before .before .before .bad-time .ensures) _ _ (c .before .before .before .before .before .before .if2 .left) false (c .before .before .before .before .if3 .left)) refl in
     (d .0, c .before .before .lock-out .ensures ∙ d .1)

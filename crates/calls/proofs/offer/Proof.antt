@@ -1,7 +1,7 @@
 -- `calls::offer` meets its contract: it refuses by its numbers as the machine does, and a locked-out offer moves the clock alone. Assumes nothing.
 use mathlib.Core.Path.{sym, _∙_}
 use native.Mathlib.Omega.{arith}
-use Rattle.machine.specs.Machine.{Call}
+use Rattle.machine.specs.Calls.{Call}
 use Rattle.calls.proofs.Armed.{sound-long, call-refused}
 use Rattle.calls.proofs.Steps.{laid, few-roots, roots-are, refused}
 use Rattle.calls.proofs.Offers.{offer-late, offer-unknown, offer-unpriced, offer-asked, offer-free, locked-out}

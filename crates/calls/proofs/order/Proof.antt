@@ -5,9 +5,11 @@ use borrow.Author.Tests.{not-false, ltb-true}
 use Rattle.laws.specs.Tests.{and-l}
 use Rattle.state.specs.State.{decode}
 use Rattle.state.specs.Laid.{Laid}
-use Rattle.machine.specs.Machine.{Call, acted, verdictOf}
+use Rattle.machine.specs.Judge.{ordered, judged, isRefusal}
+use Rattle.machine.specs.Step.{locksAfter, partAfter, after}
+use Rattle.machine.specs.Calls.{Call}
+use Rattle.machine.specs.Locks.{verdictOf}
 use Rattle.machine.specs.declared.Answer.the-variants.{Judged}
-use Rattle.calls.specs.Calls.{isRefusal}
 use Rattle.calls.proofs.Armed.{sound-long, call-refused}
 use mathlib.Core.Bool.{true, false}
 use Rattle.calls.proofs.Steps.{laid, few-roots, refused, acts, order-late, order-known, after-laid, after-decoded}
@@ -51,7 +53,7 @@ reset-state-requires c κs =
     (laid _ (sym (c .before .before .before .before .before .before .before .memory-refusal .ensures) ∙ c .before .before .before .before .before .before .if1 .left), omega (arith, few-roots (a .m .now) (sym (c .before .before .before .before .before .before .before .memory-refusal .ensures) ∙ c .before .before .before .before .before .before .if1 .left), ltb-true (a .root) _ (and-l _ _ (not-false _ (c .before .if3 .left)))))
 
 verdict-requires : tie.Need-verdict-requires
-unfolding acted
+unfolding judged ordered
 verdict-requires c κs =
     let a = c .before .before .before .before .before .before .before .before .before .before .before .before .before .before .args in (
       subst Laid (sym (c .before .before .before .reset-state .ensures)) (after-laid _ (sym (c .before .before .before .before .before .before .before .before .before .before .before .memory-refusal .ensures) ∙ c .before .before .before .before .before .before .before .before .before .before .if1 .left) (Call.order _ _ _) (order-known _ (sym (c .before .before .before .before .before .before .before .before .before .before .before .memory-refusal .ensures) ∙ c .before .before .before .before .before .before .before .before .before .before .if1 .left) _ _ (c .before .before .before .before .before .before .before .before .bad-time .ensures) _ _ (c .before .before .before .before .before .before .before .if2 .left) false (c .before .before .before .before .before .if3 .left))),
@@ -62,13 +64,13 @@ same-length-4 : tie.Need-same-length-4
 same-length-4 c = search needs
 
 returns-4 : tie.Need-returns-4
-unfolding acted isRefusal
+unfolding judged ordered isRefusal after partAfter
 returns-4 c =
     let a = c .before .before .before .before .before .before .before .before .before .before .before .before .before .before .before .args in
     let d = acts _ (sym (c .before .before .before .before .before .before .before .before .before .before .before .before .memory-refusal .ensures) ∙ c .before .before .before .before .before .before .before .before .before .before .before .if1 .left) (Call.order _ _ _) (order-known _ (sym (c .before .before .before .before .before .before .before .before .before .before .before .before .memory-refusal .ensures) ∙ c .before .before .before .before .before .before .before .before .before .before .before .if1 .left) _ _ (c .before .before .before .before .before .before .before .before .before .bad-time .ensures) _ _ (c .before .before .before .before .before .before .before .before .if2 .left) false (c .before .before .before .before .before .before .if3 .left)) refl in
     let v =
-    c .verdict .ensures ∙ ap (λ l. verdictOf (decode l) (a .root)) (c .before .before .before .before .reset-state .ensures)
-    ∙ ap (λ s. verdictOf s (a .root)) (after-decoded _ (sym (c .before .before .before .before .before .before .before .before .before .before .before .before .memory-refusal .ensures) ∙ c .before .before .before .before .before .before .before .before .before .before .before .if1 .left) (Call.order _ _ _) (order-known _ (sym (c .before .before .before .before .before .before .before .before .before .before .before .before .memory-refusal .ensures) ∙ c .before .before .before .before .before .before .before .before .before .before .before .if1 .left) _ _ (c .before .before .before .before .before .before .before .before .before .bad-time .ensures) _ _ (c .before .before .before .before .before .before .before .before .if2 .left) false (c .before .before .before .before .before .before .if3 .left))) in
+    c .verdict .ensures ∙ ap (λ l. verdictOf (decode l .part .locks) (a .root)) (c .before .before .before .before .reset-state .ensures)
+    ∙ ap (λ s. verdictOf (s .part .locks) (a .root)) (after-decoded _ (sym (c .before .before .before .before .before .before .before .before .before .before .before .before .memory-refusal .ensures) ∙ c .before .before .before .before .before .before .before .before .before .before .before .if1 .left) (Call.order _ _ _) (order-known _ (sym (c .before .before .before .before .before .before .before .before .before .before .before .before .memory-refusal .ensures) ∙ c .before .before .before .before .before .before .before .before .before .before .before .if1 .left) _ _ (c .before .before .before .before .before .before .before .before .before .bad-time .ensures) _ _ (c .before .before .before .before .before .before .before .before .if2 .left) false (c .before .before .before .before .before .before .if3 .left))) in
     (ap (λ n. Judged n 0 false false) v ∙ d .0, c .before .before .before .before .reset-state .ensures ∙ d .1)
 
 pub order-spec : {M : Type 1} → statement M

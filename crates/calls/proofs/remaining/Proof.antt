@@ -2,8 +2,10 @@
 use mathlib.Core.Path.{refl, sym, ap, _∙_}
 use native.Mathlib.Omega.{arith}
 use borrow.Author.Tests.{not-false, ltb-true}
-use Rattle.machine.specs.Machine.{Call, acted}
-use Rattle.calls.specs.Calls.{isRefusal}
+use Rattle.machine.specs.Judge.{judged, isRefusal}
+use Rattle.machine.specs.Calls.{Call}
+use Rattle.rules.specs.Amounts.{numberOf}
+use Rattle.rules.proofs.Amounts.{number-in}
 use Rattle.calls.proofs.Armed.{sound-long, call-refused}
 use mathlib.Core.Bool.{true, false}
 use Rattle.machine.specs.declared.Answer.the-variants.{Left}
@@ -38,10 +40,16 @@ left-requires c κs =
     let a = c .before .before .before .before .before .before .before .before .args in
     (laid _ (sym (c .before .before .before .before .before .before .memory-refusal .ensures) ∙ c .before .before .before .before .before .if1 .left), omega (arith, rules-are (a .m .now) (sym (c .before .before .before .before .before .before .memory-refusal .ensures) ∙ c .before .before .before .before .before .if1 .left), ltb-true (a .rule) _ (not-false _ (c .if3 .left))))
 
+number-requires : tie.Need-number-requires
+number-requires c κs = search needs
+
 returns-4 : tie.Need-returns-4
-unfolding acted isRefusal
+unfolding judged isRefusal
 returns-4 c =
-    ap Left (c .left .ensures) ∙ acts _ (sym (c .before .before .before .before .before .before .before .memory-refusal .ensures) ∙ c .before .before .before .before .before .before .if1 .left) (Call.remaining _ _) (remaining-known _ (sym (c .before .before .before .before .before .before .before .memory-refusal .ensures) ∙ c .before .before .before .before .before .before .if1 .left) _ _ (c .before .before .before .before .bad-time .ensures) _ (c .before .before .before .if2 .left) false (c .before .if3 .left)) refl .0
+    let at-left = c .before in
+    let ready = sym (at-left .before .before .before .before .before .before .before .memory-refusal .ensures) ∙ at-left .before .before .before .before .before .before .if1 .left in
+    ap Left (c .number .ensures ∙ ap numberOf (at-left .left .ensures) ∙ number-in _ _)
+    ∙ acts _ ready (Call.remaining _ _) (remaining-known _ ready _ _ (at-left .before .before .before .before .bad-time .ensures) _ (at-left .before .before .before .if2 .left) false (at-left .before .if3 .left)) refl .0
 
 pub remaining-spec : {M : Type 1} → statement M
 remaining-spec =
@@ -55,4 +63,5 @@ remaining-spec =
     shared-slice-read-if3
     returns-3
     left-requires
+    number-requires
     returns-4)

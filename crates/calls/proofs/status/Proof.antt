@@ -2,7 +2,10 @@
 use mathlib.Core.Path.{sym, ap, _∙_}
 use native.Mathlib.Omega.{arith}
 use Rattle.state.specs.State.{decode}
-use Rattle.machine.specs.Machine.{Call, step, unless, refusalOf, acted}
+use Rattle.machine.specs.Calls.{Call}
+use Rattle.machine.specs.Judge.{judged, unless, judge, stepIn, step}
+use Rattle.machine.specs.Remaining.{standing}
+use Rattle.machine.specs.Refusals.{refusalOf}
 use Rattle.machine.specs.declared.Answer.the-variants.{Standing}
 use Rattle.calls.proofs.Armed.{sound-long, call-refused, call-taken}
 use borrow.Author.Needs.{needs}
@@ -25,7 +28,7 @@ locked-roots-requires : tie.Need-locked-roots-requires
 locked-roots-requires c κs = search needs
 
 returns-2 : tie.Need-returns-2
-unfolding step unless refusalOf acted decode
+unfolding step stepIn judge unless refusalOf judged standing decode
 returns-2 c = ap Standing (c .locked-roots .ensures) ∙ call-taken _ Call.status _ (c .before .before .before .before .memory-refusal .ensures) (c .before .before .before .if1 .left)
 
 pub status-spec : {M : Type 1} → statement M

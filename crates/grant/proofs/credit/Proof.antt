@@ -3,18 +3,19 @@ use borrow.Author.Needs.{needs}
 use Prim.Native.Nat.{_-_, _<_}
 use native.Mathlib.Omega.{arith}
 use mathlib.Core.Path.{_≡_, refl, sym, subst}
+use mathlib.Core.Bool.{true}
 use lib.ListN.{length}
-use Rattle.measures.specs.Ranges.{In, totals}
 use Rattle.rules.specs.declared.Account.{Account}
+use Rattle.machine.proofs.Totals.{isPaid}
 use Rattle.state.specs.State.{decode}
-use Rattle.grant.proofs.Memory.{laid-rules}
+use Rattle.grant.proofs.Memory.{laid-rules, laid-few}
 use Rattle.grant.proofs.After.{held-laid, held-length}
 use Rattle.grant.proofs.Accounts.{Crediting, crediting-none, crediting-holds, crediting-number, crediting-account, crediting-more, crediting-done, laid-totals}
 use Rattle.grant.proofs.credit.Statement.{statement}
 use Rattle.grant.proofs.credit.Tie as tie
 
 abbrev Inv-loop : tie.InvT-loop
-Inv-loop m₀ o grant rules reached₀ i₀ m reached i = (rules ≡ length (decode m₀ .accounts)) × (length m ≡ length m₀) × Crediting o grant m₀ i m reached
+Inv-loop m₀ o grant rules reached₀ i₀ m reached i = (rules ≡ length (decode m₀ .part .accounts)) × (length m ≡ length m₀) × Crediting o grant m₀ i m reached
 
 abbrev μ-loop : tie.MeasureT-loop
 μ-loop m₀ o grant rules reached₀ i₀ m reached i = rules - i
@@ -37,16 +38,18 @@ credit-one-requires c κs =
     let p = start .pre in
     let inv = at-loop .loop .inv in
     let laid = p .0 .laid in
-    let l : at-loop .loop .i < length (decode (start .args .m .now) .accounts) = omega (arith, inv .0, c .before .loop-test .taken) in (
+    let l : at-loop .loop .i < length (decode (start .args .m .now) .part .accounts) = omega (arith, inv .0, c .before .loop-test .taken) in (
       held-laid (crediting-holds o grant laid (inv .2)),
       omega (arith, l, crediting-number o grant laid (inv .2)),
-      subst (λ (a : Account). In totals (a .total)) (sym (crediting-account o grant laid (inv .2))) (laid-totals (start .args .m .now) (at-loop .loop .i) (p .1) l),
+      subst (λ (a : Account). isPaid a ≡ true) (sym (crediting-account o grant laid (inv .2))) (laid-totals (start .args .m .now) (at-loop .loop .i) (p .1) l),
       p .0 .premium .1,
       p .2,
     )
 
 add-i : tie.Need-add-i Inv-loop μ-loop
-add-i c = search needs
+add-i c =
+    let at-test = c .before .before .before .before in
+    omega (arith, at-test .before .loop .inv .0, at-test .loop-test .taken, laid-few (at-test .before .before .before .before .pre .0 .laid))
 
 loop-less : tie.Need-loop-less Inv-loop μ-loop
 loop-less c = omega arith
@@ -57,7 +60,7 @@ loop-again c =
     let at-loop = at-one .before .before .before in
     let start = at-loop .before .before .before in
     let inv = at-loop .loop .inv in
-    let l : at-loop .loop .i < length (decode (start .args .m .now) .accounts) = omega (arith, inv .0, at-one .before .before .loop-test .taken) in
+    let l : at-loop .loop .i < length (decode (start .args .m .now) .part .accounts) = omega (arith, inv .0, at-one .before .before .loop-test .taken) in
     let next = crediting-more (start .args .o) (start .args .grant) (start .pre .0 .laid) (inv .2) l (at-one .credit-one .ensures) in
     (inv .0, held-length (crediting-holds (start .args .o) (start .args .grant) (start .pre .0 .laid) next) (start .pre .0 .laid .long), next)
 

@@ -1,6 +1,6 @@
 -- `grant::is_firm` meets its contract: only a rule that covers every fill is of the firm. Assumes nothing.
 use Rattle.rules.specs.Rules.{levelOf}
-use Rattle.machine.specs.Machine.{sameLevel}
+use Rattle.machine.specs.Offers.{sameLevel}
 use borrow.Author.Needs.{needs}
 use Rattle.grant.proofs.is_firm.Statement.{statement}
 use Rattle.grant.proofs.is_firm.Tie as tie

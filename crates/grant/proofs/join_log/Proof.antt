@@ -4,10 +4,11 @@ use mathlib.Core.Path.{sym, ap, _∙_}
 use mathlib.Core.List.{List}
 use lib.ListN.{length}
 use Rattle.tables.specs.EntryPlace.{logTable}
-use Rattle.tables.specs.declared.Entry.{Entry}
-use Rattle.state.specs.State.{profileIn, stored, decode}
+use Rattle.machine.specs.declared.Entry.{Entry}
+use Rattle.machine.specs.Offers.{entryOf, joinedLog}
+use Rattle.machine.specs.State.{rulesIn, rootsIn}
+use Rattle.state.specs.State.{stored, decode}
 use Rattle.state.specs.Laid.{withLog}
-use Rattle.machine.specs.Machine.{entryOf, joinedLog}
 use Rattle.grant.proofs.Memory.{laid-held}
 use Rattle.grant.proofs.Joined.{joined-off, joined-on, window-day, grant-some, room-for, entry-in, put-log}
 use borrow.Author.Needs.{needs}
@@ -41,7 +42,7 @@ part-join-end : tie.Need-part-join-end
 part-join-end c = search needs
 
 join-requires : tie.Need-join-requires
-unfolding decode entryOf
+unfolding decode entryOf rootsIn
 join-requires c κs =
     let at-if = c .before .before in
     let start = at-if .before .before .before .before in
@@ -75,7 +76,7 @@ returns-2 c =
     let s = decode (args .m .now) in
     let is = sym (joined-on s (laid .fits) (at-if .before .longest-window .ensures) (args .o) (args .grant) (at-if .if1 .left)) in
     let j = at-join .join .ensures in
-    put-log (joinedLog (profileIn s .rules) (s .log) (args .o) (args .grant)) laid (j .count ∙ ap length is) (j .log ∙ ap logTable is)
+    put-log (joinedLog (rulesIn s) (s .log) (args .o) (args .grant)) laid (j .count ∙ ap length is) (j .log ∙ ap logTable is)
 
 pub join-log-spec : {M : Type 1} → statement M
 join-log-spec =

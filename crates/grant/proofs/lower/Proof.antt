@@ -1,8 +1,10 @@
 -- `grant::lower` meets its contract: a rule that covers the offer is of its root or of the firm, and lowers that cut alone. Assumes nothing.
-use mathlib.Core.Path.{sym, _∙_, subst}
+use mathlib.Core.Path.{sym, ap, _∙_, subst}
+use Rattle.rules.specs.Amounts.{isOf}
 use Rattle.rules.specs.Rules.{InRange}
 use Rattle.rules.specs.declared.Level.the-variants.{Firm, Root}
 use Rattle.rules.specs.declared.Rule.{Rule}
+use Rattle.rules.proofs.Amounts.{of-in}
 use Rattle.state.specs.State.{decode}
 use Rattle.grant.specs.Grant.{accountAt}
 use Rattle.grant.proofs.Memory.{laid-in-range}
@@ -10,6 +12,12 @@ use Rattle.grant.proofs.Cut.{lowered-off, lowered-firm, lowered-root, a
 use borrow.Author.Needs.{needs}
 use Rattle.grant.proofs.lower.Statement.{statement}
 use Rattle.grant.proofs.lower.Tie as tie
+use Rattle.grant.proofs.counted_by.Reads as counted-by-reads
+use Rattle.grant.proofs.is_firm.Reads as is-firm-reads
+use Rattle.grant.proofs.least.Reads as least-reads
+use Rattle.grant.proofs.rule_in.Reads as rule-in-reads
+use Rattle.rules.proofs.Rule.allowance.Reads as allowance-reads
+use Rattle.rules.proofs.Rule.covers.Reads as covers-reads
 
 rule-in-requires : tie.Need-rule-in-requires
 rule-in-requires c κs = search needs
@@ -24,20 +32,26 @@ returns c =
     let args = start .args in
     let xs = args .m .now in
     let a = accountAt xs (args .i) in
-    let test = c .before .covers .ensures in
-    record {
-      root = lowered-off (args .o) a (at-rule .rule-in .ensures) test (decode xs .log) (Root (args .o .root)) (args .cuts .root) (c .if1 .taken);
-      firm = lowered-off (args .o) a (at-rule .rule-in .ensures) test (decode xs .log) Firm (args .cuts .firm) (c .if1 .taken);
-    }
+    let test = c .before .covers .ensures in (
+      record {
+        root = lowered-off (args .o) a (at-rule .rule-in .ensures) test (decode xs .log) (Root (args .o .root)) (args .cuts .root) (c .if1 .taken);
+        firm = lowered-off (args .o) a (at-rule .rule-in .ensures) test (decode xs .log) Firm (args .cuts .firm) (c .if1 .taken);
+      },
+      start .pre .2,
+    )
 
 counted-by-requires : tie.Need-counted-by-requires
 counted-by-requires c κs = search needs
 
 allowance-requires : tie.Need-allowance-requires
 allowance-requires c κs =
-    let at-rule = c .before .before .before in
+    let at-rule = c .before .before .before .before in
     let p = at-rule .before .before .pre in
-    (subst (λ (r : Rule). InRange (r .limit)) (sym (at-rule .rule-in .ensures)) (laid-in-range (p .0 .laid) (p .1) .0), p .0 .premium .0)
+    let limit = at-rule .rule-in .result .limit in (
+      subst (λ (r : Rule). InRange (r .limit)) (sym (at-rule .rule-in .ensures)) (laid-in-range (p .0 .laid) (p .1) .0),
+      ap (isOf limit) (c .before .counted-by .ensures .0) ∙ of-in limit _,
+      p .0 .premium .0,
+    )
 
 is-firm-requires : tie.Need-is-firm-requires
 is-firm-requires c κs = search needs
@@ -47,42 +61,48 @@ least-requires c κs = search needs
 
 returns-2 : tie.Need-returns-2
 returns-2 c =
-    let at-rule = c .before .before .before .before .before .before .before in
+    let at-rule = c .before .before .before .before .before .before .before .before in
     let start = at-rule .before .before in
     let args = start .args in
     let xs = args .m .now in
     let a = accountAt xs (args .i) in
     let at-most = c .before .before .before in
-    let at-covers = at-most .before .before .before in
+    let told = at-most .before .before in
+    let at-covers = told .before .before in
     let is = at-rule .rule-in .ensures in
-    let allows = allows-is (decode xs .log) (args .o) a is (at-most .before .counted-by .ensures) (at-most .allowance .ensures) in
-    let inside = at-most .before .before .if1 .left in
-    let firm = c .before .before .is-firm .ensures in
-    record {
-      root = sym (rw (c .before .if2 .taken) at (lowered-root (args .o) a is (at-covers .covers .ensures) inside firm (decode xs .log) allows (args .cuts .root)));
-      firm = c .least .ensures ∙ sym (rw (c .before .if2 .taken) at (lowered-firm (args .o) a is (at-covers .covers .ensures) inside firm (decode xs .log) allows (args .cuts .firm)));
-    }
+    let allows = allows-is (decode xs .log) (args .o) a is (told .counted-by .ensures .0) (at-most .allowance .ensures) in
+    let inside = told .before .if1 .left in
+    let firm = c .before .before .is-firm .ensures in (
+      record {
+        root = sym (rw (c .before .if2 .taken) at (lowered-root (args .o) a is (at-covers .covers .ensures) inside firm (decode xs .log) allows (args .cuts .root)));
+        firm = c .least .ensures ∙ sym (rw (c .before .if2 .taken) at (lowered-firm (args .o) a is (at-covers .covers .ensures) inside firm (decode xs .log) allows (args .cuts .firm)));
+      },
+      told .counted-by .ensures .1,
+    )
 
 least-requires-2 : tie.Need-least-requires-2
 least-requires-2 c κs = search needs
 
 returns-3 : tie.Need-returns-3
 returns-3 c =
-    let at-rule = c .before .before .before .before .before .before .before in
+    let at-rule = c .before .before .before .before .before .before .before .before in
     let start = at-rule .before .before in
     let args = start .args in
     let xs = args .m .now in
     let a = accountAt xs (args .i) in
     let at-most = c .before .before .before in
-    let at-covers = at-most .before .before .before in
+    let told = at-most .before .before in
+    let at-covers = told .before .before in
     let is = at-rule .rule-in .ensures in
-    let allows = allows-is (decode xs .log) (args .o) a is (at-most .before .counted-by .ensures) (at-most .allowance .ensures) in
-    let inside = at-most .before .before .if1 .left in
-    let firm = c .before .before .is-firm .ensures in
-    record {
-      root = c .least2 .ensures ∙ sym (rw (c .before .if2 .left) at (lowered-root (args .o) a is (at-covers .covers .ensures) inside firm (decode xs .log) allows (args .cuts .root)));
-      firm = sym (rw (c .before .if2 .left) at (lowered-firm (args .o) a is (at-covers .covers .ensures) inside firm (decode xs .log) allows (args .cuts .firm)));
-    }
+    let allows = allows-is (decode xs .log) (args .o) a is (told .counted-by .ensures .0) (at-most .allowance .ensures) in
+    let inside = told .before .if1 .left in
+    let firm = c .before .before .is-firm .ensures in (
+      record {
+        root = c .least2 .ensures ∙ sym (rw (c .before .if2 .left) at (lowered-root (args .o) a is (at-covers .covers .ensures) inside firm (decode xs .log) allows (args .cuts .root)));
+        firm = sym (rw (c .before .if2 .left) at (lowered-firm (args .o) a is (at-covers .covers .ensures) inside firm (decode xs .log) allows (args .cuts .firm)));
+      },
+      told .counted-by .ensures .1,
+    )
 
 pub lower-spec : {M : Type 1} → statement M
 lower-spec =

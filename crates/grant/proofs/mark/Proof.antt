@@ -4,6 +4,7 @@ use native.Mathlib.Omega.{arith}
 use mathlib.Core.Path.{ap, _∙_}
 use mathlib.Core.Bool.{cond}
 use lib.ListN.{getD, length-set}
+use Rattle.machine.specs.State.{rootsIn}
 use Rattle.grant.proofs.Joined.{put-marks}
 use borrow.Author.Needs.{needs}
 use Rattle.grant.proofs.mark.Statement.{statement}
@@ -19,6 +20,7 @@ slice-read-tripped : tie.Need-slice-read-tripped
 slice-read-tripped c = omega (arith, c .before .before .before .before .pre .0 .long)
 
 mark-requires : tie.Need-mark-requires
+unfolding rootsIn
 mark-requires c κs = omega (arith, c .before .before .before .before .pre .0 .fits .roots, c .before .before .before .before .pre .1)
 
 pick-requires-2 : tie.Need-pick-requires-2

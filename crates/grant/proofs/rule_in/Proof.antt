@@ -1,9 +1,10 @@
 -- `grant::rule_in` meets its contract: the rules of the state stand in their places. Assumes nothing.
 use Prim.Native.Nat.{_*_}
+use native.Mathlib.Omega.{arith}
 use mathlib.Core.Path.{_∙_}
 use Rattle.tables.proofs.RulePlace.{rule-here}
 use Rattle.state.specs.State.{rulesPart}
-use Rattle.grant.proofs.Memory.{laid-rule}
+use Rattle.grant.proofs.Memory.{laid-few, laid-rule}
 use borrow.Author.Needs.{needs}
 use Rattle.grant.proofs.rule_in.Statement.{statement}
 use Rattle.grant.proofs.rule_in.Tie as tie
@@ -18,22 +19,22 @@ part-rules-end : tie.Need-part-rules-end
 part-rules-end c = search needs
 
 mul-at : tie.Need-mul-at
-mul-at c = search needs
+mul-at c = omega (arith, laid-few (c .before .before .pre .0), c .before .before .pre .1)
 
 mul-first : tie.Need-mul-first
-mul-first c = search needs
+mul-first c = omega (arith, laid-few (c .before .before .pre .0), c .before .before .pre .1)
 
 shared-slice-read-first : tie.Need-shared-slice-read-first
-shared-slice-read-first c = search needs
+shared-slice-read-first c = omega (arith, laid-few (c .before .before .before .pre .0), c .before .before .before .pre .1)
 
 add-second : tie.Need-add-second
-add-second c = search needs
+add-second c = omega (arith, laid-few (c .before .before .before .pre .0), c .before .before .before .pre .1)
 
 mul-second : tie.Need-mul-second
-mul-second c = search needs
+mul-second c = omega (arith, laid-few (c .before .before .before .pre .0), c .before .before .before .pre .1)
 
 shared-slice-read-second : tie.Need-shared-slice-read-second
-shared-slice-read-second c = search needs
+shared-slice-read-second c = omega (arith, laid-few (c .before .before .before .before .pre .0), c .before .before .before .before .pre .1)
 
 rule-of-requires : tie.Need-rule-of-requires
 rule-of-requires c κs = search needs

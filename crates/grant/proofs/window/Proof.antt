@@ -1,5 +1,5 @@
 -- `grant::window` meets its contract: only a rate rule has a window. Assumes nothing.
-use Rattle.machine.specs.Machine.{windowOf}
+use Rattle.machine.specs.Offers.{windowOf}
 use borrow.Author.Needs.{needs}
 use Rattle.grant.proofs.window.Statement.{statement}
 use Rattle.grant.proofs.window.Tie as tie

@@ -4,7 +4,7 @@ use mathlib.Core.Path.{ap, _∙_}
 use lib.ListN.{length}
 use lib.Seq.{sets}
 use native.Mathlib.Omega.{arith}
-use Rattle.machine.specs.Machine.{numbers}
+use Rattle.machine.specs.Judge.{numbers}
 use Rattle.lines.specs.Lines.{decimal, spaced, recordLine}
 use Rattle.lines.proofs.Texts.{then-written, decimal-few, five}
 use borrow.Author.Needs.{needs}

@@ -1,6 +1,6 @@
 -- `log::cleared` meets its contract: the digits of the flags are those of the levels that the reset concerns, test by test. Assumes nothing.
 use lib.Bits.{and-le-l}
-use Rattle.rules.specs.Resets.{zeroing}
+use Rattle.machine.specs.Effects.{zeroing}
 use Rattle.log.specs.Sieve.{flagDigits, withoutFlags}
 use borrow.Author.Needs.{needs}
 use Rattle.log.proofs.cleared.Statement.{statement}

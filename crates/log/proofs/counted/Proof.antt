@@ -1,20 +1,31 @@
--- `log::counted` meets its contract: what passes the rule's sieve is what counts for the rule. Assumes nothing.
-use mathlib.Core.Path.{_∙_}
-use Rattle.log.proofs.Sifting.{sieve-counts}
+-- `log::counted` meets its contract: the memo of the rule's sieve says what the rule counts. Assumes nothing.
+use mathlib.Core.Path.{ap, _∙_}
+use Rattle.rules.specs.Amounts.{amountIn}
+use Rattle.log.proofs.Memos.{for-rule}
 use borrow.Author.Needs.{needs}
 use Rattle.log.proofs.counted.Statement.{statement}
 use Rattle.log.proofs.counted.Tie as tie
+use Rattle.log.proofs.counted.Reads as reads
+use Rattle.log.proofs.counted.Lts as lts
+use Rattle.log.proofs.memo_of.Reads as memo-of-reads
+use Rattle.log.proofs.sieve_of.Reads as sieve-of-reads
+use Rattle.log.proofs.sum_in.Reads as sum-in-reads
 
+-- src/lib.rt:235:35
 sieve-of-requires : tie.Need-sieve-of-requires
 sieve-of-requires c κs = search needs
 
-summed-in-requires : tie.Need-summed-in-requires
-summed-in-requires c κs = search needs
+-- src/lib.rt:235:19
+memo-of-requires : tie.Need-memo-of-requires
+memo-of-requires c κs = search needs
 
+-- src/lib.rt:235:5
+sum-in-requires : tie.Need-sum-in-requires
+sum-in-requires c κs = search needs
+
+-- src/lib.rt:230:1
 returns : tie.Need-returns
-returns c =
-    let s = c .before .before .before in
-    c .summed-in .ensures ∙ (rw (c .before .sieve-of .ensures) (sieve-counts (s .args .rule) (s .args .time) (s .pre .1) (s .pre .0)))
+returns c = c .sum-in .ensures ∙ ap (amountIn _) (for-rule (c .before .before .before .before .pre .0) _ _ (c .before .before .before .before .pre .1) _ (c .before .memo-of .ensures .0) (c .before .before .sieve-of .ensures) (c .before .memo-of .ensures .1))
 
 pub counted-spec : {M : Type 1} → statement M
-counted-spec = tie.close (tie.spec sieve-of-requires summed-in-requires returns)
+counted-spec = tie.close (tie.spec sieve-of-requires memo-of-requires sum-in-requires returns)

@@ -1,27 +1,26 @@
 -- `log::is_log` meets its contract: what is left from place i on decides as the whole does. Assumes nothing.
 use Prim.Native.Nat.{ℕ, _+_, _-_, _*_, _/_, _%_, _≤_, _<_}
 use mathlib.Core.Path.{_≡_, refl, sym, ap, _∙_}
-use mathlib.Core.Bool.{Bool, _&&_}
+use mathlib.Core.Bool.{Bool, _&&_, and-assoc}
 use mathlib.Core.List.{List}
 use lib.ListN.{length, getD, take, drop, length-drop}
 use lib.Seq.{take-all}
 use lib.Dec.{leb}
 use borrow.Author.Needs.{needs}
-use borrow.Author.Tests.{not-true, not-false}
 use native.Mathlib.Omega.{arith}
 use Rattle.measures.specs.Ranges.{isIn, times}
 use Rattle.tables.specs.Tables.{allZero}
 use Rattle.tables.specs.EntryPlace.{entryAt, isEntryPlace}
 use Rattle.tables.proofs.EntryPlace.{time-here, is-entry-here}
-use Rattle.log.proofs.Order.{leftHolds, fromHolds, left-start, left-on, left-off, left-end, holds-is}
+use Rattle.log.proofs.Order.{leftHolds, fromHolds, left-start, left-step, left-end, holds-is}
 use Rattle.log.proofs.is_log.Statement.{statement}
 use Rattle.log.proofs.is_log.Tie as tie
 
 abbrev Inv-loop : tie.InvT-loop
-Inv-loop log k roots clock from₀ i₀ from i = (i ≤ k) × (leftHolds roots clock k log 0 0 ≡ fromHolds roots clock k log from i)
+Inv-loop log k roots clock good₀ from₀ i₀ good from i = (i ≤ k) × (leftHolds roots clock k log 0 0 ≡ (good && fromHolds roots clock k log from i))
 
 abbrev μ-loop : tie.MeasureT-loop
-μ-loop log k roots clock from₀ i₀ from i = k - i
+μ-loop log k roots clock good₀ from₀ i₀ good from i = k - i
 
 loop-holds : tie.Need-loop-holds Inv-loop μ-loop
 loop-holds c = (omega arith, left-start _ _ _ _)
@@ -67,15 +66,6 @@ module _ (c : tie.After-is-entry-but-time Inv-loop μ-loop) where
   timed : entryAt (drop at numbers) .time ≡ getD numbers at 0 / 1024 % 134_217_728
   timed = time-here numbers at there
 
-returns : tie.Need-returns Inv-loop μ-loop
-returns c =
-    let t = at-test (c .before) in
-    let a = t .before .before .before .args in
-    sym (holds-is (a .roots) (a .clock) (a .k) (a .log .now)
-    ∙ ap (λ (b : Bool). b && allZero (drop (a .k * 2) (a .log .now)))
-    (t .before .loop .inv .1
-    ∙ left-off _ _ _ _ _ _ _ _ (timed (c .before)) (tested (c .before)) (t .loop-test .taken) (not-true _ (c .if1 .taken))))
-
 add-i : tie.Need-add-i Inv-loop μ-loop
 add-i c = search needs
 
@@ -84,10 +74,11 @@ loop-less c = search needs
 
 loop-again : tie.Need-loop-again Inv-loop μ-loop
 loop-again c =
-    let t = at-test (c .before) in (
+    let t = at-test c in
+    let a = t .before .before .before .args in
+    let l = t .before .loop in (
       omega arith,
-      t .before .loop .inv .1
-          ∙ left-on _ _ _ _ _ _ _ _ (timed (c .before)) (tested (c .before)) (t .loop-test .taken) (not-false _ (c .if1 .left)),
+      l .inv .1 ∙ left-step (a .roots) (a .clock) (a .k) (a .log .now) (l .from) (l .i) _ _ (timed c) (tested c) (t .loop-test .taken) (l .good),
     )
 
 mul-is-zero : tie.Need-mul-is-zero Inv-loop μ-loop
@@ -108,16 +99,16 @@ part-is-zero-end c = search needs
 is-zero-requires : tie.Need-is-zero-requires Inv-loop μ-loop
 is-zero-requires c κs = search needs
 
-returns-2 : tie.Need-returns-2 Inv-loop μ-loop
-returns-2 c =
+returns : tie.Need-returns Inv-loop μ-loop
+returns c =
     let a = c .before .before .before .before .before .args in
     let n = length (a .log .now) - a .k * 2 in
-    let from = c .before .before .before .loop .from in
+    let l = c .before .before .before .loop in
     let e : c .is-zero .result ≡ allZero (take n (drop (a .k * 2) (a .log .now))) = c .is-zero .ensures in
-    ap (λ (b : Bool). leb from 86_399_999 && leb from (a .clock) && b) (e ∙ ap allZero (take-all n (drop (a .k * 2) (a .log .now)) (omega (arith, length-drop (a .k * 2) (a .log .now)))))
+    ap (λ (b : Bool). l .good && leb (l .from) 86_399_999 && leb (l .from) (a .clock) && b) (e ∙ ap allZero (take-all n (drop (a .k * 2) (a .log .now)) (omega (arith, length-drop (a .k * 2) (a .log .now)))))
     ∙ sym (holds-is (a .roots) (a .clock) (a .k) (a .log .now)
     ∙ ap (λ (b : Bool). b && allZero (drop (a .k * 2) (a .log .now)))
-    (c .before .before .before .loop .inv .1 ∙ left-end (a .roots) (a .clock) (a .k) (a .log .now) from _ (c .before .before .loop-test .left)))
+    (l .inv .1 ∙ ap (λ (b : Bool). l .good && b) (left-end (a .roots) (a .clock) (a .k) (a .log .now) (l .from) _ (c .before .before .loop-test .left)) ∙ sym (and-assoc (l .good) (leb (l .from) 86_399_999) (leb (l .from) (a .clock)))))
 
 pub is-log-spec : {M : Type 1} → statement M
 is-log-spec =
@@ -133,7 +124,6 @@ is-log-spec =
     mul-second
     shared-slice-read-second
     is-entry-but-time-requires
-    returns
     add-i
     loop-less
     loop-again
@@ -143,4 +133,4 @@ is-log-spec =
     part-is-zero-start
     part-is-zero-end
     is-zero-requires
-    returns-2)
+    returns)

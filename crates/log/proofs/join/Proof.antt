@@ -4,7 +4,8 @@ use mathlib.Core.Path.{sym, ap, _∙_}
 use mathlib.Core.List.{[], _∷_}
 use native.Mathlib.Omega.{arith}
 use lib.ListN.{length, length-append}
-use Rattle.log.specs.Log.{entriesOf, recent}
+use Rattle.log.specs.Log.{entriesOf}
+use Rattle.machine.specs.Entries.{recent}
 use Rattle.log.proofs.Turns.{joined-log}
 use borrow.Author.Needs.{needs}
 use Rattle.log.proofs.join.Statement.{statement}

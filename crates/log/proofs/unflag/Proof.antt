@@ -4,18 +4,18 @@ use mathlib.Core.Path.{_≡_, ap, _∙_}
 use mathlib.Core.List.{map}
 use native.Mathlib.Omega.{arith}
 use lib.ListN.{length, set, length-set}
-use Rattle.rules.specs.Resets.{zeroing}
-use Rattle.log.specs.Log.{unflagged}
+use Rattle.machine.specs.Effects.{zeroing}
+use Rattle.machine.specs.Order.{unflagged, unflaggedLog}
 use Rattle.log.proofs.Turns.{Turned, turned-none, unflag-turn, unflag-done}
 use borrow.Author.Needs.{needs}
 use Rattle.log.proofs.unflag.Statement.{statement}
 use Rattle.log.proofs.unflag.Tie as tie
 
 abbrev Inv-loop : tie.InvT-loop
-Inv-loop log₀ k root reset i₀ log i = (i ≤ k) × (length log ≡ 1024) × Turned (map (unflagged (zeroing reset root))) k log₀ i i log
+Inv-loop log₀ k root effect i₀ log i = (i ≤ k) × (length log ≡ 1024) × Turned (map (unflagged (zeroing effect root))) k log₀ i i log
 
 abbrev μ-loop : tie.MeasureT-loop
-μ-loop log₀ k root reset i₀ log i = k - i
+μ-loop log₀ k root effect i₀ log i = k - i
 
 loop-holds : tie.Need-loop-holds Inv-loop μ-loop
 loop-holds c = (search needs, c .before .pre .size, turned-none _ (c .before .pre))
@@ -59,6 +59,7 @@ same-length : tie.Need-same-length Inv-loop μ-loop
 same-length c = search needs
 
 returns : tie.Need-returns Inv-loop μ-loop
+unfolding unflaggedLog
 returns c = unflag-done _ (c .before .before .before .pre) (c .before .loop .inv .2) (c .loop-test .left)
 
 pub unflag-spec : {M : Type 1} → statement M

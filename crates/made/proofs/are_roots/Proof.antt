@@ -1,25 +1,32 @@
--- `made::are_roots` meets its contract: the names from place i on decide as all of them do. Assumes nothing.
+-- `made::are_roots` meets its contract: the names from place i on are roots, and marked. Assumes nothing.
 use Prim.Native.Nat.{_-_, _≤_}
-use mathlib.Core.Bool.{Bool, _&&_}
+use mathlib.Core.Bool.{Bool, true, _&&_}
 use mathlib.Core.Path.{_≡_, refl, sym, ap, _∙_}
-use lib.ListN.{drop}
+use lib.ListN.{length, drop}
 use borrow.Author.Tests.{not-true, not-false}
 use borrow.Author.Needs.{needs}
 use native.Mathlib.Omega.{arith}
 use Rattle.tables.specs.Tables.{allZero}
 use Rattle.made.specs.Made.{areRoots}
-use Rattle.made.proofs.Places.{to-end, namesFrom, roots-start, roots-on, roots-off, roots-end}
+use Rattle.made.proofs.Places.{to-end, namesFrom, roots-start, roots-end}
+use Rattle.made.proofs.Marks.{Marked, marked-start, marked-back, back-on, late}
 use Rattle.made.proofs.are_roots.Statement.{statement}
 use Rattle.made.proofs.are_roots.Tie as tie
+use Rattle.made.proofs.is_name_number.Reads as is-name-number-reads
+use Rattle.made.proofs.is_new.Reads as is-new-reads
+use Rattle.tables.proofs.is_zero.Reads as is-zero-reads
 
 abbrev Inv-loop : tie.InvT-loop
-Inv-loop names n i₀ i = (i ≤ n) × (areRoots (namesFrom n names 0) ≡ areRoots (namesFrom n names i))
+Inv-loop names n marks₀ i₀ marks i = (i ≤ n) × (areRoots (namesFrom n names i) ≡ true) × Marked marks (namesFrom n names i)
 
 abbrev μ-loop : tie.MeasureT-loop
-μ-loop names n i₀ i = n - i
+μ-loop names n marks₀ i₀ marks i = i
 
 loop-holds : tie.Need-loop-holds Inv-loop μ-loop
-loop-holds c = (omega arith, refl)
+loop-holds c = let a = c .before .args in (omega arith, roots-end (a .n) (a .names .now) (a .n) (omega arith), marked-start (a .n) (a .names .now))
+
+sub-i : tie.Need-sub-i Inv-loop μ-loop
+sub-i c = search needs
 
 mul-name : tie.Need-mul-name Inv-loop μ-loop
 mul-name c = search needs
@@ -27,35 +34,39 @@ mul-name c = search needs
 shared-slice-read-name : tie.Need-shared-slice-read-name Inv-loop μ-loop
 shared-slice-read-name c = search needs
 
-add-next : tie.Need-add-next Inv-loop μ-loop
-add-next c = search needs
-
 is-name-number-requires : tie.Need-is-name-number-requires Inv-loop μ-loop
 is-name-number-requires c κs = search needs
 
-mul-is-fresh : tie.Need-mul-is-fresh Inv-loop μ-loop
-mul-is-fresh c = search needs
+mul-is-new : tie.Need-mul-is-new Inv-loop μ-loop
+mul-is-new c = search needs
 
-sub-is-fresh : tie.Need-sub-is-fresh Inv-loop μ-loop
-sub-is-fresh c = search needs
+sub-is-new : tie.Need-sub-is-new Inv-loop μ-loop
+sub-is-new c = search needs
 
-part-is-fresh-start : tie.Need-part-is-fresh-start Inv-loop μ-loop
-part-is-fresh-start c = search needs
+part-is-new-start : tie.Need-part-is-new-start Inv-loop μ-loop
+part-is-new-start c = search needs
 
-part-is-fresh-end : tie.Need-part-is-fresh-end Inv-loop μ-loop
-part-is-fresh-end c = search needs
+part-is-new-end : tie.Need-part-is-new-end Inv-loop μ-loop
+part-is-new-end c = search needs
 
-is-fresh-requires : tie.Need-is-fresh-requires Inv-loop μ-loop
-is-fresh-requires c κs = search needs
+array-read-is-new : tie.Need-array-read-is-new Inv-loop μ-loop
+array-read-is-new c = search needs
+
+is-new-requires : tie.Need-is-new-requires Inv-loop μ-loop
+is-new-requires c κs = c .before .before .before .before .loop .inv .2 .new _
 
 returns : tie.Need-returns Inv-loop μ-loop
 returns c =
     let u = c .before .before .before in
     let t = u .before .before in
+    let l = t .before .loop in
     let a = t .before .before .before .args in
-    sym (roots-start _ _ ∙ ap (λ (b : Bool). b && allZero (drop (a .n) (a .names .now)))
-    (t .before .loop .inv .1
-    ∙ roots-off _ _ _ (t .loop-test .taken) (omega arith) _ _ (u .is-name-number .ensures) (c .before .is-fresh .ensures) (not-true _ (c .if1 .taken))))
+    late (a .n) (a .names .now) (omega (arith, t .before .before .before .pre)) (l .i - 1) (omega arith)
+    (back-on (a .n) (a .names .now) (omega (arith, t .before .before .before .pre)) (l .i - 1) (l .i) (omega arith) (omega arith) (l .inv .1)
+    (u .is-name-number .ensures) (c .before .is-new .ensures) (not-true _ (c .if1 .taken)))
+
+array-write-marks : tie.Need-array-write-marks Inv-loop μ-loop
+array-write-marks c = search needs
 
 loop-less : tie.Need-loop-less Inv-loop μ-loop
 loop-less c = search needs
@@ -63,10 +74,14 @@ loop-less c = search needs
 loop-again : tie.Need-loop-again Inv-loop μ-loop
 loop-again c =
     let u = c .before .before .before in
-    let t = u .before .before in (
+    let t = u .before .before in
+    let l = t .before .loop in
+    let a = t .before .before .before .args in
+    let within : a .n ≤ length (a .names .now) = omega (arith, t .before .before .before .pre) in (
       omega arith,
-      t .before .loop .inv .1
-          ∙ roots-on _ _ _ (t .loop-test .taken) (omega arith) _ _ (u .is-name-number .ensures) (c .before .is-fresh .ensures) (not-false _ (c .if1 .left)),
+      back-on (a .n) (a .names .now) within (l .i - 1) (l .i) (omega arith) (omega arith) (l .inv .1)
+          (u .is-name-number .ensures) (c .before .is-new .ensures) (not-false _ (c .if1 .left)),
+      marked-back (a .n) (a .names .now) within (l .i - 1) (l .i) (omega arith) (omega arith) (l .inv .2),
     )
 
 mul-is-zero : tie.Need-mul-is-zero Inv-loop μ-loop
@@ -86,10 +101,12 @@ is-zero-requires c κs = search needs
 
 returns-2 : tie.Need-returns-2 Inv-loop μ-loop
 returns-2 c =
-    let t = c .before .before in
-    let a = t .before .before .before .args in
-    c .is-zero .ensures ∙ ap allZero (to-end (a .n) (a .names .now))
-    ∙ sym (roots-start _ _ ∙ ap (λ (b : Bool). b && allZero (drop (a .n) (a .names .now))) (t .before .loop .inv .1 ∙ roots-end _ _ _ (t .loop-test .left)))
+    let t = c .before .before .before in
+    let l = t .loop in
+    let a = t .before .before .args in
+    let z : l .i ≡ 0 = omega arith in
+    c .is-zero .ensures ∙ ap allZero (to-end _ (a .names .now))
+    ∙ sym (roots-start (a .n) (a .names .now) ∙ ap (λ (b : Bool). b && allZero (drop (a .n) (a .names .now))) (rw z at (l .inv .1)))
 
 pub are-roots-spec : {M : Type 1} → statement M
 are-roots-spec =
@@ -98,16 +115,18 @@ are-roots-spec =
     Inv-loop
     μ-loop
     loop-holds
+    sub-i
     mul-name
     shared-slice-read-name
-    add-next
     is-name-number-requires
-    mul-is-fresh
-    sub-is-fresh
-    part-is-fresh-start
-    part-is-fresh-end
-    is-fresh-requires
+    mul-is-new
+    sub-is-new
+    part-is-new-start
+    part-is-new-end
+    array-read-is-new
+    is-new-requires
     returns
+    array-write-marks
     loop-less
     loop-again
     mul-is-zero

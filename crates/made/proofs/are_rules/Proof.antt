@@ -9,13 +9,14 @@ use lib.ListN.{length, drop}
 use Rattle.tables.specs.Tables.{allZero}
 use Rattle.tables.specs.RulePlace.{ruleAt, isRulePlace}
 use Rattle.tables.proofs.RulePlace.{rule-here, is-rule-here}
+use Rattle.made.specs.Counting.{spread}
 use Rattle.made.proofs.Places.{to-end}
-use Rattle.made.proofs.Order.{Gone, gone-start, gone-bad, gone-stop, gone-next, gone-end, place-rule}
+use Rattle.made.proofs.Order.{held-long, Gone, gone-start, gone-bad, gone-stop, gone-next, gone-end, place-rule}
 use Rattle.made.proofs.are_rules.Statement.{statement}
 use Rattle.made.proofs.are_rules.Tie as tie
 
 abbrev Inv-loop : tie.InvT-loop
-Inv-loop rules k n counts₀ tally₀ i₀ counts tally i = Gone n k rules i tally counts
+Inv-loop rules k n counts₀ tally₀ i₀ counts tally i = Gone n k rules i tally (spread counts)
 
 abbrev μ-loop : tie.MeasureT-loop
 μ-loop rules k n counts₀ tally₀ i₀ counts tally i = k - i
@@ -75,7 +76,7 @@ rule-of-requires : tie.Need-rule-of-requires Inv-loop μ-loop
 rule-of-requires c κs = search needs
 
 slice-aggregate-with-rule : tie.Need-slice-aggregate-with-rule Inv-loop μ-loop
-slice-aggregate-with-rule c = search needs
+slice-aggregate-with-rule c = sym (held-long _ (c .before .before .before .before .before .before .before .loop .inv .held))
 
 with-rule-requires : tie.Need-with-rule-requires Inv-loop μ-loop
 with-rule-requires c κs =

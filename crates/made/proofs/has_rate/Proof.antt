@@ -5,7 +5,7 @@ use borrow.Author.Needs.{needs}
 use native.Mathlib.Omega.{arith}
 use Rattle.tables.specs.Tables.{places}
 use Rattle.tables.specs.RulePlace.{ruleAt}
-use Rattle.made.specs.Parts.{hasRate}
+use Rattle.rules.specs.Valid.{hasRate}
 use Rattle.made.proofs.Places.{rulesFrom, rules-start, rate-on, rate-off, rate-end}
 use Rattle.made.proofs.has_rate.Statement.{statement}
 use Rattle.made.proofs.has_rate.Tie as tie

@@ -2,7 +2,7 @@
 use mathlib.Core.Path.{_∙_}
 use borrow.Author.Needs.{needs}
 use Rattle.rules.specs.Rules.{isRate}
-use Rattle.made.specs.Parts.{isTotal}
+use Rattle.rules.specs.Valid.{isTotalNumber}
 use Rattle.made.proofs.is_total.Statement.{statement}
 use Rattle.made.proofs.is_total.Tie as tie
 
@@ -16,11 +16,11 @@ is-in-requires : tie.Need-is-in-requires
 is-in-requires c κs = search needs
 
 returns : tie.Need-returns
-unfolding isRate isTotal
+unfolding isRate isTotalNumber
 returns c = rw (c .enum-told .given .1)
 
 returns-2 : tie.Need-returns-2
-unfolding isRate isTotal
+unfolding isRate isTotalNumber
 returns-2 c = c .is-in .ensures ∙ rw (c .before .enum-told2 .given .1)
 
 pub is-total-spec : {M : Type 1} → statement M

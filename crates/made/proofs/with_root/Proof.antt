@@ -1,7 +1,7 @@
 -- `made::with_root` meets its contract: the tests come first, then the counts are put. Assumes nothing.
 use borrow.Author.Needs.{needs}
 use borrow.Author.Tests.{not-true, not-false}
-use Rattle.made.proofs.Order.{rule-below, root-late, root-over, root-follows}
+use Rattle.made.proofs.Order.{held-long, held-small, rule-below, root-late, root-over, root-follows}
 use Rattle.made.proofs.with_root.Statement.{statement}
 use Rattle.made.proofs.with_root.Tie as tie
 
@@ -9,7 +9,11 @@ returns : tie.Need-returns
 returns c = let s = c .before .before in λ before held. root-late held _ _ (s .pre .1) _ (s .pre .2) (c .if1 .taken)
 
 cover-requires : tie.Need-cover-requires
-cover-requires c κs = search needs
+cover-requires c κs =
+    let s = c .before .before .before in
+    let held = s .pre .0 .1 in
+    let known = rule-below _ _ (s .pre .1) (s .pre .2) in
+    (held-long _ held, known, held-small _ held known)
 
 same-length : tie.Need-same-length
 same-length c = search needs

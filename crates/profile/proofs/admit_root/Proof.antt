@@ -5,7 +5,7 @@ use borrow.Author.Tests.{not-true, not-false}
 use native.Mathlib.Omega.{arith}
 use lib.Seq.{length-take-le}
 use Rattle.rules.specs.declared.Scope.{Scope}
-use Rattle.tables.specs.RulePlace.{isRule}
+use Rattle.rules.specs.Valid.{isRule}
 use Rattle.profile.proofs.Admission.{roots-long, rules-long, roots-room, root-rule, refuses-root, refuses-unit, takes-root}
 use Rattle.profile.proofs.Covering.{then-over, then-free, then-counts}
 use Rattle.profile.proofs.admit_root.Statement.{statement}

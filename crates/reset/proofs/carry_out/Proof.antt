@@ -14,20 +14,20 @@ use Rattle.reset.proofs.carry_out.Tie as tie
 slice-write-m : tie.Need-slice-write-m
 slice-write-m c = search needs
 
-slice-read-kept : tie.Need-slice-read-kept
-slice-read-kept c = simp length-set (omega arith)
+slice-read-unless : tie.Need-slice-read-unless
+slice-read-unless c = simp length-set (omega arith)
 
-kept-requires : tie.Need-kept-requires
-kept-requires c κs = search needs
+unless-requires : tie.Need-unless-requires
+unless-requires c κs = search needs
 
 slice-write-m-2 : tie.Need-slice-write-m-2
 slice-write-m-2 c = simp length-set (omega arith)
 
-slice-read-kept-2 : tie.Need-slice-read-kept-2
-slice-read-kept-2 c = simp length-set (omega arith)
+slice-read-unless-2 : tie.Need-slice-read-unless-2
+slice-read-unless-2 c = simp length-set (omega arith)
 
-kept-requires-2 : tie.Need-kept-requires-2
-kept-requires-2 c κs = search needs
+unless-requires-2 : tie.Need-unless-requires-2
+unless-requires-2 c κs = search needs
 
 slice-write-m-3 : tie.Need-slice-write-m-3
 slice-write-m-3 c = simp length-set (omega arith)
@@ -55,29 +55,29 @@ light : (c : tie.After-lifted2) →
     let start = c .before .before .before .before .before .before .before .before .before in
     let a = start .args in
     set
-    (set (set (set (set (a .m .now) 1 (a .time)) 6 (c .before .before .before .before .before .before .kept .result)) 7 (c .before .before .before .before .kept2 .result)) 8
+    (set (set (set (set (a .m .now) 1 (a .time)) 6 (c .before .before .before .before .before .before .unless .result)) 7 (c .before .before .before .before .unless2 .result)) 8
     (c .before .before .lifted .result))
     9
     (c .lifted2 .result)
-    ≡ stored (lightened (decode (a .m .now)) (a .time) (a .root) (a .reset)) (a .m .now)
+    ≡ stored (lightened (decode (a .m .now)) (a .time) (a .root) (a .effect)) (a .m .now)
 light c =
     let start = c .before .before .before .before .before .before .before .before .before in
     let a = start .args in
-    laid-light (start .pre .0) (a .time) (a .root) (a .reset) (c .before .before .before .before .before .before .kept .ensures)
-    (c .before .before .before .before .kept2 .ensures) (c .before .before .lifted .ensures) (c .lifted2 .ensures)
+    laid-light (start .pre .0) (a .time) (a .root) (a .effect) (c .before .before .before .before .before .before .unless .ensures)
+    (c .before .before .before .before .unless2 .ensures) (c .before .before .lifted .ensures) (c .lifted2 .ensures)
 
 -- after the wipe its totals too
 emptied : (c : tie.After-wipe) → Laid (c .wipe .last .0)
 emptied c =
     let start = c .before .before .before .before .before .before .before .before .before .before .before in
     let a = start .args in
-    emptied-laid (start .pre .0) (a .time) (a .root) (a .reset) (light (c .before .before)) (c .wipe .ensures)
+    emptied-laid (start .pre .0) (a .time) (a .root) (a .effect) (light (c .before .before)) (c .wipe .ensures)
 
 wipe-requires : tie.Need-wipe-requires
 wipe-requires c κs =
     let start = c .before .before .before .before .before .before .before .before .before .before in
     let a = start .args in
-    light-laid (start .pre .0) (a .time) (a .root) (a .reset) (light (c .before))
+    light-laid (start .pre .0) (a .time) (a .root) (a .effect) (light (c .before))
 
 slice-read-entries : tie.Need-slice-read-entries
 slice-read-entries c = omega (arith, emptied (c .before .before .before) .long)
@@ -105,7 +105,7 @@ returns c =
     let at-wipe = c .before .before .before .before .before .before .before in
     let start = c .before .before .before .before .before .before .before .before .before .before .before .before .before .before .before .before .before .before in
     let a = start .args in
-    reset-stored (start .pre .0) (a .time) (a .root) (a .reset) (light (at-wipe .before .before)) (at-wipe .wipe .ensures)
+    reset-stored (start .pre .0) (a .time) (a .root) (a .effect) (light (at-wipe .before .before)) (at-wipe .wipe .ensures)
     (c .before .before .unflag .ensures)
 
 pub carry-out-spec : {M : Type 1} → statement M
@@ -113,11 +113,11 @@ carry-out-spec =
     tie.close
     (tie.spec
     slice-write-m
-    slice-read-kept
-    kept-requires
+    slice-read-unless
+    unless-requires
     slice-write-m-2
-    slice-read-kept-2
-    kept-requires-2
+    slice-read-unless-2
+    unless-requires-2
     slice-write-m-3
     slice-read-lifted
     lifted-requires

@@ -1,7 +1,7 @@
 -- `reset::logged` meets its contract: a rate rule counts the log, and what an absolute rule counts does not depend on it. Assumes nothing.
 use mathlib.Core.Path.{ap}
-use Prim.Native.Nat.{ℕ}
 use Rattle.rules.specs.Rules.{countedOf}
+use Rattle.state.specs.State.{decode}
 use Rattle.reset.proofs.Laid.{laid-held}
 use borrow.Author.Needs.{needs}
 use Rattle.reset.proofs.logged.Statement.{statement}
@@ -28,12 +28,16 @@ counted-requires c κs = let p = c .before .before .before .before .before .pre 
 enum-told-2 : tie.Need-enum-told-2
 enum-told-2 c = search needs
 
+amount-requires : tie.Need-amount-requires
+amount-requires c κs = search needs
+
 returns : tie.Need-returns
+unfolding decode
 returns c = λ total. let rule = c .before .before .before .before .before .before .args .rule in ap (countedOf (rule .kind) total) (c .counted .ensures)
 
 returns-2 : tie.Need-returns-2
 unfolding countedOf
-returns-2 c = λ total. rw (c .enum-told2 .given .1)
+returns-2 c = λ total. rw (c .before .enum-told2 .given .1)
 
 pub logged-spec : {M : Type 1} → statement M
 logged-spec =
@@ -46,5 +50,6 @@ logged-spec =
     part-counted-end
     counted-requires
     enum-told-2
+    amount-requires
     returns
     returns-2)

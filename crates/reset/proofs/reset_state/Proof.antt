@@ -1,5 +1,9 @@
 -- `reset::reset_state` meets its contract: without a reset the clock alone moves. Assumes nothing.
-use mathlib.Core.Path.{_∙_}
+use mathlib.Core.Path.{ap, _∙_}
+use Rattle.machine.specs.declared.Effect.{Effect}
+use Rattle.machine.specs.Deeds.{resetting}
+use Rattle.machine.specs.Step.{after}
+use Rattle.state.specs.State.{stored, decode}
 use Rattle.reset.proofs.None.{clock-moved}
 use borrow.Author.Needs.{needs}
 use Rattle.reset.proofs.reset_state.Statement.{statement}
@@ -16,6 +20,9 @@ returns c =
     let s = c .before .before in
     clock-moved (s .pre .0) (s .args .time) (s .args .root) (c .if1 .taken)
 
+effect-of-requires : tie.Need-effect-of-requires
+effect-of-requires c κs = search needs
+
 carry-out-requires : tie.Need-carry-out-requires
 carry-out-requires c κs = search needs
 
@@ -23,7 +30,11 @@ same-length-2 : tie.Need-same-length-2
 same-length-2 c = search needs
 
 returns-2 : tie.Need-returns-2
-returns-2 c = search needs
+returns-2 c =
+    let s = c .before .before .before .before .before .before .before in
+    let a = s .args in
+    c .before .before .carry-out .ensures
+    ∙ ap (λ (e : Effect). stored (after (resetting (a .time) (a .root) e) (decode (a .m .now))) (a .m .now)) (c .before .before .before .effect-of .ensures)
 
 pub reset-state-spec : {M : Type 1} → statement M
-reset-state-spec = tie.close (tie.spec slice-write-m same-length returns carry-out-requires same-length-2 returns-2)
+reset-state-spec = tie.close (tie.spec slice-write-m same-length returns effect-of-requires carry-out-requires same-length-2 returns-2)

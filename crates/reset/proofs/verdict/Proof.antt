@@ -1,6 +1,6 @@
 -- `reset::verdict` meets its contract: the two tests are those of the firm and of the root. Assumes nothing.
 use Rattle.state.specs.State.{decode}
-use Rattle.machine.specs.Machine.{verdictOf, isLocked, isTripped, isLockedOut}
+use Rattle.machine.specs.Locks.{verdictOf, isLocked, isTripped, isByUser}
 use borrow.Author.Needs.{needs}
 use Rattle.reset.proofs.verdict.Statement.{statement}
 use Rattle.reset.proofs.verdict.Tie as tie
@@ -12,7 +12,7 @@ shared-slice-read-if1-2 : tie.Need-shared-slice-read-if1-2
 shared-slice-read-if1-2 c = search needs
 
 returns : tie.Need-returns
-unfolding verdictOf isLocked isTripped isLockedOut decode
+unfolding verdictOf isLocked isTripped isByUser decode
 returns c = rw (c .if1 .taken)
 
 shared-slice-read-marked : tie.Need-shared-slice-read-marked
@@ -28,13 +28,13 @@ marked-requires-2 : tie.Need-marked-requires-2
 marked-requires-2 c κs = search needs
 
 returns-2 : tie.Need-returns-2
-unfolding verdictOf isLocked isTripped isLockedOut decode
+unfolding verdictOf isLocked isTripped isByUser decode
 returns-2 c =
     let at-marks = c .before in
     rw (at-marks .before .before .before .before .if1 .left, ← at-marks .before .before .marked .ensures, ← at-marks .marked2 .ensures, c .if2 .taken)
 
 returns-3 : tie.Need-returns-3
-unfolding verdictOf isLocked isTripped isLockedOut decode
+unfolding verdictOf isLocked isTripped isByUser decode
 returns-3 c =
     let at-marks = c .before in
     rw (at-marks .before .before .before .before .if1 .left, ← at-marks .before .before .marked .ensures, ← at-marks .marked2 .ensures, c .if2 .left)

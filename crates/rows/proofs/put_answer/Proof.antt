@@ -1,5 +1,5 @@
 -- `rows::put_answer` meets its contract: each arm is given which answer it is. Assumes nothing.
-use Rattle.machine.specs.Machine.{numbers}
+use Rattle.machine.specs.Judge.{numbers}
 use borrow.Author.Needs.{needs}
 use Rattle.rows.proofs.put_answer.Statement.{statement}
 use Rattle.rows.proofs.put_answer.Tie as tie

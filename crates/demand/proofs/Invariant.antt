@@ -1,0 +1,42 @@
+-- The state tells what the deeds tell: the invariant. Assumes nothing.
+use Prim.Native.Nat.{ℕ, _≤_}
+use mathlib.Core.Path.{_≡_}
+use mathlib.Core.List.{List, [], _∷_, map}
+use native.Mathlib.Nat.{le-refl}
+use Rattle.rules.specs.Allowance.{All}
+use Rattle.rules.specs.declared.Level.{Level}
+use Rattle.rules.specs.declared.Rule.{Rule}
+use Rattle.rules.specs.declared.Account.{Account}
+use Rattle.rules.specs.Valid.{hasRate}
+use Rattle.machine.specs.State.{Profile, State, cellsOf, ruleOf}
+use Rattle.machine.specs.Deeds.{Deed, clockAfter}
+use Rattle.machine.specs.Locks.{isTripped, isByUser}
+use Rattle.machine.specs.Offers.{counted, longest}
+use Rattle.demand.specs.Locked.{countedIn}
+use Rattle.demand.specs.Answers.{trippedIn, byUserIn}
+use Rattle.demand.proofs.Past.{Kept}
+use Rattle.demand.proofs.Counted.{Fits, all-fit}
+
+-- the clock that deeds leave
+unfoldable pub clockIn : List Deed → ℕ
+clockIn [] = 0
+clockIn (deed ∷ earlier) = clockAfter deed (clockIn earlier)
+
+-- from the clock on, what is counted for a rule is what the deeds have for it
+unfoldable pub Right : State → List Deed → Account → Type 0
+Right s h a = (t : ℕ) → s .part .clock ≤ t → counted (s .log) t a ≡ countedIn (a .rule) h t
+
+-- the state has the profile and an account a cell, counts what the deeds have, each grant found room, and marks and clock are what the deeds say
+pub record Inv (p : Profile) (s : State) (h : List Deed) : Type 0 where
+  pub profile : s .part .profile ≡ p
+  pub same : map ruleOf (s .part .accounts) ≡ cellsOf (p .rules)
+  pub right : All (Right s h) (s .part .accounts)
+  pub kept : All (λ rule. Kept rule h) (cellsOf (p .rules))
+  pub tripped : (level : Level) → isTripped (s .part .locks) level ≡ trippedIn (cellsOf (p .rules)) level h
+  pub byUser : (level : Level) → isByUser (s .part .locks) level ≡ byUserIn level h
+  pub clock : s .part .clock ≡ clockIn h
+
+-- the windows of the cells are those of the rules
+pub cells-fit : (rules : List Rule) → All (λ rule. Fits (longest rules) (hasRate rules) (rule .kind)) (cellsOf rules)
+unfolding cellsOf
+cells-fit rules = all-fit rules (longest rules) (hasRate rules) (le-refl (longest rules)) (λ e. e)

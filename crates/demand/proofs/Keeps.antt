@@ -1,0 +1,36 @@
+-- Each deed keeps the invariant. Assumes nothing.
+use Prim.Native.Nat.{_≤_}
+use mathlib.Core.Path.{ap, _∙_}
+use native.Mathlib.Nat.{le-refl}
+use mathlib.Core.List.{List, _∷_}
+use Rattle.machine.specs.State.{Profile, State}
+use Rattle.machine.specs.Deeds.{Deed, nothing, passing, filling, resetting, lockingOut, clockAfter}
+use Rattle.machine.specs.Step.{partAfter, after}
+use Rattle.machine.proofs.Keeps.{same-rules}
+use Rattle.machine.proofs.Sound.{Meets}
+use Rattle.demand.specs.Answers.{since}
+use Rattle.demand.proofs.Invariant.{clockIn, Inv}
+use Rattle.demand.proofs.Amounts.{right-after, kept-after}
+use Rattle.demand.proofs.Trips.{tripped-after, byUser-after}
+
+-- no deed goes back in time
+later : (s : State) (deed : Deed) → Meets s deed → s .part .clock ≤ clockAfter deed (s .part .clock)
+unfolding Meets clockAfter
+later s nothing m = le-refl (s .part .clock)
+later s (passing time) m = m .after
+later s (filling source o n) m = m .time .after
+later s (resetting time root effect) m = m .after
+later s (lockingOut time level) m = m .0 .after
+
+-- each deed keeps the invariant
+pub deed-keeps : (p : Profile) (s : State) (h : List Deed) (i : Inv p s h) (deed : Deed) → Meets s deed → Inv p (after deed s) (deed ∷ h)
+unfolding after partAfter since clockIn
+deed-keeps p s h i deed m = record {
+  profile = i .profile;
+  same = same-rules deed (s .part .accounts) ∙ i .same;
+  right = right-after p s h i deed (later s deed m);
+  kept = kept-after p s h i deed m;
+  tripped = λ level. tripped-after p s h i deed level (later s deed m) ∙ rw (i .tripped level);
+  byUser = λ level. byUser-after p s h i deed level ∙ rw (i .byUser level);
+  clock = ap (clockAfter deed) (i .clock);
+}

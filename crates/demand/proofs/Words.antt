@@ -1,0 +1,130 @@
+-- What demand 3 tells of each answer, in words. Assumes nothing.
+use Prim.Native.Nat.{ℕ, zero, suc, min}
+use mathlib.Core.Path.{_≡_, refl, ap, subst, subst⁻¹}
+use mathlib.Core.Bool.{Bool, true, false, cond}
+use mathlib.Core.List.{List, [], _∷_, _++_, map}
+use native.Mathlib.Omega.{arith}
+use Rattle.laws.specs.Folds.{keep}
+use Rattle.rules.specs.Allowance.{Largest, KeepsAll, allowance, leastOf}
+use Rattle.rules.specs.declared.Level.{Level}
+use Rattle.rules.specs.declared.Level.the-variants.{Firm, Root}
+use Rattle.rules.specs.declared.Limit.{Limit}
+use Rattle.rules.specs.declared.Rule.{Rule}
+use Rattle.rules.proofs.Laws.{grant-largest}
+use Rattle.machine.specs.declared.Answer.{Answer}
+use Rattle.machine.specs.declared.Answer.the-variants.{Judged}
+use Rattle.machine.specs.declared.Offer.{Offer}
+use Rattle.machine.specs.State.{Profile, State, cellsOf}
+use Rattle.machine.specs.Calls.{Call, order, lockout, offer, remaining, status}
+use Rattle.machine.specs.Deeds.{granted, Deed, filling}
+use Rattle.machine.specs.Offers.{coversOffer}
+use Rattle.demand.specs.Run.{Event, runOf}
+use Rattle.demand.specs.History.{deedsOf}
+use Rattle.demand.specs.Locked.{countedIn, ruleTrips}
+use Rattle.demand.specs.Answers.{verdictIn, grantIn, grantedAnswer, offerAnswer, answerIn, Told, Each}
+use Rattle.machine.specs.Judge.{isRefusal}
+use Rattle.demand.specs.Demand.{Demand3}
+use Rattle.demand.specs.Words.{_answered_, VerdictBy, Nothing, limitsIn, StandingBy, Words}
+use Rattle.demand.proofs.Theorem.{demand3}
+use Rattle.demand.proofs.Verdict.{verdict-by, trips-by, standing-by}
+
+-- the grant that the deeds tell is the largest that keeps the limits
+module _ (deeds : List Deed) (o : Offer) where
+  abbrev allowed : Limit × ℕ → ℕ
+  allowed l = allowance (l .0) (l .1) (o .premium) (o .contracts)
+
+  least-of : (rules : List Rule) → grantIn deeds o rules ≡ leastOf (o .contracts) (map allowed (limitsIn rules deeds o))
+  unfolding grantIn leastOf keep
+  least-of [] = refl
+  least-of (rule ∷ rest) = go (coversOffer o rule) (keep (coversOffer o) rest) (least-of rest)
+    where
+      limit : Rule → Limit × ℕ
+      limit r = (r .limit, countedIn r deeds (o .time))
+
+      go : (b : Bool) (more : List Rule) {n : ℕ} → n ≡ leastOf (o .contracts) (map allowed (map limit more))
+          → cond b (min (allowed (limit rule)) n) n ≡ leastOf (o .contracts) (map allowed (map limit (cond b (rule ∷ more) more)))
+      go true more e = ap (min (allowed (limit rule))) e
+      go false more e = e
+
+  largest-in : (rules : List Rule) → Largest (KeepsAll (limitsIn rules deeds o) (o .premium)) (o .contracts) (grantIn deeds o rules)
+  largest-in rules = rw (least-of rules) (grant-largest (limitsIn rules deeds o) (o .premium) (o .contracts))
+
+-- a grant trips a level
+abbrev tripped : List Rule → List Deed → Offer → ℕ → Level → Bool
+tripped rules deeds o grant level = ruleTrips rules level (filling granted o grant) deeds
+
+-- an offer's answer, taken apart
+module _ (rules : List Rule) (deeds : List Deed) (o : Offer) {grant : ℕ} {roottrip firmtrip : Bool} where
+  offer-verdict : {verdict : ℕ} (n : ℕ) → Judged verdict grant roottrip firmtrip ≡ offerAnswer rules deeds o n → verdict ≡ n
+  unfolding offerAnswer grantedAnswer
+  offer-verdict zero e = cc
+  offer-verdict (suc n) e = cc
+
+  offer-nothing : {verdict : ℕ} (n : ℕ) → Judged (suc verdict) grant roottrip firmtrip ≡ offerAnswer rules deeds o n → Nothing grant roottrip firmtrip
+  unfolding offerAnswer grantedAnswer
+  offer-nothing {verdict} zero e = let z : suc verdict ≡ 0 = cc in absurd (omega arith)
+  offer-nothing (suc n) e = (cc, cc, cc)
+
+  offer-grant : (n : ℕ) → Judged 0 grant roottrip firmtrip ≡ offerAnswer rules deeds o n
+      → (grant ≡ grantIn deeds o rules) × (roottrip ≡ tripped rules deeds o grant (Root (o .root))) × (firmtrip ≡ tripped rules deeds o grant Firm)
+  unfolding offerAnswer grantedAnswer
+  offer-grant zero e = let k : grant ≡ grantIn deeds o rules = cc in (k, rw k (cc), rw k (cc))
+  offer-grant (suc n) e = let z : suc n ≡ 0 = cc in absurd (omega arith)
+
+module _ (rules : List Rule) (deeds : List Deed) where
+  -- a verdict above 0 has grant 0 and no trips, whatever the call
+  locked-nothing : {verdict grant : ℕ} {roottrip firmtrip : Bool} (call : Call)
+      → Judged (suc verdict) grant roottrip firmtrip ≡ answerIn rules deeds call → Nothing grant roottrip firmtrip
+  unfolding answerIn
+  locked-nothing (order time root reset) e = (cc, cc, cc)
+  locked-nothing {verdict} (lockout time level root) e = let z : suc verdict ≡ 0 = cc in absurd (omega arith)
+  locked-nothing (offer o) e = offer-nothing (cellsOf rules) deeds o (verdictIn (cellsOf rules) (o .root) deeds) e
+  locked-nothing (remaining time rule) e = let z : _≡_ {A = ℕ} 0 1 = cc in absurd (omega arith)
+  locked-nothing status e = let z : _≡_ {A = ℕ} 0 1 = cc in absurd (omega arith)
+
+  -- an event is told by its call
+  told-as : {event : Event} {call : Call} {answer : Answer} → Told rules event deeds → event ≡ (call answered answer)
+      → isRefusal answer ≡ false → answer ≡ answerIn rules deeds call
+  told-as t e = subst (λ (x : Event). isRefusal (x .answer) ≡ false → x .answer ≡ answerIn rules deeds (x .call)) e (t .told)
+
+  -- what is told of an event is told in words
+  pub told-words : (event : Event) → Told rules event deeds → Words rules event deeds
+  unfolding answerIn isRefusal
+  told-words event t = record {
+    orders = λ {time} {root} {reset} e. subst⁻¹ (VerdictBy cells root _) (let x = told-as t e refl in cc) (verdict-by cells root _);
+    offers = λ {o} e. subst⁻¹ (VerdictBy cells (o .root) deeds) (offer-verdict cells deeds o (verdict o) (told-as t e refl)) (verdict-by cells (o .root) deeds);
+    lockedOut = λ {call} e. locked-nothing call (told-as t e refl);
+    ordered = λ e. let x = told-as t e refl in (cc, cc, cc);
+    lockouts = λ e. let x = told-as t e refl in (cc, (cc, cc, cc));
+    grants = λ {o} e. rw (offer-grant cells deeds o (verdict o) (told-as t e refl) .0) (largest-in deeds o cells);
+    rootTrips = λ {o} {grant} e. rw (offer-grant cells deeds o (verdict o) (told-as t e refl) .1) (trips-by cells (Root (o .root)) (filling granted o grant) deeds);
+    firmTrips = λ {o} {grant} e. rw (offer-grant cells deeds o (verdict o) (told-as t e refl) .2) (trips-by cells Firm (filling granted o grant) deeds);
+    remains = λ e. let x = told-as t e refl in cc;
+    stands = λ e. subst⁻¹ (StandingBy cells deeds) (let x = told-as t e refl in cc) (standing-by cells deeds);
+  }
+    where
+      cells : List Rule
+      cells = cellsOf rules
+
+      verdict : Offer → ℕ
+      verdict o = verdictIn (cellsOf rules) (o .root) deeds
+
+-- THE WORDS: what demand 3 tells of a history, it tells in words
+pub demand-words : (rules : List Rule) (now : State) (history : List Event) → Demand3 rules now history → Each (Words rules) history
+unfolding Each
+demand-words rules now history demand = each-words history (demand .answers)
+  where
+    each-words : (history : List Event) → Each (Told rules) history → Each (Words rules) history
+    each-words [] t = tt
+    each-words (event ∷ earlier) t = (told-words rules (deedsOf earlier) event (t .0), each-words earlier (t .1))
+
+-- so it holds of every run
+pub run-words : (p : Profile) (calls : List Call) → Each (Words (p .rules)) (runOf p calls .history)
+run-words p calls = demand-words (p .rules) (runOf p calls .now) (runOf p calls .history) (demand3 p calls)
+
+-- what holds of each event holds of any one, by what was done before it
+pub each-at : (P : Event → List Deed → Type 0) (later : List Event) (event : Event) (earlier : List Event) → Each P (later ++ (event ∷ earlier))
+    → P event (deedsOf earlier)
+unfolding Each
+each-at P [] event earlier t = t .0
+each-at P (newer ∷ later) event earlier t = each-at P later event earlier (t .1)

@@ -1,0 +1,63 @@
+-- What the entries that pass a sieve count in each measure, kept for the next rule with that sieve. Assumes nothing.
+use Prim.Native.Nat.{ℕ, _+_}
+use mathlib.Core.Path.{_≡_}
+use mathlib.Core.Bool.{Bool, cond, _&&_}
+use mathlib.Core.List.{List, [], _∷_}
+use lib.ListN.{getD}
+use lib.Dec.{eqb}
+use Rattle.rules.specs.declared.Limit.{Limit}
+use Rattle.rules.specs.declared.Limit.the-variants.{Notional, Volume, Count}
+use Rattle.machine.specs.declared.Entry.{Entry}
+use Rattle.laws.specs.Folds.{sumOf}
+use Rattle.log.specs.declared.Sieve.{Sieve}
+use Rattle.log.specs.declared.Memo.{Memo}
+use Rattle.log.specs.declared.Two.{Two}
+use Rattle.log.specs.Sieve.{passes, sifted}
+use Rattle.tables.specs.EntryPlace.{entryAt}
+
+-- what a memo says in a limit's measure
+abbrev pub sumIn : Limit → Memo → ℕ
+sumIn (Notional l) m = m .notional .0
+sumIn (Volume l) m = m .volume .0
+sumIn (Count l) m = m .count .0
+
+-- the sieve of a memo
+abbrev pub sieveFor : Memo → Sieve
+sieveFor m = record { mask = m .mask; want = m .want; from = m .from }
+
+-- a memo is that of a sieve
+abbrev pub isFor : Sieve → Memo → Bool
+isFor s m = eqb (m .mask) (s .mask) && eqb (m .want) (s .want) && eqb (m .from) (s .from)
+
+-- the memo of a sieve over these entries
+unfoldable pub memoFor : Sieve → List Entry → Memo
+memoFor s es = record {
+  mask = s .mask;
+  want = s .want;
+  from = s .from;
+  notional = record { 0 = sumOf (sifted (Notional (record { 0 = 0 })) s) es };
+  volume = record { 0 = sumOf (sifted (Volume (record { 0 = 0 })) s) es };
+  count = record { 0 = sumOf (sifted (Count (record { 0 = 0 })) s) es };
+}
+
+-- a memo of a sieve that no entry passes
+unfoldable pub noMemo : Memo
+noMemo = record { mask = 0; want = 1; from = 0; notional = record { 0 = 0 }; volume = record { 0 = 0 }; count = record { 0 = 0 } }
+
+-- memos of which the last is that of a sieve: one of those before, or a new one
+unfoldable pub recalledOf : Sieve → List Entry → Two → Two
+recalledOf s es before =
+    cond (isFor s (before .last)) before
+    (cond (isFor s (before .other)) (record { last = before .other; other = before .last }) (record { last = memoFor s es; other = before .last }))
+
+-- a memo says what these entries count
+unfoldable pub Right : List Entry → Memo → Type 0
+Right es m = (limit : Limit) → sumIn limit m ≡ sumOf (sifted limit (sieveFor m)) es
+
+pub record RightTwo (es : List Entry) (t : Two) : Type 0 where
+  pub last : Right es (t .last)
+  pub other : Right es (t .other)
+
+-- the entry at a number of the log, with premium and contracts 0 unless its first number passes a sieve
+abbrev pub sievedIn : Sieve → List ℕ → ℕ → Entry
+sievedIn s xs at = entryAt (getD xs at 0 ∷ cond (passes s (getD xs at 0)) (getD xs (at + 1) 0) 0 ∷ [])

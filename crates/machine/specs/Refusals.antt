@@ -1,0 +1,55 @@
+-- The refusals of each call, in their order. Assumes nothing.
+use Prim.Native.Nat.{ℕ}
+use mathlib.Core.Bool.{Bool, not, cond, _&&_}
+use mathlib.Core.List.{List, [], _∷_}
+use lib.ListN.{length}
+use lib.Dec.{leb, ltb, eqb}
+use Rattle.measures.specs.Ranges.{isIn, times, units, premiums, offers}
+use Rattle.machine.specs.declared.Offer.{Offer}
+use Rattle.machine.specs.Calls.{Call, order, lockout, offer, remaining, status}
+use Rattle.machine.specs.State.{Part, State, rulesIn}
+use Rattle.machine.specs.Effects.{lastReset}
+use Rattle.machine.specs.Locks.{verdictOf}
+use Rattle.rules.specs.Valid.{hasRate}
+use Rattle.machine.specs.Entries.{recent}
+use Rattle.machine.specs.Offers.{grantOf, longest}
+
+-- the number of the first test that holds, 0 if none does
+unfoldable pub firstOf : List (Bool × ℕ) → ℕ
+firstOf [] = 0
+firstOf (f ∷ rest) = cond (f .0) (f .1) (firstOf rest)
+
+-- 12: a time out of range or below the clock
+unfoldable pub badTime : Part → ℕ → Bool
+badTime p time = not (isIn times time && leb (p .clock) time)
+
+-- a root that the profile has
+unfoldable pub isRoot : Part → ℕ → Bool
+isRoot p root = ltb root (length (p .profile .roots))
+
+-- the places in use: the entries inside the longest window
+unfoldable pub used : State → ℕ → ℕ
+used s time = length (recent (longest (rulesIn s)) time (s .log))
+
+-- 15: the offer is not locked out, its grant is above 0, the profile has a rate rule, and there is no room
+unfoldable pub logFull : ℕ → State → Offer → Bool
+logFull room s o =
+    eqb (verdictOf (s .part .locks) (o .root)) 0 && ltb 0 (grantOf (s .log) o (s .part .accounts)) && hasRate (rulesIn s)
+    && leb room (used s (o .time))
+
+-- the refusals of each call, in their order, on a log with so much room
+unfoldable pub refusalOf : ℕ → State → Call → ℕ
+refusalOf room s (order time root reset) =
+    firstOf ((badTime (s .part) time, 12) ∷ (not (isRoot (s .part) root && leb reset lastReset), 13) ∷ [])
+refusalOf room s (lockout time level root) =
+    firstOf ((badTime (s .part) time, 12) ∷ (not (leb level 1 && cond (eqb level 0) (isRoot (s .part) root) (eqb root 0)), 13) ∷ [])
+refusalOf room s (offer o) =
+    firstOf
+    ((badTime (s .part) (o .time), 12)
+    ∷ (not (isRoot (s .part) (o .root) && isIn units (o .unit)), 13)
+    ∷ (not (isIn premiums (o .premium) && isIn offers (o .contracts)), 14)
+    ∷ (logFull room s o, 15)
+    ∷ [])
+refusalOf room s (remaining time rule) =
+    firstOf ((badTime (s .part) time, 12) ∷ (not (ltb rule (length (s .part .accounts))), 13) ∷ [])
+refusalOf room s status = 0

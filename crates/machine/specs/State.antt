@@ -1,0 +1,68 @@
+-- The state: what one firm has, and the log as that firm sees it. Assumes nothing.
+use Prim.Native.Nat.{ℕ}
+use mathlib.Core.Path.{_≡_}
+use mathlib.Core.Bool.{Bool, false}
+use mathlib.Core.List.{List, [], map}
+use lib.ListN.{length}
+use Rattle.rules.specs.Amounts.{amountIn}
+use Rattle.rules.specs.declared.Rule.{Rule}
+use Rattle.rules.specs.declared.Account.{Account}
+use Rattle.machine.specs.declared.Entry.{Entry}
+
+-- the firm's name, the roots' names in order of first appearance, and the rules by line; a rule's scope has its root's number
+pub record Profile : Type 0 where
+  pub firm : ℕ
+  pub roots : List ℕ
+  pub rules : List Rule
+
+-- the marks: the firm's trip and lockout by the user, and the words of tripped roots and of roots that the user locked out
+pub record Locks : Type 0 where
+  pub firmTripped : Bool
+  pub firmByUser : Bool
+  pub tripped : ℕ
+  pub byUser : ℕ
+
+-- a firm's part
+pub record Part : Type 0 where
+  pub clock : ℕ
+  pub profile : Profile
+  pub accounts : List Account
+  pub locks : Locks
+
+-- what one firm sees
+pub record State : Type 0 where
+  pub part : Part
+  pub log : List Entry
+
+-- which accounts a profile's rules have: one a rule
+unfoldable pub cellsOf : List Rule → List Rule
+cellsOf rules = rules
+
+-- the rules of a state
+unfoldable pub rulesIn : State → List Rule
+rulesIn s = s .part .profile .rules
+
+-- how many roots a state has
+unfoldable pub rootsIn : State → ℕ
+rootsIn s = length (s .part .profile .roots)
+
+abbrev pub ruleOf : Account → Rule
+ruleOf a = a .rule
+
+-- the accounts are those that the profile's rules have
+unfoldable pub Fitting : Part → Type 0
+Fitting p = map ruleOf (p .accounts) ≡ cellsOf (p .profile .rules)
+
+unfoldable pub noLocks : Locks
+noLocks = record { firmTripped = false; firmByUser = false; tripped = 0; byUser = 0 }
+
+-- an account that has counted nothing
+unfoldable pub fresh : Rule → Account
+fresh rule = record { rule = rule; total = amountIn (rule .limit) 0 }
+
+-- a unit that was just armed: the clock at 0, all else counted or locked at 0
+unfoldable pub armed : Profile → State
+armed profile = record {
+  part = record { clock = 0; profile = profile; accounts = map fresh (cellsOf (profile .rules)); locks = noLocks };
+  log = [];
+}

@@ -1,0 +1,65 @@
+-- Names from the last one on, marked by a remainder: a name whose remainder is not marked stands among none of them. Assumes nothing.
+use Prim.Native.Nat.{ℕ, zero, suc, _+_, _-_, _%_, _≤_, _<_}
+use mathlib.Core.Path.{_≡_, refl, sym, ap, _∙_}
+use mathlib.Core.Bool.{Bool, true, false, not, _&&_, and-true, and-false}
+use mathlib.Core.List.{List, [], _∷_}
+use native.Mathlib.Omega.{arith}
+use native.Mathlib.Numerals.{add-one}
+use lib.ListN.{length, getD, take, drop, set, replicate, length-set}
+use lib.Seq.{getD-set-same, getD-set-other}
+use lib.Dec.{eqb}
+use borrow.Author.Tests.{eqb-true, eqb-false, ne-eqb}
+use Rattle.laws.specs.Lists.{from}
+use Rattle.tables.specs.Tables.{allZero}
+use Rattle.made.specs.Names.{isNameNumber}
+use Rattle.made.specs.Made.{isFresh, areRoots}
+use Rattle.made.specs.Parts.{rootsHold}
+use Rattle.made.proofs.Places.{namesFrom, roots-start, roots-end}
+
+pub record Marked (marks names : List ℕ) : Type 0 where
+  pub long : length marks ≡ 256
+  pub new : (name : ℕ) → getD marks (name % 229) 0 ≡ 0 → isFresh name names ≡ true
+
+pub marked-start : (n : ℕ) (xs : List ℕ) → Marked (replicate 256 0) (namesFrom n xs n)
+unfolding isFresh
+marked-start n xs = let z : n - n ≡ 0 = omega arith in rw z (record { long = refl; new = λ name h. refl })
+
+marked-more : {marks names : List ℕ} → Marked marks names → (y : ℕ) → Marked (set marks (y % 229) 1) (y ∷ names)
+unfolding isFresh
+marked-more {marks} {names} m y = record {
+  long = length-set marks (y % 229) 1 ∙ m .long;
+  new = λ name h. go name h (eqb (y % 229) (name % 229)) refl;
+}
+  where
+    go : (name : ℕ) → getD (set marks (y % 229) 1) (name % 229) 0 ≡ 0 → (b : Bool) → eqb (y % 229) (name % 229) ≡ b
+        → (not (eqb y name) && isFresh name names) ≡ true
+    go name h true e =
+        let same : y % 229 ≡ name % 229 = eqb-true (y % 229) (name % 229) e in
+        let one = getD-set-same marks (y % 229) 1 0 (omega (arith, m .long)) in
+        absurd (omega (arith, one, rw (sym same) at h))
+    go name h false e =
+        let apart : name % 229 ≡ y % 229 → ⊥ = λ p. eqb-false (y % 229) (name % 229) e (sym p) in
+        rw (ne-eqb y name (λ p. apart (ap (λ (k : ℕ). k % 229) (sym p)))) (m .new name (sym (getD-set-other marks (y % 229) (name % 229) 1 0 apart) ∙ h))
+
+module _ (n : ℕ) (xs : List ℕ) (within : n ≤ length xs) where
+  module _ (j i : ℕ) (e : i ≡ j + 1) (more : j < n) where
+    names-back : namesFrom n xs j ≡ getD xs j 0 ∷ namesFrom n xs i
+    names-back = let left : n - j ≡ suc (n - i) = omega arith in rw (left, from xs j (omega arith), e)
+
+    pub marked-back : {marks : List ℕ} → Marked marks (namesFrom n xs i) → Marked (set marks (getD xs j 0 % 229) 1) (namesFrom n xs j)
+    marked-back m = rw names-back (marked-more m (getD xs j 0))
+
+    roots-back : areRoots (namesFrom n xs j) ≡ (isNameNumber 1 6 (getD xs j 0) && isFresh (getD xs j 0) (namesFrom n xs i) && areRoots (namesFrom n xs i))
+    unfolding areRoots
+    roots-back = rw names-back
+
+    pub back-on : areRoots (namesFrom n xs i) ≡ true → {named fresh b : Bool} → named ≡ isNameNumber 1 6 (getD xs j 0)
+        → fresh ≡ isFresh (getD xs j 0) (namesFrom n xs i) → (named && fresh) ≡ b → areRoots (namesFrom n xs j) ≡ b
+    back-on r p q h = roots-back ∙ rw (← p, ← q, r, h) (and-true _)
+
+  pub roots-late : (i : ℕ) → i ≤ n → areRoots (namesFrom n xs i) ≡ false → areRoots (namesFrom n xs 0) ≡ false
+  roots-late zero h e = e
+  roots-late (suc i) h e = roots-late i (omega arith) (roots-back i (suc i) (sym (add-one i)) (omega arith) ∙ rw (e, and-false))
+
+  pub late : (i : ℕ) → i ≤ n → areRoots (namesFrom n xs i) ≡ false → false ≡ rootsHold n xs
+  late i h e = sym (roots-start n xs ∙ ap (λ (b : Bool). b && allZero (drop n xs)) (roots-late i h e))
