@@ -76,18 +76,19 @@ def of_demands(sources, found):
     return [item for item, _ in edges.values()]
 
 
-def check(sources, edges, totals, stated):
-    problems = list(dict.fromkeys(sources.problems))
-    problems += [f"{item.path}:{item.line}: `{item.name}` is reached by a promise, and stands in proofs/"
-                 for item, _ in edges.values() if item.place == "proofs"]
-    missing = sorted({name.split()[-1] for name in sources.kit if not name.startswith("Rattle·")} - explained())
-    problems += [f"the key to the notation does not explain `{name}`" for name in missing]
-    if stated is None:
-        return problems + ["docs/PROMISED.md does not state how much there is to read"]
-    found = [number for _, definitions, lines in totals for number in (definitions, lines)]
+def held_to(totals, stated):
+    """The counts that are above those that docs/PROMISED.md states, and those that are below."""
     names = ["definitions of demands 1 to 3", "lines of demands 1 to 3", "definitions in all", "lines in all"]
-    problems += [f"{now:,} {name}: docs/PROMISED.md states {most:,}" for name, now, most in zip(names, found, stated) if now > most]
-    return problems
+    found = [number for _, definitions, lines in totals for number in (definitions, lines)]
+    said = [(now, most, f"{now:,} {name}: docs/PROMISED.md states {most:,}") for name, now, most in zip(names, found, stated)]
+    return [text for now, most, text in said if now > most], [text for now, most, text in said if now < most]
+
+
+def faults(sources, edges):
+    """Names that lead nowhere, definitions in proofs/, and words that the key lacks."""
+    misplaced = [f"{item.path}:{item.line}: `{item.name}` is reached by a promise, and stands in proofs/" for item, _ in edges.values() if item.place == "proofs"]
+    missing = sorted({name.split()[-1] for name in sources.kit if not name.startswith("Rattle·")} - explained())
+    return list(dict.fromkeys(sources.problems)) + misplaced + [f"the key to the notation does not explain `{name}`" for name in missing]
 
 
 def book(root, target):
@@ -102,12 +103,16 @@ def book(root, target):
     stated = [(item.path, item.name) for promise in found for item in promise.statements]
     page = Page(sources, numbers, sentences((root / "docs/PROMISES.md").read_text(), list(dict.fromkeys([*edges, *stated]))))
     target.parent.mkdir(parents=True, exist_ok=True)
-    target.write_text(page.whole(chapters, totals, items))
-    problems = check(sources, edges, totals, stated_counts(text))
+    target.write_text(page.whole((root / "VERSION").read_text().strip(), chapters, totals, items))
+    counts = stated_counts(text)
+    above, below = held_to(totals, counts) if counts else (["docs/PROMISED.md does not state how much there is to read"], [])
+    problems = faults(sources, edges) + above
     for problem in problems:
         print(f"book: {problem}")
+    for less in below:
+        print(f"book: the paper may state less now: {less}")
     said = "; ".join(f"{name}: {definitions:,} definitions in {lines:,} lines" for name, definitions, lines in totals)
-    print(f"{said}; {len(chapters)} promises, {target}")
+    print(f"{said}; {len(chapters)} promises: {target.relative_to(root) if target.is_relative_to(root) else target}")
     return 1 if problems else 0
 
 

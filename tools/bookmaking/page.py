@@ -133,10 +133,10 @@ class Page:
         listed = "".join(f'<div><a href="#d{n}">{html.escape(name)}</a> <span>{crate}</span> {n}</div>' for name, n, crate in names)
         return f'<section><h2>Index</h2><div class="index">{listed}</div></section>'
 
-    def whole(self, chapters, totals, items):
+    def whole(self, version, chapters, totals, items):
         return (f'<!DOCTYPE html><html lang="en"><head><meta charset="utf-8"><meta name="viewport" content="width=device-width, initial-scale=1">'
                 f"<title>Mbrumzheg: what has to be believed</title><style>{STYLE}</style></head><body><main>"
-                f"<h1>What has to be believed</h1>"
+                f"<h1>What has to be believed</h1><p>Mbrumzheg {html.escape(version)}</p>"
                 f"<p>Each promise of docs/PROMISED.md, the statements that carry it, and every definition that these reach, each once. A definition stands before "
                 f"the ones that use it. The statements are proved; that they say what is meant is for the reader to judge, and this is all that there is to read for it. "
                 f"Beside a definition stand the sentences that docs/PROMISES.md says it carries, and the numbers of the definitions of other files that it names.</p>"

@@ -8,7 +8,7 @@ from rattle import read_rattle
 from scopes import Walk, free_names, tokens
 
 OURS = re.compile(r"^Rattle·([a-z0-9_]+)(?:·(?:specs|proofs))?\.(specs|proofs)\.(.+)$")
-CONSTRUCTORS = {"zero", "suc", "true", "false", "[]", "∷", "refl", "then", "nothing"}
+CONSTRUCTORS = {"zero", "suc", "true", "false", "[]", "_∷_", "refl"}
 
 
 class Sources:
@@ -76,16 +76,13 @@ class Sources:
         return None
 
     def is_constructor(self, file):
+        """The test that tells, of the words on a clause's left, the cases from the names that they bind."""
         def test(token):
-            if token in CONSTRUCTORS:
-                return True
-            if token in file.items or token in file.imports or any(token in i.members for i in file.items.values()):
-                found = self.lookup(file, token)
-                if isinstance(found, str):
-                    return not token[0].isalpha()
-                there = file.imports.get(token, (None, token))[1]
-                return bool(found) and found.kind in ("data", "type") and there in found.members
-            return False
+            found = self.lookup(file, token)
+            if found is None or isinstance(found, str):
+                return found is not None and found.split()[-1] in CONSTRUCTORS
+            there = file.imports.get(token, (None, token))[1].split(".")[-1]
+            return found.kind in ("data", "type") and there in found.members
         return test
 
     def names(self, item, statement_only):

@@ -42,7 +42,7 @@ table:not(.key) td:nth-child(n+3), table:not(.key) th:nth-child(n+3) { text-alig
   .beside .uses { display: none; }
   .key td:first-child { white-space: normal; }
 }
-@page { size: A4; margin: 14mm 12mm; }
+@page { size: A4; margin: 14mm 12mm 16mm; @bottom-right { content: counter(page); font: 8pt Georgia, "Liberation Serif", serif; } }
 @media print {
   html { font-size: 9pt; }
   body { font-size: 9pt; }
