@@ -117,12 +117,13 @@ def book(root, target):
 
 
 def unreached(root):
-    """Prints what specs/ defines and no promise reaches, with its lines, by file."""
+    """Prints what specs/ defines and no promise reaches, with its lines, by file; and which files of specs/ import from proofs/."""
     sources = Sources(root)
     _, edges = chapters_of(sources, promises(sources, (root / "docs/PROMISED.md").read_text()))
-    for whole in sorted(root.glob("crates/*/specs/**/*.antt")):
-        path = str(whole.relative_to(root))
-        left = [item for item in sources.file(path).items.values() if (path, item.name) not in edges]
+    for file in sources.specs():
+        left = [item for item in file.items.values() if (file.path, item.name) not in edges]
         if left:
-            print(f"{path}: {lines_of(left)} lines: {', '.join(item.name for item in left)}")
+            print(f"{file.path}: {lines_of(left)} lines: {', '.join(item.name for item in left)}")
+        for module in sorted({module for module, _ in file.imports.values() if ".proofs." in module}):
+            print(f"{file.path} imports from {module}")
     return 0

@@ -109,6 +109,10 @@ class Sources:
                 found.append(there)
         return found
 
+    def specs(self):
+        """Every file of specs/, by path."""
+        return [self.file(str(whole.relative_to(self.root))) for whole in sorted(self.root.glob("crates/*/specs/**/*.antt"))]
+
     def closure(self, statements):
         """All items that statements reach, and for each what it names."""
         edges = {}
