@@ -1,6 +1,13 @@
+pub mod Tests
+pub mod Judged
+pub mod Answered
+pub mod Refusals
+pub mod Read
 pub mod Fresh
 pub mod Holds
 pub mod Follows
 pub mod Never
 pub mod Unarmed
+pub mod Arming
+pub mod Kept
 pub mod Day

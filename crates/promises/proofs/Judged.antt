@@ -1,0 +1,158 @@
+-- The tests of the calls on an armed unit tell what document 01 says of the numbers 12 to 15. Assumes nothing.
+use Prim.Native.Nat.{ℕ, zero, suc, _≤_, _<_}
+use native.Mathlib.Omega.{arith}
+use mathlib.Core.Path.{_≡_, refl, sym, ap, _∙_}
+use mathlib.Core.Logic.{_↔_, _⊎_, inl, inr, ⊎-elim}
+use mathlib.Core.Bool.{Bool, true, false, not, cond, _&&_, false≢true}
+use mathlib.Core.List.{List, [], _∷_}
+use lib.ListN.{length}
+use lib.Dec.{leb, ltb, eqb}
+use borrow.Author.Tests.{lt-leb}
+use Rattle.measures.specs.Ranges.{Range, In, isIn, times, units, premiums, offers}
+use Rattle.rules.specs.Valid.{hasRate}
+use Rattle.rules.specs.declared.Level.the-variants.{Firm, Root}
+use Rattle.machine.specs.declared.Offer.{Offer}
+use Rattle.machine.specs.State.{State, cellsOf, rulesIn, rootsIn, ruleOf, Fitting}
+use Rattle.machine.specs.Calls.{Call, order, lockout, offer, remaining, status}
+use Rattle.machine.specs.Locks.{isLocked, verdictOf}
+use Rattle.machine.specs.Offers.{grantOf}
+use Rattle.machine.specs.Effects.{lastReset}
+use Rattle.machine.specs.Refusals.{firstOf, badTime, isRoot, used, logFull, refusalOf}
+use Rattle.machine.specs.Judge.{logPlaces}
+use Rattle.state.proofs.Stored.{map-length}
+use Rattle.promises.specs.Refusals.{BadTime, Untimely, Unknown, Unpriced, NoPlace, LogFull}
+use Rattle.promises.proofs.Tests.{Tells, not-tells, and-tells, or-tells, tells-as, leb-tells, ltb-tells, eqb-tells, above-tells, least-tells}
+
+-- ---- the tests of each call, by number
+
+unfoldable pub late : State → Call → Bool
+late s (order time root reset) = badTime (s .part) time
+late s (lockout time level root) = badTime (s .part) time
+late s (offer o) = badTime (s .part) (o .time)
+late s (remaining time rule) = badTime (s .part) time
+late s status = false
+
+unfoldable pub strange : State → Call → Bool
+strange s (order time root reset) = not (isRoot (s .part) root && leb reset lastReset)
+strange s (lockout time level root) = not (leb level 1 && cond (eqb level 0) (isRoot (s .part) root) (eqb root 0))
+strange s (offer o) = not (isRoot (s .part) (o .root) && isIn units (o .unit))
+strange s (remaining time rule) = not (ltb rule (length (s .part .accounts)))
+strange s status = false
+
+unfoldable pub unpriced : State → Call → Bool
+unpriced s (order time root reset) = false
+unpriced s (lockout time level root) = false
+unpriced s (offer o) = not (isIn premiums (o .premium) && isIn offers (o .contracts))
+unpriced s (remaining time rule) = false
+unpriced s status = false
+
+unfoldable pub full : State → Call → Bool
+full s (order time root reset) = false
+full s (lockout time level root) = false
+full s (offer o) = logFull logPlaces s o
+full s (remaining time rule) = false
+full s status = false
+
+abbrev pub machineTests : State → Call → List (Bool × ℕ)
+machineTests s call = (late s call, 12) ∷ (strange s call, 13) ∷ (unpriced s call, 14) ∷ (full s call, 15) ∷ []
+
+-- they are those that the machine looks for
+pub machine-tests : (s : State) (call : Call) → refusalOf logPlaces s call ≡ firstOf (machineTests s call)
+unfolding refusalOf firstOf late strange unpriced full
+machine-tests s (order time root reset) = refl
+machine-tests s (lockout time level root) = refl
+machine-tests s (offer o) = refl
+machine-tests s (remaining time rule) = refl
+machine-tests s status = refl
+
+-- ---- what they tell
+
+range-tells : (r : Range) (n : ℕ) → Tells (isIn r n) (In r n)
+range-tells r n = and-tells (leb (r .least) n) (leb n (r .most)) (leb-tells (r .least) n) (leb-tells n (r .most))
+
+-- above a range that begins at 0
+over-tells : (most n : ℕ) → Tells (not (leb 0 n && leb n most)) (most < n)
+over-tells most n = tells-as (or-tells (leb 0 n) (leb n most) (above-tells 0 n) (above-tells n most)) (⊎-elim (λ h. absurd (omega (arith, h))) (λ h. h), λ h. inr h)
+
+time-tells : (s : State) (time : ℕ) → Tells (badTime (s .part) time) (BadTime s time)
+unfolding badTime
+time-tells s time = or-tells (isIn times time) (leb (s .part .clock) time) (over-tells (times .most) time) (above-tells (s .part .clock) time)
+
+nothing-tells : Tells false ⊥
+nothing-tells = (λ e. false≢true e, λ n. absurd n)
+
+pub late-tells : (s : State) (call : Call) → Tells (late s call) (Untimely s call)
+unfolding late Untimely
+late-tells s (order time root reset) = time-tells s time
+late-tells s (lockout time level root) = time-tells s time
+late-tells s (offer o) = time-tells s (o .time)
+late-tells s (remaining time rule) = time-tells s time
+late-tells s status = nothing-tells
+
+positive : (n : ℕ) → (n ≡ 0 → ⊥) → 0 < n
+positive zero h = absurd (h refl)
+positive (suc n) h = omega arith
+
+-- level 0 and a root, level 1 and root 0, or no level
+level-tells : (roots level root : ℕ)
+    → Tells (not (leb level 1 && cond (eqb level 0) (ltb root roots) (eqb root 0))) ((1 < level) ⊎ ((level ≡ 0) × (roots ≤ root)) ⊎ ((level ≡ 1) × (0 < root)))
+level-tells roots zero root =
+    tells-as (least-tells root roots)
+    (λ h. inr (inl (refl, h)), ⊎-elim (λ h. absurd (omega (arith, h))) (⊎-elim (λ h. h .1) (λ h. absurd (omega (arith, h .0)))))
+level-tells roots (suc zero) root =
+    tells-as (not-tells (eqb root 0) (eqb-tells root 0))
+    (λ h. inr (inr (refl, positive root h)), ⊎-elim (λ h z. omega (arith, h)) (⊎-elim (λ h z. omega (arith, h .0)) (λ h z. omega (arith, h .1))))
+level-tells roots (suc (suc n)) root = (
+  λ e. inl (omega arith),
+  λ h. ap (λ (b : Bool). not (b && cond (eqb (suc (suc n)) 0) (ltb root roots) (eqb root 0))) (lt-leb (suc (suc n)) 1 (omega arith)),
+)
+
+pub strange-tells : (s : State) (call : Call) → Fitting (s .part) → Tells (strange s call) (Unknown s call)
+unfolding strange Unknown isRoot rootsIn rulesIn Fitting cellsOf
+strange-tells s (order time root reset) fit = or-tells (ltb root (length (s .part .profile .roots))) (leb reset lastReset) (least-tells root (length (s .part .profile .roots))) (above-tells reset lastReset)
+strange-tells s (lockout time level root) fit = level-tells (length (s .part .profile .roots)) level root
+strange-tells s (offer o) fit = or-tells (ltb (o .root) (length (s .part .profile .roots))) (isIn units (o .unit)) (least-tells (o .root) (length (s .part .profile .roots))) (over-tells (units .most) (o .unit))
+strange-tells s (remaining time rule) fit =
+    let many : length (s .part .accounts) ≡ length (s .part .profile .rules) = sym (map-length ruleOf (s .part .accounts)) ∙ ap length fit in
+    rw many (least-tells rule (length (s .part .profile .rules)))
+strange-tells s status fit = nothing-tells
+
+pub unpriced-tells : (s : State) (call : Call) → Tells (unpriced s call) (Unpriced s call)
+unfolding unpriced Unpriced
+unpriced-tells s (order time root reset) = nothing-tells
+unpriced-tells s (lockout time level root) = nothing-tells
+unpriced-tells s (offer o) = or-tells (isIn premiums (o .premium)) (isIn offers (o .contracts)) (not-tells (isIn premiums (o .premium)) (range-tells premiums (o .premium)))
+    (not-tells (isIn offers (o .contracts)) (range-tells offers (o .contracts)))
+unpriced-tells s (remaining time rule) = nothing-tells
+unpriced-tells s status = nothing-tells
+
+-- verdict 0: neither the firm nor the root is locked
+free-tells : (firm root : Bool) → Tells (eqb (cond firm 1 (cond root 2 0)) 0) ((firm ≡ false) × (root ≡ false))
+free-tells true root = (λ e. absurd (false≢true e), λ h. absurd (false≢true (sym (h .0))))
+free-tells false true = (λ e. absurd (false≢true e), λ h. absurd (false≢true (sym (h .1))))
+free-tells false false = (λ e. (refl, refl), λ h. refl)
+
+place-tells : (s : State) (o : Offer) → Tells (logFull logPlaces s o) (NoPlace s o)
+unfolding logFull verdictOf
+place-tells s o =
+    let free = eqb (verdictOf (s .part .locks) (o .root)) 0 in
+    let granted = ltb 0 (grantOf (s .log) o (s .part .accounts)) in
+    let rated = hasRate (rulesIn s) in
+    let more = leb logPlaces (used s (o .time)) in
+    let firm = isLocked (s .part .locks) Firm in
+    let root = isLocked (s .part .locks) (Root (o .root)) in
+    tells-as
+    (and-tells (free && granted && rated) more
+    (and-tells (free && granted) rated (and-tells free granted (free-tells firm root) (ltb-tells 0 (grantOf (s .log) o (s .part .accounts)))) (λ e. e, λ e. e))
+    (leb-tells logPlaces (used s (o .time)))) (
+      λ h. record { firmFree = h .0 .0 .0 .0; rootFree = h .0 .0 .0 .1; granted = h .0 .0 .1; rated = h .0 .1; full = h .1 },
+      λ h. (((((h .firmFree, h .rootFree), h .granted), h .rated), h .full)),
+    )
+
+pub full-tells : (s : State) (call : Call) → Tells (full s call) (LogFull s call)
+unfolding full LogFull
+full-tells s (order time root reset) = nothing-tells
+full-tells s (lockout time level root) = nothing-tells
+full-tells s (offer o) = place-tells s o
+full-tells s (remaining time rule) = nothing-tells
+full-tells s status = nothing-tells
