@@ -10,4 +10,6 @@ pub mod Never
 pub mod Unarmed
 pub mod Arming
 pub mod Kept
+pub mod Moved
+pub mod Goes
 pub mod Day

@@ -12,10 +12,14 @@ use Rattle.state.specs.State.{size, decode}
 use Rattle.state.specs.Sound.{Sound}
 use Rattle.machine.specs.declared.Answer.the-variants.{Refused}
 use Rattle.machine.specs.Calls.{Call}
+use Rattle.machine.specs.Judge.{Result}
 use Rattle.calls.specs.Calls.{armAnswer, armMemory, clearAnswer, clearMemory, callAnswer, callMemory}
 use Rattle.calls.specs.declared.Clearing.the-variants.{Done}
 use Rattle.demand.specs.Run.{Event, runOf}
 use Rattle.demand.specs.Demand.{Demand3}
+use Rattle.demand.specs.Answers.{Each}
+use Rattle.demand.specs.Words.{Words}
+use Rattle.demand.specs.Moves.{Moves}
 
 -- ---- a day
 
@@ -46,6 +50,10 @@ dayOf memory text calls = callsOn (armMemory memory text) calls
 
 -- ---- what is promised
 
+-- what a call on lent memory is answered, and the state that the memory stands for after it
+abbrev pub lentResult : List ℕ → Call → Result
+lentResult memory call = record { answer = callAnswer memory call; after = decode (callMemory memory call) }
+
 -- no call of a history was refused with this number
 unfoldable pub NeverRefused : ℕ → List Event → Type 0
 NeverRefused n history = All (λ event. event .answer ≡ Refused n → ⊥) history
@@ -67,6 +75,10 @@ pub record Idle (memory : List ℕ) : Type 0 where
 pub record Promised (before text : List ℕ) (calls : List Call) (day : Day) : Type 0 where
   -- demand 3, of the profile's rules, the calls and answers of the day, and the state that the memory holds now
   pub demand : Demand3 (outcomeOf text .profile .rules) (decode (day .memory)) (day .history)
+  -- demand 3 in words, of each call and answer of the day
+  pub words : Each (Words (outcomeOf text .profile .rules)) (day .history)
+  -- and what one call more leaves
+  pub moves : (call : Call) → Moves (decode (day .memory)) call (lentResult (day .memory) call)
   -- the answers are the machine's, and the memory holds the machine's state
   pub answers : day .history ≡ runOf (outcomeOf text .profile) calls .history
   pub state : decode (day .memory) ≡ runOf (outcomeOf text .profile) calls .now
