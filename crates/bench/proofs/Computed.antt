@@ -27,10 +27,14 @@ use Rattle.line.specs.Line.{typeOf, isAbsolute, limitsOf, limitOf, kindOf, time
 use Rattle.profile.specs.Profile.{withRoot, rootsWith, numbered, joined, howMany, isFirmRule, onUnit, crowded, tooMany, afterLine, readOn, outcomeOf}
 use Rattle.rules.specs.Rules.{levelOf, covers, isRate, counts, countedOf, executions, added, ceiling, share}
 use Rattle.rules.specs.Allowance.{largest, allowance, trips}
-use Rattle.machine.specs.declared.Offer.{Offer}
+use Rattle.rules.specs.declared.Rule.{Rule}
+use Rattle.rules.specs.declared.Scope.the-variants.{WholeRoot}
+use Rattle.rules.specs.declared.Kind.the-variants.{Absolute}
+use Rattle.rules.specs.declared.Limit.the-variants.{Volume}
 use Rattle.machine.specs.declared.Answer.the-variants.{Judged}
 use Rattle.demand.specs.Run.{afterCall, runFrom}
 use Rattle.bench.specs.Lent.{numbersIn}
+use Rattle.bench.specs.Library.{hundred, forty}
 use Rattle.bench.specs.Rows.{Row, callsOf, answersThen, answersOf, seen, wanted}
 use Rattle.bench.specs.Table.{table, examples}
 
@@ -44,21 +48,19 @@ isDay calls = every (λ c. every (λ x. ltb x (2 ^ 64)) (numbersIn c)) calls
 abbrev pub fits : Row → Bool
 fits row = isText (bytes (row .text)) && isDay (callsOf row)
 
--- a profile of one rule, 100 contracts in all, and an offer of 40
-abbrev pub hundred : List ℕ
-hundred = bytes "ABCD,abs_vol,XYZ,100"
-
-abbrev pub forty : Offer
-forty = record { time = 0; root = 0; unit = 0; premium = 10_000; contracts = 40 }
+-- the rule of that profile
+abbrev pub hundredRule : Rule
+hundredRule = record { scope = WholeRoot 0; kind = Absolute; limit = Volume (record { 0 = 100 }) }
 
 -- every row is seen as wanted; of three such offers the first two are granted whole, and of the third 20
 computed : (every fits (table ++ examples) ≡ true)
     × (map seen (table ++ examples) ≡ map wanted (table ++ examples))
     × (outcomeOf hundred .refusal ≡ 0)
+    × (outcomeOf hundred .profile .rules ≡ hundredRule ∷ [])
     × (answersOf (armed (outcomeOf hundred .profile)) (offer forty ∷ offer forty ∷ offer forty ∷ [])
     ≡ Judged 0 40 false false ∷ Judged 0 40 false false ∷ Judged 0 20 true false ∷ [])
 unfolding every table examples seen wanted afterCall runFrom answersThen answersOf same bit withBit withoutBit all onto pieces indexOf made numeral numberOf nameOf typeOf isAbsolute limitsOf limitOf kindOf timeOf letterOf malformed otherFirm outOfRange levelClash unitClash faultOf scopeOf ruleOf lineOf withRoot rootsWith numbered joined howMany isFirmRule onUnit crowded tooMany afterLine readOn outcomeOf levelOf covers isRate counts countedOf executions added ceiling share zeroing lifting largest allowance trips unflagged flagOf entryShare sumOf keep recent hasRate cellsOf rulesIn noLocks fresh armed effectOf clockAfter isTripped isByUser isLocked verdictOf lifted trippedBy lockedOut wiped unflaggedLog counted coversOffer grantOf anyOf sameLevel levelTrips credited windowOf longest entryOf joinedLog used logFull firstOf badTime isRoot refusalOf leftOf accountAt noAccount standing accountsAfter locksAfter logAfter partAfter after grantedSo offered ordered judged unless judge stepIn step amountNumber amountIn numbers
-computed = (refl, refl, refl, refl)
+computed = (refl, refl, refl, refl, refl)
 
 pub rows-fit : every fits (table ++ examples) ≡ true
 rows-fit = computed .0
@@ -69,6 +71,9 @@ rows-right = computed .1
 pub hundred-read : outcomeOf hundred .refusal ≡ 0
 hundred-read = computed .2
 
+pub hundred-rule : outcomeOf hundred .profile .rules ≡ hundredRule ∷ []
+hundred-rule = computed .3
+
 pub forties : answersOf (armed (outcomeOf hundred .profile)) (offer forty ∷ offer forty ∷ offer forty ∷ [])
     ≡ Judged 0 40 false false ∷ Judged 0 40 false false ∷ Judged 0 20 true false ∷ []
-forties = computed .3
+forties = computed .4

@@ -1,12 +1,16 @@
--- What the contracts of the state calls say, word for word: these are the equations that `Meets` asks of a library. Assumes nothing.
+-- What the contracts of the calls say, word for word: these are the equations that `Meets` asks of a library. Assumes nothing.
 use mathlib.Core.Path.{_≡_, refl}
 use contract.Lifetimes.{Lfts}
 use denote.Triple.Clauses.{AtExit}
 use borrow.Fn.Kinds.{Dens, resT, endedOf}
 use Rattle.machine.specs.Calls.{order, lockout, offer, remaining, status}
-use Rattle.calls.specs.Calls.{armAnswer, armMemory, callAnswer, callMemory}
+use Rattle.calls.specs.Calls.{armAnswer, armMemory, clearAnswer, clearMemory, callAnswer, callMemory, textAnswer, textMemory}
 use Rattle.calls.proofs.arm.Kinds as arm-kinds
 use Rattle.calls.proofs.arm.Reads as arm-reads
+use Rattle.calls.proofs.clear.Kinds as clear-kinds
+use Rattle.calls.proofs.clear.Reads as clear-reads
+use Rattle.calls.proofs.text.Kinds as text-kinds
+use Rattle.calls.proofs.text.Reads as text-reads
 use Rattle.calls.proofs.order.Kinds as order-kinds
 use Rattle.calls.proofs.order.Reads as order-reads
 use Rattle.calls.proofs.lockout.Kinds as lockout-kinds
@@ -22,6 +26,15 @@ pub arm-says : (κs : Lfts 2) (args : Dens κs arm-kinds.ps) (x : resT arm-kinds
     → arm-reads.Learnt κs args x e
     ≡ ((x ≡ armAnswer (args .0 .now) (args .1 .0 .now)) × (e .0 .now ≡ armMemory (args .0 .now) (args .1 .0 .now)))
 arm-says κs args x e = refl
+
+pub clear-says : (κs : Lfts 1) (args : Dens κs clear-kinds.ps) (x : resT clear-kinds.r κs .Denot) (e : AtExit (endedOf 1 clear-kinds.ps clear-kinds.r) κs)
+    → clear-reads.Learnt κs args x e ≡ ((x ≡ clearAnswer (args .0 .now)) × (e .0 .now ≡ clearMemory (args .0 .now)))
+clear-says κs args x e = refl
+
+pub text-says : (κs : Lfts 1) (args : Dens κs text-kinds.ps) (x : resT text-kinds.r κs .Denot) (e : AtExit (endedOf 1 text-kinds.ps text-kinds.r) κs)
+    → text-reads.Learnt κs args x e
+    ≡ ((x ≡ textAnswer (args .0) (args .1 .0 .now)) × (e .1 .0 .now ≡ textMemory (args .0) (args .1 .0 .now)))
+text-says κs args x e = refl
 
 pub order-says : (κs : Lfts 1) (args : Dens κs order-kinds.ps) (x : resT order-kinds.r κs .Denot) (e : AtExit (endedOf 1 order-kinds.ps order-kinds.r) κs)
     → order-reads.Learnt κs args x e

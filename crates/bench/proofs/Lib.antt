@@ -6,4 +6,5 @@ pub mod Bench
 pub mod Contracts
 pub mod Witness
 pub mod ShutOut
+pub mod History
 pub mod Determined

@@ -27,53 +27,15 @@ use Rattle.machine.specs.declared.Answer.the-variants.{Refused, Judged, Left, S
 use Rattle.machine.proofs.Grants.{grant-largest}
 use Rattle.calls.specs.Calls.{memoryRefusal, callAnswer}
 use Rattle.calls.proofs.Armed.{refusal-unarmed}
-use Rattle.promises.proofs.Holds.{ready-holds, holds-ready, acts-unrefused}
-use Rattle.bench.specs.Lent.{Memory, Text, numbersIn, Sent, Offered, sent}
-use Rattle.bench.specs.Library.{Library, Meets, Unarmed, answersBy, refusalBy, RefusesTexts, RefusesCalls, GrantsAlways, ArmStoresNothing, StoresNoFill, CountsFirstOnly}
+use Rattle.promises.specs.Refusals.{refusalBy}
+use Rattle.promises.proofs.Holds.{ready-holds, holds-ready}
+use Rattle.promises.proofs.Answered.{acted-answer, refused-by, by-refused, taken}
+use Rattle.bench.specs.Lent.{Memory, Text, Verdict, numbersIn, Sent, Offered, sent}
+use Rattle.bench.specs.Library.{Library, Meets, Unarmed, answersBy, RefusesTexts, RefusesCalls, GrantsAlways, ArmStoresNothing, StoresNoFill, CountsFirstOnly, hundred, forty}
 use Rattle.bench.proofs.One.{one}
 use Rattle.bench.proofs.Words.{below-zeros, tested-below}
-use Rattle.bench.proofs.Computed.{hundred, forty, hundred-read, forties}
+use Rattle.bench.proofs.Computed.{hundred-read, forties}
 use Rattle.bench.proofs.Runs.{arm-accepted, arm-leaves, call-leaves, armed-answers}
-
--- ---- each refusal has its exact condition
-
-module _ (xs : List ℕ) (call : Call) where
-  -- a call is answered by its refusal, or by the machine where there is none
-  abbrev answerAt : ℕ → Answer
-  answerAt n = unless n (judged (decode xs) call) .answer
-
-  answer-by : callAnswer xs call ≡ answerAt (refusalBy xs call)
-  unfolding refusalBy callAnswer step stepIn judge unless
-  answer-by = go (memoryRefusal xs) (refusalOf logPlaces (decode xs) call)
-    where
-      go : (a b : ℕ) → cond (eqb a 0) (answerAt b) (Refused a) ≡ answerAt (cond (eqb a 0) b a)
-      go zero b = refl
-      go (suc a) b = rw (ne-eqb (suc a) 0 (λ e. omega arith))
-
-  acted-answer : refusalBy xs call ≡ 0 → callAnswer xs call ≡ judged (decode xs) call .answer
-  unfolding unless
-  acted-answer e = answer-by ∙ ap answerAt e
-
-  refused-by : (n : ℕ) → refusalBy xs call ≡ suc n → callAnswer xs call ≡ Refused (suc n)
-  unfolding unless
-  refused-by n e = answer-by ∙ ap answerAt e
-
-  by-refused : (n : ℕ) → callAnswer xs call ≡ Refused n → refusalBy xs call ≡ n
-  unfolding unless
-  by-refused n e = go (refusalBy xs call) (sym answer-by ∙ e)
-    where
-      go : (a : ℕ) → answerAt a ≡ Refused n → a ≡ n
-      go zero e = absurd (acts-unrefused (decode xs) call n e)
-      go (suc a) e = cc
-
-  -- one that is not answered by a refusal is answered by the machine
-  taken : (a : Answer) → callAnswer xs call ≡ a → isRefusal a ≡ false → judged (decode xs) call .answer ≡ a
-  unfolding unless isRefusal
-  taken a e f = go (refusalBy xs call) (sym answer-by ∙ e)
-    where
-      go : (n : ℕ) → answerAt n ≡ a → judged (decode xs) call .answer ≡ a
-      go zero e = e
-      go (suc n) e = absurd (false≢true (sym f ∙ sym (ap isRefusal e)))
 
 -- a grant at verdict 0 is the machine's
 granted : (s : State) (o : Offer) (verdict grant : ℕ) (root firm : Bool) → offeredSo s o verdict .answer ≡ Judged 0 grant root firm
@@ -212,7 +174,7 @@ module _ (l : Library) (meets : Meets l) where
   -- one that counts the first fill alone
   pub not-counting-only-the-first : CountsFirstOnly l → ⊥
   not-counting-only-the-first only =
-      forty-twenty (sym (second blank blank-unarmed) ∙ sym (only (armed blank blank-unarmed) offered offered offered) ∙ third blank blank-unarmed)
+      forty-twenty (sym (second blank blank-unarmed) ∙ sym (only (armed blank blank-unarmed) offered offered offered (omega arith) (omega arith)) ∙ third blank blank-unarmed)
 
 -- an invented Remaining or Status, or any other invention: two libraries that meet the contracts answer alike and leave the same memory
 module _ (l k : Library) (meets : Meets l) (too : Meets k) where
@@ -227,6 +189,12 @@ module _ (l k : Library) (meets : Meets l) (too : Meets k) where
 
   pub same-memory : (m : Memory) (c : Sent) → l .call m c .memory .now ≡ k .call m c .memory .now
   same-memory m c = one (meets .callLeaves m c) (too .callLeaves m c)
+
+  pub same-clear : (m : Memory) → (l .clear m .answer ≡ k .clear m .answer) × (l .clear m .memory .now ≡ k .clear m .memory .now)
+  same-clear m = (one (meets .clearAnswers m) (too .clearAnswers m), one (meets .clearLeaves m) (too .clearLeaves m))
+
+  pub same-text : (v : Verdict) (room : Text) → (l .text v room .answer ≡ k .text v room .answer) × (l .text v room .room .now ≡ k .text v room .room .now)
+  same-text v room = (one (meets .textAnswers v room) (too .textAnswers v room), one (meets .textLeaves v room) (too .textLeaves v room))
 
   pub same-arm-answer : (m : Memory) (t : Text) → l .arm m t .answer ≡ k .arm m t .answer
   same-arm-answer m t = one (meets .armAnswers m t) (too .armAnswers m t)

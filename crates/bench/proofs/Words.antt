@@ -40,11 +40,11 @@ use Rattle.bench.specs.Lent.{Below}
 
 -- ---- numbers below a bound
 
-below-append : (bound : ℕ) (xs ys : List ℕ) → Below bound xs → Below bound ys → Below bound (xs ++ ys)
+pub below-append : (bound : ℕ) (xs ys : List ℕ) → Below bound xs → Below bound ys → Below bound (xs ++ ys)
 below-append bound [] ys p q = q
 below-append bound (x ∷ xs) ys p q = (p .0, below-append bound xs ys (p .1) q)
 
-below-drop : (bound n : ℕ) (xs : List ℕ) → Below bound xs → Below bound (drop n xs)
+pub below-drop : (bound n : ℕ) (xs : List ℕ) → Below bound xs → Below bound (drop n xs)
 below-drop bound zero xs p = p
 below-drop bound (suc n) [] p = tt
 below-drop bound (suc n) (x ∷ xs) p = below-drop bound n xs (p .1)

@@ -1,4 +1,4 @@
--- What is lent and sent to a library: memory of 64-bit numbers, a text of bytes, and a call whose numbers have 64 bits. Assumes nothing.
+-- What is lent and sent to a library: memory of 64-bit numbers, a text or room of bytes, and calls whose numbers have 64 bits. Assumes nothing.
 use Prim.Native.Nat.{ℕ, _^_, _<_}
 use mathlib.Core.List.{List, [], _∷_}
 use Rattle.rules.specs.Allowance.{All}
@@ -16,6 +16,11 @@ pub record Memory : Type 0 where
 pub record Text : Type 0 where
   pub now : List ℕ
   pub bytes : Below 256 now
+
+-- the verdict that Text is sent
+pub record Verdict : Type 0 where
+  pub number : ℕ
+  pub word : number < 2 ^ 64
 
 -- the numbers of a call
 abbrev pub numbersIn : Call → List ℕ

@@ -2,37 +2,54 @@
 -- Assumes nothing.
 use Prim.Native.Nat.{ℕ, _≤_}
 use mathlib.Core.Path.{_≡_}
-use mathlib.Core.Bool.{Bool, true, cond}
+use mathlib.Core.Bool.{Bool, true}
 use mathlib.Core.List.{List, [], _∷_}
 use lib.ListN.{length}
-use lib.Dec.{eqb}
-use Rattle.machine.specs.Judge.{logPlaces, isRefusal}
+use Rattle.machine.specs.Judge.{isRefusal}
 use Rattle.profile.specs.declared.Reading.{Reading}
 use Rattle.profile.specs.declared.Reading.the-variants.{Accepted, Refused as NotRead}
-use Rattle.state.specs.State.{size, decode}
+use Rattle.profile.specs.Profile.{outcomeOf}
+use Rattle.state.specs.State.{size}
 use Rattle.machine.specs.Calls.{Call}
-use Rattle.machine.specs.Refusals.{refusalOf}
+use Rattle.text.specs.Text.{bytes}
+use Rattle.machine.specs.State.{State}
+use Rattle.machine.specs.declared.Offer.{Offer}
 use Rattle.machine.specs.declared.Answer.{Answer}
 use Rattle.machine.specs.declared.Answer.the-variants.{Judged}
-use Rattle.calls.specs.Calls.{markOf, armAnswer, armMemory, memoryRefusal, callAnswer, callMemory}
-use Rattle.bench.specs.Lent.{Memory, Text, Sent, Offered, sent}
+use Rattle.calls.specs.Calls.{markOf, armAnswer, armMemory, clearAnswer, clearMemory, callAnswer, callMemory, textAnswer, textMemory}
+use Rattle.calls.specs.declared.Clearing.{Clearing}
+use Rattle.calls.specs.declared.Wording.{Wording}
+use Rattle.demand.specs.Run.{Event}
+use Rattle.demand.specs.Demand.{Demand3}
+use Rattle.bench.specs.Lent.{Memory, Text, Verdict, Sent, Offered, sent}
 
 -- an answer, and the memory after it
 pub record Outcome (A : Type 0) : Type 0 where
   pub answer : A
   pub memory : Memory
 
--- Arm on a memory and a text, and the other state calls on a memory
+-- what Text answers, and its room after it
+pub record Saying : Type 0 where
+  pub answer : Wording
+  pub room : Text
+
+-- the eight calls: Arm on a memory and a text; Clear; order, lockout, offer, Remaining and Status, as they are sent; Text for a verdict, in a room
 pub record Library : Type 0 where
   pub arm : Memory → Text → Outcome Reading
+  pub clear : Memory → Outcome Clearing
   pub call : Memory → Sent → Outcome Answer
+  pub text : Verdict → Text → Saying
 
--- it meets the contracts: each answer and each memory after is as they say
+-- it meets the contracts: each answer, and each memory and room after, is as they say
 pub record Meets (l : Library) : Type 0 where
   pub armAnswers : (m : Memory) (t : Text) → l .arm m t .answer ≡ armAnswer (m .now) (t .now)
   pub armLeaves : (m : Memory) (t : Text) → l .arm m t .memory .now ≡ armMemory (m .now) (t .now)
+  pub clearAnswers : (m : Memory) → l .clear m .answer ≡ clearAnswer (m .now)
+  pub clearLeaves : (m : Memory) → l .clear m .memory .now ≡ clearMemory (m .now)
   pub callAnswers : (m : Memory) (c : Sent) → l .call m c .answer ≡ callAnswer (m .now) (c .call)
   pub callLeaves : (m : Memory) (c : Sent) → l .call m c .memory .now ≡ callMemory (m .now) (c .call)
+  pub textAnswers : (v : Verdict) (room : Text) → l .text v room .answer ≡ textAnswer (v .number) (room .now)
+  pub textLeaves : (v : Verdict) (room : Text) → l .text v room .room .now ≡ textMemory (v .number) (room .now)
 
 -- a memory that may be armed: it is long enough, and its mark is 0
 pub record Unarmed (m : Memory) : Type 0 where
@@ -49,9 +66,17 @@ unfoldable pub refusalIn : Reading → ℕ
 refusalIn (Accepted firm rules roots) = 0
 refusalIn (NotRead number line) = number
 
--- the number that a call is refused with, 0 if it is not: by the memory, then by the machine
-unfoldable pub refusalBy : List ℕ → Call → ℕ
-refusalBy xs call = cond (eqb (memoryRefusal xs) 0) (refusalOf logPlaces (decode xs) call) (memoryRefusal xs)
+-- the calls and answers of a day, the newest first, before them those of an earlier part of it
+unfoldable pub historyBy : Library → Memory → List Sent → List Event → List Event
+historyBy l m [] before = before
+historyBy l m (c ∷ day) before = historyBy l (l .call m c .memory) day (record { call = c .call; answer = l .call m c .answer } ∷ before)
+
+-- its days meet demand 3, whatever it keeps in its memory: after an Arm that it accepts, the calls and its answers are such as demand 3 asks for, with
+-- some state
+abbrev pub MeetsDemand3 : Library → Type 0
+MeetsDemand3 l =
+    (m : Memory) (t : Text) (firm rules roots : ℕ) → l .arm m t .answer ≡ Accepted firm rules roots → (day : List Sent)
+    → (now : State) × Demand3 (outcomeOf (t .now) .profile .rules) now (historyBy l (l .arm m t .memory) day [])
 
 -- ---- libraries that document 01 shuts out
 
@@ -73,9 +98,17 @@ ArmStoresNothing l = (m : Memory) (t : Text) → l .arm m t .memory .now ≡ m .
 abbrev pub StoresNoFill : Library → Type 0
 StoresNoFill l = (m : Memory) (o : Offered) → l .call m (sent o) .memory .now ≡ m .now
 
--- one that counts the first fill alone: after two offers it answers as after the first of them
+-- one that counts the first fill alone, and keeps its clock right: an offer that comes after two others, none of them early, is answered as after
+-- the first of them alone
 abbrev pub CountsFirstOnly : Library → Type 0
 CountsFirstOnly l =
-    (m : Memory) (first second third : Offered)
+    (m : Memory) (first second third : Offered) → first .offer .time ≤ second .offer .time → second .offer .time ≤ third .offer .time
     → l .call (l .call (l .call m (sent first) .memory) (sent second) .memory) (sent third) .answer
     ≡ l .call (l .call m (sent first) .memory) (sent third) .answer
+
+-- what the first fill alone is tried with: a profile of one rule, 100 contracts in all, and an offer of 40
+abbrev pub hundred : List ℕ
+hundred = bytes "ABCD,abs_vol,XYZ,100"
+
+abbrev pub forty : Offer
+forty = record { time = 0; root = 0; unit = 0; premium = 10_000; contracts = 40 }
