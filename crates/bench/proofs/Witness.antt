@@ -96,13 +96,16 @@ asContracted = record {
 -- SOME LIBRARY MEETS THE CONTRACTS
 pub contracts-met : (l : Library) × Meets l
 unfolding asContracted
-contracts-met = (asContracted, record {
-  armAnswers = λ m t. refl;
-  armLeaves = λ m t. refl;
-  clearAnswers = λ m. refl;
-  clearLeaves = λ m. refl;
-  callAnswers = λ m c. refl;
-  callLeaves = λ m c. refl;
-  textAnswers = λ v room. refl;
-  textLeaves = λ v room. refl;
-})
+contracts-met = (
+  asContracted,
+  record {
+    armAnswers = λ m t. refl;
+    armLeaves = λ m t. refl;
+    clearAnswers = λ m. refl;
+    clearLeaves = λ m. refl;
+    callAnswers = λ m c. refl;
+    callLeaves = λ m c. refl;
+    textAnswers = λ v room. refl;
+    textLeaves = λ v room. refl;
+  },
+)
