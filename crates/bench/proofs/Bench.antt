@@ -17,6 +17,7 @@ use Rattle.bench.specs.Lent.{Memory, Text, numbersIn, Sent}
 use Rattle.bench.specs.Library.{Library, Meets, Unarmed, refusalIn}
 use Rattle.bench.specs.Rows.{Row, Seen, callsOf, windowsOf, answersOf, seen, seenBy, wanted, Done}
 use Rattle.bench.specs.Table.{table, examples}
+use Rattle.bench.specs.Tried.{tried}
 use Rattle.bench.proofs.Words.{tested-below}
 use Rattle.bench.proofs.Runs.{arm-accepted, arm-leaves, armed-answers}
 use Rattle.bench.proofs.Computed.{isText, isDay, fits, rows-fit, rows-right}
@@ -78,6 +79,6 @@ module _ (l : Library) (meets : Meets l) (m : Memory) (u : Unarmed m) where
       let rest : map seen rows ≡ map wanted rows = cc in
       (done row (and-l (fits row) (every fits rows) f) first, all-done rows (and-r (fits row) (every fits rows) f) rest)
 
-  -- B1 to B12, the examples and the slips
-  pub bench : All (Done l m) (table ++ examples)
-  bench = all-done (table ++ examples) rows-fit rows-right
+  -- B1 to B12, the examples and the slips, and the rows beyond them
+  pub bench : All (Done l m) (table ++ (examples ++ tried))
+  bench = all-done (table ++ (examples ++ tried)) rows-fit rows-right

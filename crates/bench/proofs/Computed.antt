@@ -12,7 +12,7 @@ use Rattle.rules.specs.Amounts.{numberOf as amountNumber, amountIn}
 use Rattle.laws.specs.Lists.{same}
 use Rattle.laws.specs.Folds.{every, sumOf, keep, anyOf}
 use Rattle.machine.specs.Effects.{effectOf, zeroing, lifting}
-use Rattle.machine.specs.Order.{wiped, unflagged, unflaggedLog}
+use Rattle.machine.specs.Order.{wiped, unflagged, unflaggedLog, levelNamed}
 use Rattle.machine.specs.Entries.{flagOf, entryShare, recent}
 use Rattle.rules.specs.Valid.{hasRate}
 use Rattle.machine.specs.Calls.{Call, offer}
@@ -21,10 +21,12 @@ use Rattle.machine.specs.Offers.{counted, coversOffer, grantOf, sameLevel, leve
 use Rattle.machine.specs.Refusals.{used, logFull, firstOf, badTime, isRoot, refusalOf}
 use Rattle.machine.specs.Remaining.{noAccount, accountAt, leftOf, standing}
 use Rattle.machine.specs.Judge.{grantedSo, offered, ordered, judged, unless, judge, stepIn, step, numbers}
-use Rattle.bits.specs.Locks.{bit, withBit, withoutBit}
+use Rattle.bits.specs.Locks.{bit, withBit, withoutBit, either, count, here, first, standingOf}
 use Rattle.text.specs.Text.{bytes, all, onto, pieces, indexOf, made, numeral, numberOf, nameOf}
 use Rattle.line.specs.Line.{typeOf, isAbsolute, limitsOf, limitOf, kindOf, timeOf, letterOf, malformed, otherFirm, outOfRange, levelClash, unitClash, faultOf, scopeOf, ruleOf, lineOf}
-use Rattle.profile.specs.Profile.{withRoot, rootsWith, numbered, joined, howMany, isFirmRule, onUnit, crowded, tooMany, afterLine, readOn, outcomeOf}
+use Rattle.profile.specs.Profile.{withRoot, rootsWith, numbered, joined, howMany, isFirmRule, onUnit, crowded, tooMany, afterLine, readOn, outcomeOf, readingOf}
+use Rattle.profile.specs.declared.Reading.{Reading}
+use Rattle.profile.specs.declared.Reading.the-variants.{Refused as NotRead}
 use Rattle.rules.specs.Rules.{levelOf, covers, isRate, counts, countedOf, executions, added, ceiling, share}
 use Rattle.rules.specs.Allowance.{largest, allowance, trips}
 use Rattle.rules.specs.declared.Rule.{Rule}
@@ -37,6 +39,7 @@ use Rattle.bench.specs.Lent.{numbersIn}
 use Rattle.bench.specs.Library.{hundred, forty}
 use Rattle.bench.specs.Rows.{Row, callsOf, answersThen, answersOf, seen, wanted}
 use Rattle.bench.specs.Table.{table, examples}
+use Rattle.bench.specs.Tried.{tried, Fault, refusedTexts}
 
 -- a row's text is of bytes, and its calls' numbers have 64 bits
 abbrev pub isText : List ℕ → Bool
@@ -48,32 +51,47 @@ isDay calls = every (λ c. every (λ x. ltb x (2 ^ 64)) (numbersIn c)) calls
 abbrev pub fits : Row → Bool
 fits row = isText (bytes (row .text)) && isDay (callsOf row)
 
--- the rule of that profile
+-- how a refused text is read, and how it has to be
+abbrev pub readAs : Fault → Reading
+readAs fault = readingOf (outcomeOf (bytes (fault .text)))
+
+abbrev pub saidAs : Fault → Reading
+saidAs fault = NotRead (fault .number) (fault .line)
+
+-- the rule of the profile of three offers
 abbrev pub hundredRule : Rule
 hundredRule = record { scope = WholeRoot 0; kind = Absolute; limit = Volume (record { 0 = 100 }) }
 
--- every row is seen as wanted; of three such offers the first two are granted whole, and of the third 20
-computed : (every fits (table ++ examples) ≡ true)
-    × (map seen (table ++ examples) ≡ map wanted (table ++ examples))
+-- every row is seen as wanted, and every faulty text is read so; of three such offers the first two are granted whole, and of the third 20
+computed : (every fits (table ++ (examples ++ tried)) ≡ true)
+    × (map seen (table ++ (examples ++ tried)) ≡ map wanted (table ++ (examples ++ tried)))
+    × (every (λ f. isText (bytes (f .text))) refusedTexts ≡ true)
+    × (map readAs refusedTexts ≡ map saidAs refusedTexts)
     × (outcomeOf hundred .refusal ≡ 0)
     × (outcomeOf hundred .profile .rules ≡ hundredRule ∷ [])
     × (answersOf (armed (outcomeOf hundred .profile)) (offer forty ∷ offer forty ∷ offer forty ∷ [])
     ≡ Judged 0 40 false false ∷ Judged 0 40 false false ∷ Judged 0 20 true false ∷ [])
-unfolding every table examples seen wanted afterCall runFrom answersThen answersOf same bit withBit withoutBit all onto pieces indexOf made numeral numberOf nameOf typeOf isAbsolute limitsOf limitOf kindOf timeOf letterOf malformed otherFirm outOfRange levelClash unitClash faultOf scopeOf ruleOf lineOf withRoot rootsWith numbered joined howMany isFirmRule onUnit crowded tooMany afterLine readOn outcomeOf levelOf covers isRate counts countedOf executions added ceiling share zeroing lifting largest allowance trips unflagged flagOf entryShare sumOf keep recent hasRate cellsOf rulesIn noLocks fresh armed effectOf clockAfter isTripped isByUser isLocked verdictOf lifted trippedBy lockedOut wiped unflaggedLog counted coversOffer grantOf anyOf sameLevel levelTrips credited windowOf longest entryOf joinedLog used logFull firstOf badTime isRoot refusalOf leftOf accountAt noAccount standing accountsAfter locksAfter logAfter partAfter after grantedSo offered ordered judged unless judge stepIn step amountNumber amountIn numbers
-computed = (refl, refl, refl, refl, refl)
+unfolding every table examples tried refusedTexts readingOf seen wanted afterCall runFrom answersThen answersOf same bit withBit withoutBit either count here first standingOf levelNamed all onto pieces indexOf made numeral numberOf nameOf typeOf isAbsolute limitsOf limitOf kindOf timeOf letterOf malformed otherFirm outOfRange levelClash unitClash faultOf scopeOf ruleOf lineOf withRoot rootsWith numbered joined howMany isFirmRule onUnit crowded tooMany afterLine readOn outcomeOf levelOf covers isRate counts countedOf executions added ceiling share zeroing lifting largest allowance trips unflagged flagOf entryShare sumOf keep recent hasRate cellsOf rulesIn noLocks fresh armed effectOf clockAfter isTripped isByUser isLocked verdictOf lifted trippedBy lockedOut wiped unflaggedLog counted coversOffer grantOf anyOf sameLevel levelTrips credited windowOf longest entryOf joinedLog used logFull firstOf badTime isRoot refusalOf leftOf accountAt noAccount standing accountsAfter locksAfter logAfter partAfter after grantedSo offered ordered judged unless judge stepIn step amountNumber amountIn numbers
+computed = (refl, refl, refl, refl, refl, refl, refl)
 
-pub rows-fit : every fits (table ++ examples) ≡ true
+pub rows-fit : every fits (table ++ (examples ++ tried)) ≡ true
 rows-fit = computed .0
 
-pub rows-right : map seen (table ++ examples) ≡ map wanted (table ++ examples)
+pub rows-right : map seen (table ++ (examples ++ tried)) ≡ map wanted (table ++ (examples ++ tried))
 rows-right = computed .1
 
+pub texts-fit : every (λ f. isText (bytes (f .text))) refusedTexts ≡ true
+texts-fit = computed .2
+
+pub texts-read : map readAs refusedTexts ≡ map saidAs refusedTexts
+texts-read = computed .3
+
 pub hundred-read : outcomeOf hundred .refusal ≡ 0
-hundred-read = computed .2
+hundred-read = computed .4
 
 pub hundred-rule : outcomeOf hundred .profile .rules ≡ hundredRule ∷ []
-hundred-rule = computed .3
+hundred-rule = computed .5
 
 pub forties : answersOf (armed (outcomeOf hundred .profile)) (offer forty ∷ offer forty ∷ offer forty ∷ [])
     ≡ Judged 0 40 false false ∷ Judged 0 40 false false ∷ Judged 0 20 true false ∷ []
-forties = computed .4
+forties = computed .6

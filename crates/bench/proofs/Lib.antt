@@ -3,6 +3,7 @@ pub mod Words
 pub mod Runs
 pub mod Computed
 pub mod Bench
+pub mod Tried
 pub mod Contracts
 pub mod Witness
 pub mod ShutOut

@@ -2,4 +2,5 @@ pub mod Lent
 pub mod Library
 pub mod Rows
 pub mod Table
+pub mod Tried
 pub mod Determines

@@ -5,24 +5,24 @@ use Rattle.machine.specs.Calls.{Call, order, offer, remaining}
 use Rattle.bench.specs.Rows.{Row}
 
 -- an offer of contracts of a root's unit at a premium in ten-thousandths: the refusal, verdict, grant, root trip and firm trip that it gets
-abbrev fill : ℕ → ℕ → ℕ → ℕ → ℕ → List ℕ → Call × List ℕ
+abbrev pub fill : ℕ → ℕ → ℕ → ℕ → ℕ → List ℕ → Call × List ℕ
 fill time root unit premium contracts answer =
     (offer (record { time = time; root = root; unit = unit; premium = premium; contracts = contracts }), answer)
 
 -- of root 0, on unit 0
-abbrev at : ℕ → ℕ → ℕ → List ℕ → Call × List ℕ
+abbrev pub at : ℕ → ℕ → ℕ → List ℕ → Call × List ℕ
 at time premium contracts answer = fill time 0 0 premium contracts answer
 
 -- a grant, with the root trip and the firm trip
-abbrev grants : ℕ → ℕ → ℕ → List ℕ
+abbrev pub grants : ℕ → ℕ → ℕ → List ℕ
 grants grant roottrip firmtrip = 0 ∷ 0 ∷ grant ∷ roottrip ∷ firmtrip ∷ []
 
 -- what remains of a rule's limit at a time, in ten-thousandths, contracts or executions
-abbrev leaves : ℕ → ℕ → ℕ → Call × List ℕ
+abbrev pub leaves : ℕ → ℕ → ℕ → Call × List ℕ
 leaves time rule left = (remaining time rule, 0 ∷ left ∷ 0 ∷ 0 ∷ 0 ∷ [])
 
 -- an order for root 0 with a reset, and its verdict
-abbrev ordered : ℕ → ℕ → ℕ → Call × List ℕ
+abbrev pub ordered : ℕ → ℕ → ℕ → Call × List ℕ
 ordered time reset verdict = (order time 0 reset, 0 ∷ verdict ∷ 0 ∷ 0 ∷ 0 ∷ [])
 
 -- n fills of 1 contract at $1, one a millisecond from 0 on, all granted

@@ -1,0 +1,161 @@
+-- Rows beyond document 01's table: rules of one unit, FIRM and BOTH, lockouts at both levels, Status, verdict 1, the refusals 12 to 14, a profile
+-- of firm rules alone; and texts that Arm refuses. Assumes nothing.
+use Prim.Native.Nat.{ℕ, _≤_}
+use Prim.Native.String.{String}
+use mathlib.Core.Path.{_≡_}
+use mathlib.Core.List.{List, [], _∷_, _++_}
+use lib.ListN.{length, drop}
+use Rattle.text.specs.Text.{bytes}
+use Rattle.capi.specs.Rows.{armRow, textRow}
+use Rattle.machine.specs.Calls.{Call, order, lockout, offer, remaining, status}
+use Rattle.bench.specs.Lent.{Memory, Text, Verdict}
+use Rattle.bench.specs.Library.{Library}
+use Rattle.bench.specs.Rows.{Row}
+use Rattle.bench.specs.Table.{fill, at, grants, leaves, ordered}
+
+-- a lockout of root 0 or of the firm: verdict 0
+abbrev locksOut : ℕ → ℕ → Call × List ℕ
+locksOut time level = (lockout time level 0, 0 ∷ 0 ∷ 0 ∷ 0 ∷ 0 ∷ [])
+
+-- how many roots are tripped, locked by the user, locked at all, and the lowest locked root
+abbrev stands : ℕ → ℕ → ℕ → ℕ → Call × List ℕ
+stands tripped user locked lowest = (status, 0 ∷ tripped ∷ user ∷ locked ∷ lowest ∷ [])
+
+-- a verdict, with nothing granted and nothing tripped
+abbrev lockedOut : ℕ → List ℕ
+lockedOut verdict = 0 ∷ verdict ∷ 0 ∷ 0 ∷ 0 ∷ []
+
+-- a refusal
+abbrev refused : Call → ℕ → Call × List ℕ
+refused call number = (call, number ∷ 0 ∷ 0 ∷ 0 ∷ 0 ∷ [])
+
+-- an offer of root 0
+abbrev offers : ℕ → ℕ → ℕ → ℕ → Call
+offers time unit premium contracts = offer (record { time = time; root = 0; unit = unit; premium = premium; contracts = contracts })
+
+unfoldable pub tried : List Row
+tried =
+    -- a rule of one unit: calls trailing are cut, puts front are not
+    record {
+      text = "ABCD,abs_vol,XYZ,10,,,C,T";
+      windows = 0 ∷ [];
+      day = fill 0 0 2 1 500 (grants 500 0 0) ∷ leaves 0 0 10 ∷ fill 1 0 1 1 12 (grants 10 1 0) ∷ ordered 2 0 2 ∷ [];
+    }
+    -- FIRM zeroes the firm's counter and leaves the root as it is; BOTH zeroes both; a locked firm comes before a locked root
+    ∷ record {
+      text = "ABCD,abs_vol,XYZ,10\nABCD,abs_vol,,15,,T";
+      windows = 0 ∷ 0 ∷ [];
+      day =
+          at 0 1 10 (grants 10 1 0)
+          ∷ ordered 1 1 0
+          ∷ at 2 1 7 (grants 5 0 1)
+          ∷ ordered 3 0 1
+          ∷ ordered 4 1 1
+          ∷ at 5 1 1 (lockedOut 1)
+          ∷ ordered 6 2 0
+          ∷ leaves 6 0 10
+          ∷ leaves 6 1 15
+          ∷ at 7 1 10 (grants 10 1 0)
+          ∷ ordered 8 2 2
+          ∷ leaves 8 0 0
+          ∷ leaves 8 1 15
+          ∷ ordered 9 3 0
+          ∷ leaves 9 0 10
+          ∷ leaves 9 1 15
+          ∷ [];
+    }
+    -- lockouts at both levels, and how two roots stand
+    ∷ record {
+      text = "ABCD,abs_vol,XYZ,10\nABCD,abs_vol,QRS,10";
+      windows = 0 ∷ 0 ∷ [];
+      day =
+          stands 0 0 0 64
+          ∷ fill 0 1 0 1 10 (grants 10 1 0)
+          ∷ stands 1 0 1 1
+          ∷ locksOut 1 0
+          ∷ stands 1 1 2 0
+          ∷ at 2 1 1 (lockedOut 2)
+          ∷ locksOut 3 1
+          ∷ ordered 4 0 1
+          ∷ ordered 5 2 2
+          ∷ ordered 6 1 0
+          ∷ stands 1 0 1 1
+          ∷ [];
+    }
+    -- 12, 13 and 14, and that 12 comes before 13, and 13 before 14
+    ∷ record {
+      text = "ABCD,abs_vol,XYZ,10";
+      windows = 0 ∷ [];
+      day =
+          ordered 5 0 0
+          ∷ refused (order 4 0 0) 12
+          ∷ refused (order 86_400_000 9 9) 12
+          ∷ refused (order 5 1 0) 13
+          ∷ refused (order 5 0 4) 13
+          ∷ refused (lockout 5 2 0) 13
+          ∷ refused (lockout 5 1 1) 13
+          ∷ refused (lockout 5 0 1) 13
+          ∷ refused (offers 5 4 0 0) 13
+          ∷ refused (offers 5 0 0 1) 14
+          ∷ refused (offers 5 0 100_000_001 1) 14
+          ∷ refused (offers 5 0 1 0) 14
+          ∷ refused (offers 5 0 1 1_000_001) 14
+          ∷ refused (remaining 4 0) 12
+          ∷ refused (remaining 5 1) 13
+          ∷ leaves 6 0 10
+          ∷ ordered 5 0 0
+          ∷ [];
+    }
+    -- a profile of firm rules alone has no root: orders and offers get 13
+    ∷ record {
+      text = "ABCD,abs_vol,,100,,T";
+      windows = 0 ∷ [];
+      day =
+          refused (order 0 0 0) 13
+          ∷ refused (offers 0 0 1 1) 13
+          ∷ refused (lockout 0 0 0) 13
+          ∷ locksOut 0 1
+          ∷ leaves 0 0 100
+          ∷ stands 0 0 0 64
+          ∷ [];
+    }
+    ∷ []
+
+-- a text that Arm refuses, with the number and the line
+pub record Fault : Type 0 where
+  pub text : String
+  pub number : ℕ
+  pub line : ℕ
+
+unfoldable pub refusedTexts : List Fault
+refusedTexts =
+    -- slip: arming with no rules
+    record { text = ""; number = 5; line = 0 }
+    ∷ record { text = "\n"; number = 6; line = 1 }
+    ∷ record { text = "ABCD,abs_volume,XYZ,10"; number = 6; line = 1 }
+    ∷ record { text = "ABCD,abs_vol,XYZ,10\nABCE,abs_vol,XYZ,10"; number = 7; line = 2 }
+    ∷ record { text = "ABCD,abs_vol,XYZ,0"; number = 8; line = 1 }
+    ∷ record { text = "ABCD,rate_vol,XYZ,1,86400001"; number = 8; line = 1 }
+    ∷ record { text = "ABCD,abs_vol,XYZ,10,,T"; number = 9; line = 1 }
+    ∷ record { text = "ABCD,abs_vol,,10"; number = 9; line = 1 }
+    ∷ record { text = "ABCD,abs_vol,XYZ,10,,,C"; number = 10; line = 1 }
+    ∷ record { text = "A,abs_vol,X,1\nA,abs_vol,X,1\nA,abs_vol,X,1\nA,abs_vol,X,1\nA,abs_vol,X,1\nA,abs_vol,X,1\nA,abs_vol,X,1"; number = 11; line = 7 }
+    ∷ []
+
+-- a library refuses a text so, and leaves the memory as it was
+pub record Refuses (l : Library) (m : Memory) (fault : Fault) : Type 0 where
+  pub text : Text
+  pub isText : text .now ≡ bytes (fault .text)
+  pub row : armRow (l .arm m text .answer) ≡ fault .number ∷ fault .line ∷ 0 ∷ 0 ∷ 0 ∷ []
+  pub kept : l .arm m text .memory .now ≡ m .now
+
+-- a library says the two texts, of 20 and 19 bytes, and leaves the room after them as it was
+pub record Says (l : Library) (v : Verdict) (room : Text) : Type 0 where
+  pub firm :
+      v .number ≡ 1 → 20 ≤ length (room .now)
+      → (textRow (l .text v room .answer) ≡ 0 ∷ 20 ∷ 0 ∷ 0 ∷ 0 ∷ [])
+      × (l .text v room .room .now ≡ bytes "f: RiskMgmtFirmLevel" ++ drop 20 (room .now))
+  pub root :
+      v .number ≡ 2 → 20 ≤ length (room .now)
+      → (textRow (l .text v room .answer) ≡ 0 ∷ 19 ∷ 0 ∷ 0 ∷ 0 ∷ [])
+      × (l .text v room .room .now ≡ bytes "s: RiskMgmtSymLevel" ++ drop 19 (room .now))
