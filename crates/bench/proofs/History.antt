@@ -5,7 +5,7 @@ use mathlib.Core.Path.{_≡_, refl, sym, ap, _∙_, subst, subst⁻¹}
 use mathlib.Core.Bool.{Bool}
 use mathlib.Core.List.{List, [], _∷_, map, List·Memᴰ, List·Memᴰ·head}
 use lib.ListN.{drop}
-use Rattle.rules.specs.Rules.{levelOf, covers, added, ceiling}
+use Rattle.rules.specs.Rules.{covers, added, ceiling}
 use Rattle.rules.specs.declared.Rule.{Rule}
 use Rattle.profile.specs.Profile.{outcomeOf}
 use Rattle.profile.specs.declared.Reading.the-variants.{Accepted}
@@ -13,19 +13,19 @@ use Rattle.state.specs.State.{size}
 use Rattle.machine.specs.State.{State, cellsOf}
 use Rattle.machine.specs.declared.Offer.{Offer}
 use Rattle.machine.specs.Calls.{offer}
-use Rattle.machine.specs.Deeds.{Deed, granted, filling}
+use Rattle.machine.specs.Deeds.{granted, filling}
 use Rattle.machine.specs.Offers.{coversOffer}
 use Rattle.machine.specs.declared.Answer.{Answer}
 use Rattle.machine.specs.declared.Answer.the-variants.{Judged}
 use Rattle.demand.specs.Run.{Event, afterCall, runFrom, runOf}
 use Rattle.demand.specs.History.{ifGranted, deedOf, deedsOf, contractsOf, amountOf, zeroes, NoneOf}
 use Rattle.demand.specs.Sums.{inStretch, sumIn, Within}
-use Rattle.demand.specs.Answers.{grantedBy, Told, Each}
+use Rattle.demand.specs.Answers.{grantedBy, Each}
 use Rattle.demand.specs.Demand.{Demand3}
 use Rattle.demand.proofs.Theorem.{demand3}
-use Rattle.promises.proofs.Holds.{Holds, call-answers, call-holds, arm-holds}
+use Rattle.promises.proofs.Holds.{Holds, call-answers, arm-holds}
 use Rattle.bench.specs.Lent.{Memory, Text, Sent, Offered, sent}
-use Rattle.bench.specs.Library.{Library, Meets, answersBy, historyBy, MeetsDemand3, CountsFirstOnly, hundred, forty}
+use Rattle.bench.specs.Library.{Library, Meets, historyBy, MeetsDemand3, CountsFirstOnly, hundred, forty}
 use Rattle.bench.proofs.Computed.{hundredRule, hundred-rule}
 use Rattle.bench.proofs.Runs.{call-leaves}
 

@@ -4,25 +4,21 @@ use Prim.Native.Nat.{ℕ, zero, suc, _^_}
 use native.Mathlib.Omega.{arith}
 use mathlib.Core.Path.{_≡_, refl, sym, ap, _∙_, subst}
 use mathlib.Core.Logic.{_↔_}
-use mathlib.Core.Bool.{Bool, true, false, cond, false≢true}
+use mathlib.Core.Bool.{Bool, true, false, false≢true}
 use mathlib.Core.List.{List, [], _∷_}
-use lib.Dec.{eqb}
-use borrow.Author.Tests.{ne-eqb}
 use Rattle.rules.specs.Allowance.{Largest, KeepsAll}
 use Rattle.tables.specs.Tables.{zeros}
 use Rattle.laws.specs.Folds.{every}
 use Rattle.machine.specs.State.{State, armed as justArmed}
-use Rattle.machine.specs.Calls.{Call, offer, remaining, status}
+use Rattle.machine.specs.Calls.{offer, remaining, status}
 use Rattle.machine.specs.Locks.{verdictOf}
 use Rattle.machine.specs.Offers.{grantOf, covering}
 use Rattle.machine.specs.Remaining.{accountAt, leftOf, standing}
-use Rattle.machine.specs.Refusals.{refusalOf}
-use Rattle.machine.specs.Judge.{logPlaces, grantedSo, offered as offeredSo, judged, unless, judge, stepIn, step, isRefusal}
+use Rattle.machine.specs.Judge.{grantedSo, offered as offeredSo, judged, step, isRefusal}
 use Rattle.tables.proofs.Tables.{length-zeros}
 use Rattle.profile.specs.Profile.{outcomeOf}
 use Rattle.state.specs.State.{size, decode}
 use Rattle.machine.specs.declared.Offer.{Offer}
-use Rattle.machine.specs.declared.Answer.{Answer}
 use Rattle.machine.specs.declared.Answer.the-variants.{Refused, Judged, Left, Standing as Stand}
 use Rattle.machine.proofs.Grants.{grant-largest}
 use Rattle.calls.specs.Calls.{memoryRefusal, callAnswer}

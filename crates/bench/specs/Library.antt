@@ -10,7 +10,6 @@ use Rattle.profile.specs.declared.Reading.{Reading}
 use Rattle.profile.specs.declared.Reading.the-variants.{Accepted, Refused as NotRead}
 use Rattle.profile.specs.Profile.{outcomeOf}
 use Rattle.state.specs.State.{size}
-use Rattle.machine.specs.Calls.{Call}
 use Rattle.text.specs.Text.{bytes}
 use Rattle.machine.specs.State.{State}
 use Rattle.machine.specs.declared.Offer.{Offer}

@@ -1,36 +1,26 @@
 -- Each refusal of Arm, Clear and Text has the condition that document 01 gives it, and a refusal changes nothing that is lent. Assumes nothing.
 use Prim.Native.Nat.{ℕ, zero, suc, _+_, _≤_, _<_}
 use native.Mathlib.Omega.{arith}
-use mathlib.Core.Path.{_≡_, refl, sym, ap, _∙_, subst, subst⁻¹}
-use mathlib.Core.Logic.{_↔_, _⊎_, inl, inr, ⊎-elim}
-use mathlib.Core.Bool.{Bool, true, false, cond}
-use mathlib.Core.List.{List, [], _∷_, _++_}
+use mathlib.Core.Path.{_≡_, refl, sym, ap, _∙_, subst}
+use mathlib.Core.Logic.{_↔_, _⊎_, inl, inr}
+use mathlib.Core.Bool.{Bool, true, false}
+use mathlib.Core.List.{List, [], _∷_}
 use lib.ListN.{length, getD}
 use lib.Dec.{eqb, ltb, leb}
-use borrow.Author.Tests.{ltb-true, ltb-false, lt-ltb, le-ltb, eqb-true, eqb-false, eq-eqb, ne-eqb, not-true, not-false, leb-true, leb-false}
-use Rattle.laws.specs.Tests.{and-l, and-r}
-use Rattle.measures.specs.Ranges.{_to_, isIn}
-use Rattle.text.specs.Text.{bytes, lines}
+use borrow.Author.Tests.{ltb-true, ltb-false, eqb-true, eqb-false, ne-eqb, leb-true, leb-false}
+use Rattle.text.specs.Text.{lines}
 use Rattle.machine.specs.State.{Profile}
-use Rattle.machine.specs.Calls.{Call}
-use Rattle.machine.specs.Judge.{numbers, isRefusal}
 use Rattle.profile.specs.Profile.{Outcome, readOn, startOf, outcomeOf, readingOf}
 use Rattle.profile.specs.declared.Reading.{Reading}
 use Rattle.profile.specs.declared.Reading.the-variants.{Accepted, Refused as NotRead}
-use Rattle.profile.proofs.Laws.{reading-accepted, reading-refused}
 use Rattle.state.specs.State.{size}
-use Rattle.calls.specs.Calls.{markOf, armAnswer, armMemory, clearAnswer, clearMemory, callAnswer, callMemory, sayAnswer, sayMemory, textAnswer, textMemory}
-use Rattle.calls.specs.declared.Clearing.{Clearing}
-use Rattle.calls.specs.declared.Clearing.the-variants.{Done, Refused as NotCleared}
-use Rattle.calls.specs.declared.Wording.{Wording}
-use Rattle.calls.specs.declared.Wording.the-variants.{Written, Refused as NotSaid}
-use Rattle.calls.proofs.Cases.{clear-short, clear-done, arm-short, arm-marked, say-short, say-done}
-use Rattle.capi.specs.Rows.{armRow, clearRow, textRow}
-use Rattle.promises.specs.Refusals.{refusalRow, Short, Unmarked, Marked, profileOf, Faultless, startIn, FirstFault, acceptedRow, ArmRefusals, ClearRefusals, TextRefusals, RefusedKeeps}
-use Rattle.promises.proofs.Unarmed.{refused-arm-same, unarmed-idle}
+use Rattle.calls.specs.Calls.{markOf, armAnswer}
+use Rattle.calls.proofs.Cases.{arm-short, arm-marked}
+use Rattle.capi.specs.Rows.{armRow}
+use Rattle.promises.specs.Refusals.{Short, Unmarked, Marked, profileOf, Faultless, startIn, FirstFault, acceptedRow, ArmRefusals}
+use Rattle.promises.proofs.Unarmed.{unarmed-idle}
 use Rattle.promises.proofs.Tests.{first-least}
 use Rattle.promises.proofs.Read.{read-through, read-fault, Split, splits}
-use Rattle.promises.proofs.Answered.{row-refused}
 
 -- ---- rows
 

@@ -1,17 +1,16 @@
 -- The refusals of Clear and Text, and that a refusal changes nothing that is lent. Assumes nothing.
-use Prim.Native.Nat.{ℕ, zero, suc, _≤_, _<_}
+use Prim.Native.Nat.{ℕ, suc, _≤_, _<_}
 use native.Mathlib.Omega.{arith}
 use mathlib.Core.Path.{_≡_, refl, sym, ap, _∙_}
-use mathlib.Core.Logic.{_↔_, _⊎_, inl, inr}
+use mathlib.Core.Logic.{_⊎_, inl, inr}
 use mathlib.Core.Bool.{Bool, true, false, cond}
 use mathlib.Core.List.{List, _++_}
 use lib.ListN.{length, getD, drop}
 use lib.Dec.{eqb, ltb}
-use borrow.Author.Tests.{ltb-true, ltb-false, lt-ltb, le-ltb, eqb-true, eqb-false, eq-eqb, ne-eqb}
+use borrow.Author.Tests.{ltb-true, ltb-false, lt-ltb, le-ltb, eqb-true, eqb-false, ne-eqb}
 use Rattle.text.specs.Text.{bytes}
 use Rattle.tables.specs.Tables.{zeros}
-use Rattle.machine.specs.Calls.{Call}
-use Rattle.machine.specs.Judge.{numbers, isRefusal}
+use Rattle.machine.specs.Judge.{isRefusal}
 use Rattle.state.specs.State.{size}
 use Rattle.calls.specs.Calls.{isShort, armAnswer, clearAnswer, clearMemory, callAnswer, callMemory, sayAnswer, sayMemory, textAnswer, textMemory}
 use Rattle.calls.specs.declared.Clearing.the-variants.{Done, Refused as NotCleared}

@@ -1,14 +1,14 @@
 -- What a call leaves of lent memory, whatever that holds. Assumes nothing.
 use Prim.Native.Nat.{ℕ, zero, suc}
 use native.Mathlib.Omega.{arith}
-use mathlib.Core.Path.{_≡_, refl, sym, ap, _∙_, subst, subst⁻¹}
-use mathlib.Core.Bool.{true, false, false≢true}
+use mathlib.Core.Path.{_≡_, refl, sym, ap, _∙_, subst⁻¹}
+use mathlib.Core.Bool.{false≢true}
 use mathlib.Core.List.{List}
 use Rattle.machine.specs.State.{State}
 use Rattle.machine.specs.Calls.{Call}
-use Rattle.machine.specs.Judge.{logPlaces, Result, step, isRefusal}
+use Rattle.machine.specs.Judge.{logPlaces, step, isRefusal}
 use Rattle.state.specs.State.{decode}
-use Rattle.calls.specs.Calls.{memoryRefusal, callAnswer, callMemory}
+use Rattle.calls.specs.Calls.{memoryRefusal}
 use Rattle.calls.proofs.Armed.{call-refused}
 use Rattle.demand.specs.Moves.{Moves}
 use Rattle.demand.proofs.Moves.{moves}

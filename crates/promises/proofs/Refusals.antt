@@ -1,17 +1,17 @@
 -- Each refusal of the calls on an armed unit has the condition that document 01 gives it. Assumes nothing.
 use Prim.Native.Nat.{ℕ, suc, _≤_}
 use native.Mathlib.Omega.{arith}
-use mathlib.Core.Path.{_≡_, refl, sym, ap, _∙_, subst, subst⁻¹}
+use mathlib.Core.Path.{_≡_, refl, sym, ap, _∙_, subst⁻¹}
 use mathlib.Core.Logic.{_↔_, Iff·trans, Iff·symm}
 use mathlib.Core.Bool.{Bool, true, false, not, cond}
 use mathlib.Core.List.{List, [], _∷_, _++_}
 use lib.ListN.{length}
-use lib.Dec.{eqb, ltb}
-use borrow.Author.Tests.{ltb-true, ltb-false, lt-ltb, le-ltb, ne-eqb, eqb-true, eq-eqb, eqb-false, not-false, not-true}
+use lib.Dec.{eqb}
+use borrow.Author.Tests.{ltb-true, ltb-false, lt-ltb, le-ltb, ne-eqb, eqb-true, eq-eqb, not-false}
 use Rattle.machine.specs.State.{State, Fitting}
 use Rattle.machine.specs.Calls.{Call}
-use Rattle.machine.specs.Refusals.{firstOf, refusalOf}
-use Rattle.machine.specs.Judge.{logPlaces, numbers}
+use Rattle.machine.specs.Refusals.{firstOf}
+use Rattle.machine.specs.Judge.{numbers}
 use Rattle.state.specs.State.{size, decode}
 use Rattle.state.specs.Sound.{Sound, isSound}
 use Rattle.state.proofs.Restored.{taken-apart, restored}
@@ -19,7 +19,7 @@ use Rattle.state.proofs.Stored.{is-stored, decode-stored}
 use Rattle.state.proofs.Exactly.{made-parts, sound-fits, given-is-made, sound-decode, exactly}
 use Rattle.calls.specs.Calls.{isShort, markOf, memoryRefusal, callAnswer}
 use Rattle.promises.specs.Refusals.{refusalRow, Short, Held, Holding, Untimely, Unknown, Unpriced, LogFull, CallRefusals, refusalBy}
-use Rattle.promises.proofs.Tests.{Tells, tells-not, not-tells, NonePass, NoneIs, first-at, first-none}
+use Rattle.promises.proofs.Tests.{Tells, tells-not, not-tells, NonePass, first-at, first-none}
 use Rattle.promises.proofs.Judged.{late, strange, unpriced, full, machineTests, machine-tests, late-tells, strange-tells, unpriced-tells, full-tells}
 use Rattle.promises.proofs.Answered.{unrefused, row-by}
 

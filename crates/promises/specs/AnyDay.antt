@@ -10,7 +10,7 @@ use Rattle.machine.specs.Calls.{Call}
 use Rattle.calls.specs.Calls.{armAnswer, armMemory, callAnswer, callMemory, textAnswer, textMemory}
 use Rattle.calls.specs.declared.Wording.{Wording}
 use Rattle.demand.specs.Run.{Event}
-use Rattle.promises.specs.Day.{Day, Promised}
+use Rattle.promises.specs.Day.{Promised}
 
 -- a call of a day: any but Clear
 pub data AnyCall : Type 0 where
