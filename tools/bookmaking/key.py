@@ -3,6 +3,7 @@
 KEY = [
     ("a ≡ b", "`a` and `b` are the same.", "_≡_"),
     ("P ↔ Q", "`P` holds exactly if `Q` does.", "_↔_"),
+    ("P ⊎ Q", "`P` or `Q`: the value says which, and holds what shows it.", "_⊎_"),
     ("A → B", "A function from `A` to `B`; between statements: if `A` then `B`. `(x : A) → P` is: `P` for every `x`. In `{x : A}` the `x` is found by itself.", ""),
     ("A × B", "Both. `(x : A) × P` is: there is an `x` for which `P`. A pair `p` has the parts `p .0` and `p .1`. `Unit` says nothing.", ""),
     ("P → ⊥", "`P` does not hold.", ""),
