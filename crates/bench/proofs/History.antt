@@ -25,7 +25,7 @@ use Rattle.demand.specs.Demand.{Demand3}
 use Rattle.demand.proofs.Theorem.{demand3}
 use Rattle.promises.proofs.Holds.{Holds, call-answers, arm-holds}
 use Rattle.bench.specs.Lent.{Memory, Text, Sent, Offered, sent}
-use Rattle.bench.specs.Library.{Library, Meets, historyBy, MeetsDemand3, CountsFirstOnly, hundred, forty}
+use Rattle.bench.specs.Library.{Library, Meets, historyBy, MeetsDemand3, CountsFirstOnly, hundred, forty, armedBy, answerTo, memoryAfter}
 use Rattle.bench.proofs.Computed.{hundredRule, hundred-rule}
 use Rattle.bench.proofs.Runs.{call-leaves}
 
@@ -54,17 +54,7 @@ filled o same verdict roottrip firmtrip answer is =
 
 -- a library whose days meet demand 3, the text of a limit of 100, and an offer of 40
 module _ (l : Library) (meets : MeetsDemand3 l) (t : Text) (isHundred : t .now ≡ hundred) (o : Offered) (isForty : o .offer ≡ forty) where
-  -- what is answered to the offer, and the memory after it
-  abbrev answered : Memory → Answer
-  answered m = l .call m (sent o) .answer
-
-  abbrev next : Memory → Memory
-  next m = l .call m (sent o) .memory
-
   module _ (m : Memory) (firm rules roots : ℕ) (ok : l .arm m t .answer ≡ Accepted firm rules roots) where
-    abbrev armed : Memory
-    armed = l .arm m t .memory
-
     its-rule : List·Memᴰ hundredRule (cellsOf (outcomeOf (t .now) .profile .rules))
     unfolding cellsOf
     its-rule =
@@ -72,22 +62,22 @@ module _ (l : Library) (meets : MeetsDemand3 l) (t : Text) (isHundred : t .now �
         (List·Memᴰ·head refl)
 
     -- NEVER THREE TIMES 40, at whatever verdicts
-    pub not-thrice-forty : (u v w : ℕ) (a b c d e f : Bool) → answered armed ≡ Judged u 40 a b → answered (next armed) ≡ Judged v 40 c d
-        → answered (next (next armed)) ≡ Judged w 40 e f → ⊥
+    pub not-thrice-forty : (u v w : ℕ) (a b c d e f : Bool) → answerTo l o (armedBy l m t) ≡ Judged u 40 a b → answerTo l o (memoryAfter l o (armedBy l m t)) ≡ Judged v 40 c d
+        → answerTo l o (memoryAfter l o (memoryAfter l o (armedBy l m t))) ≡ Judged w 40 e f → ⊥
     unfolding historyBy Each deedsOf
     not-thrice-forty u v w a b c d e f first second third =
         let met = meets m t firm rules roots ok (sent o ∷ sent o ∷ sent o ∷ []) .1 in
         let told = met .answers in
-        let fill1 = filled (o .offer) isForty u a b (answered armed) first (told .1 .1 .0 .summed) in
-        let fill2 = filled (o .offer) isForty v c d (answered (next armed)) second (told .1 .0 .summed) in
-        let fill3 = filled (o .offer) isForty w e f (answered (next (next armed))) third (told .0 .summed) in
+        let fill1 = filled (o .offer) isForty u a b (answerTo l o (armedBy l m t)) first (told .1 .1 .0 .summed) in
+        let fill2 = filled (o .offer) isForty v c d (answerTo l o (memoryAfter l o (armedBy l m t))) second (told .1 .0 .summed) in
+        let fill3 = filled (o .offer) isForty w e f (answerTo l o (memoryAfter l o (memoryAfter l o (armedBy l m t)))) third (told .0 .summed) in
         three-fills (subst (Within hundredRule) (λ i. fill3 i ∷ fill2 i ∷ fill1 i ∷ []) (met .sums hundredRule its-rule))
 
     -- so one that counts the first fill alone, and grants the first two, does not meet demand 3
-    pub not-first-only-by-demand : CountsFirstOnly l → (u v : ℕ) (a b c d : Bool) → answered armed ≡ Judged u 40 a b
-        → answered (next armed) ≡ Judged v 40 c d → ⊥
+    pub not-first-only-by-demand : CountsFirstOnly l → (u v : ℕ) (a b c d : Bool) → answerTo l o (armedBy l m t) ≡ Judged u 40 a b
+        → answerTo l o (memoryAfter l o (armedBy l m t)) ≡ Judged v 40 c d → ⊥
     not-first-only-by-demand only u v a b c d first second =
-        not-thrice-forty u v v a b c d c d first second (only armed o o o (omega arith) (omega arith) ∙ second)
+        not-thrice-forty u v v a b c d c d first second (only (armedBy l m t) o o o (omega arith) (omega arith) ∙ second)
 
 -- a library that meets the contracts meets demand 3
 module _ (l : Library) (meets : Meets l) where

@@ -111,3 +111,13 @@ hundred = bytes "ABCD,abs_vol,XYZ,100"
 
 abbrev pub forty : Offer
 forty = record { time = 0; root = 0; unit = 0; premium = 10_000; contracts = 40 }
+
+-- the memory that a library's Arm leaves; what an offer is answered on a memory, and the memory after it
+abbrev pub armedBy : Library → Memory → Text → Memory
+armedBy l m t = l .arm m t .memory
+
+abbrev pub answerTo : Library → Offered → Memory → Answer
+answerTo l o m = l .call m (sent o) .answer
+
+abbrev pub memoryAfter : Library → Offered → Memory → Memory
+memoryAfter l o m = l .call m (sent o) .memory
