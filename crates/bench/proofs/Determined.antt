@@ -13,6 +13,7 @@ pub mod State
 pub mod Grant
 pub mod Reset
 pub mod Calls
+pub mod Views
 pub mod Capi
 pub mod Records
 pub mod Rows

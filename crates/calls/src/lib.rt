@@ -69,7 +69,7 @@ pub fn clear(m: &mut [u64]) -> Clearing
 }
 
 // The refusal that memory meets in every call but Arm, Clear and Text, 0 for none.
-fn memory_refusal(m: &[u64]) -> u64
+pub fn memory_refusal(m: &[u64]) -> u64
     ensures { λ r. ⌜ r ≡ memoryRefusal (now (m .entry)) ⌝ }
 {
     if m.len() < 1866 {

@@ -7,6 +7,10 @@ use Rattle.calls.specs.declared.Clearing.{Clearing}
 use Rattle.calls.specs.declared.Clearing.the-variants.{Done, Refused as NotCleared}
 use Rattle.calls.specs.declared.Wording.{Wording}
 use Rattle.calls.specs.declared.Wording.the-variants.{Written, Refused as NotSaid}
+use Rattle.views.specs.declared.Found.{Found}
+use Rattle.views.specs.declared.Found.the-variants.{Root, Refused as NotFound}
+use Rattle.views.specs.declared.Told.{Told}
+use Rattle.views.specs.declared.Told.the-variants.{Rule, Refused as NotTold}
 use lib.ListN.{take}
 use Rattle.records.specs.Form.{written}
 use Rattle.records.specs.Event.{valuesOf, form, wroteOf, readRefusal, writeRefusal}
@@ -25,10 +29,20 @@ unfoldable pub clearRow : Clearing → List ℕ
 clearRow Done = 0 ∷ 0 ∷ 0 ∷ 0 ∷ 0 ∷ []
 clearRow (NotCleared number) = number ∷ 0 ∷ 0 ∷ 0 ∷ 0 ∷ []
 
--- Text: refusal, how many bytes were written
+-- Text and a root's name: refusal, how many bytes were written
 unfoldable pub textRow : Wording → List ℕ
 textRow (Written length) = 0 ∷ length ∷ 0 ∷ 0 ∷ 0 ∷ []
 textRow (NotSaid number) = number ∷ 0 ∷ 0 ∷ 0 ∷ 0 ∷ []
+
+-- a root by its name: refusal, the root's number
+unfoldable pub foundRow : Found → List ℕ
+foundRow (Root root) = 0 ∷ root ∷ 0 ∷ 0 ∷ 0 ∷ []
+foundRow (NotFound number) = number ∷ 0 ∷ 0 ∷ 0 ∷ 0 ∷ []
+
+-- a rule by its number: refusal, type, limit, window, root, unit
+unfoldable pub ruleRow : Told → List ℕ
+ruleRow (Rule ruletype limit window root unit) = 0 ∷ ruletype ∷ limit ∷ window ∷ root ∷ unit ∷ []
+ruleRow (NotTold number) = number ∷ 0 ∷ 0 ∷ 0 ∷ 0 ∷ 0 ∷ []
 
 -- an event record read: refusal, kind, time, root, unit, premium, contracts, reset, level
 unfoldable pub eventRow : Event → List ℕ

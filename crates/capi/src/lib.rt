@@ -3,15 +3,18 @@ ghost use mathlib.Core.Path.{_≡_};
 ghost use Rattle.machine.specs.Calls.{Call};
 ghost use Rattle.machine.specs.Judge.{numbers};
 ghost use Rattle.calls.specs.Calls.{armAnswer, armMemory, clearAnswer, clearMemory, callAnswer, callMemory, textAnswer, textMemory};
+ghost use Rattle.views.specs.Views.{rootNamed, rootName, rootNameRoom, ruleTold};
 ghost use lib.ListN.{length};
 ghost use Rattle.records.specs.Event.{eventIn, readOf};
-ghost use Rattle.capi.specs.Rows.{armRow, clearRow, textRow, eventRow, fieldsOf, roomOf, writingOf, writingRow};
+ghost use Rattle.capi.specs.Rows.{armRow, clearRow, textRow, foundRow, ruleRow, eventRow, fieldsOf, roomOf, writingOf, writingRow};
 use calls::Clearing;
 use calls::Wording;
 use machine::Offer;
 use profile::Reading;
 use records::Reading as Event;
 use records::Writing;
+use views::Found;
+use views::Told;
 
 // Arms memory from a profile: refusal, line, firm, rules, roots.
 #[no_mangle]
@@ -48,6 +51,16 @@ pub extern "C" fn mbrumzheg_status(m: &[u64], row: &mut [u64; 5])
     rows::put_answer(answer, row)
 }
 
+// Writes the row of what was written to a room.
+fn put_wording(wording: Wording, row: &mut [u64; 5])
+    ensures { λ _. ⌜ now (row .exit) ≡ textRow wording ⌝ }
+{
+    match wording {
+        Wording::Written(n) => rows::put_row(row, 0, n, 0, 0, 0),
+        Wording::Refused(number) => rows::put_row(row, number, 0, 0, 0, 0),
+    }
+}
+
 // Writes the text for a verdict: refusal, how many bytes.
 #[no_mangle]
 pub extern "C" fn mbrumzheg_text(verdict: u64, room: &mut [u8], row: &mut [u64; 5])
@@ -55,9 +68,50 @@ pub extern "C" fn mbrumzheg_text(verdict: u64, room: &mut [u8], row: &mut [u64; 
     ensures { λ _. ⌜ now (row .exit) ≡ textRow (textAnswer verdict (now (room .entry))) ⌝ }
 {
     let wording = calls::text(verdict, room);
-    match wording {
-        Wording::Written(n) => rows::put_row(row, 0, n, 0, 0, 0),
-        Wording::Refused(number) => rows::put_row(row, number, 0, 0, 0, 0),
+    put_wording(wording, row)
+}
+
+// The number of the root that has a name: refusal, the root.
+#[no_mangle]
+pub extern "C" fn mbrumzheg_root_named(m: &[u64], name: &[u8], row: &mut [u64; 5])
+    ensures { λ _. ⌜ now (row .exit) ≡ foundRow (rootNamed (now (m .entry)) (now (name .entry))) ⌝ }
+{
+    let found = views::root_named(m, name);
+    match found {
+        Found::Root(root) => rows::put_row(row, 0, root, 0, 0, 0),
+        Found::Refused(number) => rows::put_row(row, number, 0, 0, 0, 0),
+    }
+}
+
+// Writes the name of a root: refusal, how many bytes.
+#[no_mangle]
+pub extern "C" fn mbrumzheg_root_name(m: &[u64], root: u64, room: &mut [u8], row: &mut [u64; 5])
+    ensures { λ _. ⌜ now (room .exit) ≡ rootNameRoom (now (m .entry)) root (now (room .entry)) ⌝ }
+    ensures { λ _. ⌜ now (row .exit) ≡ textRow (rootName (now (m .entry)) root (now (room .entry))) ⌝ }
+{
+    let wording = views::root_name(m, root, room);
+    put_wording(wording, row)
+}
+
+// A rule by its number: refusal, type, limit, window, root, unit.
+#[no_mangle]
+pub extern "C" fn mbrumzheg_rule(m: &[u64], rule: u64, row: &mut [u64; 6])
+    ensures { λ _. ⌜ now (row .exit) ≡ ruleRow (ruleTold (now (m .entry)) rule) ⌝ }
+{
+    let told = views::rule(m, rule);
+    match told {
+        Told::Rule {
+            ruletype,
+            limit,
+            window,
+            root,
+            unit,
+        } => {
+            *row = [0, ruletype, limit, window, root, unit];
+        }
+        Told::Refused(number) => {
+            *row = [number, 0, 0, 0, 0, 0];
+        }
     }
 }
 

@@ -6,6 +6,8 @@ use Rattle.calls.proofs.arm.Kinds as arm-kinds
 use Rattle.calls.proofs.arm.Reads as arm-reads
 use Rattle.calls.proofs.clear.Kinds as clear-kinds
 use Rattle.calls.proofs.clear.Reads as clear-reads
+use Rattle.calls.proofs.memory_refusal.Kinds as memory-refusal-kinds
+use Rattle.calls.proofs.memory_refusal.Reads as memory-refusal-reads
 use Rattle.calls.proofs.status.Kinds as status-kinds
 use Rattle.calls.proofs.status.Reads as status-reads
 use Rattle.calls.proofs.order.Kinds as order-kinds
@@ -24,6 +26,9 @@ arm κs args asked x y u v p q = (one (p .0) (q .0), λ i. (one (p .1) (q .1) i,
 
 pub clear : Determines 1 clear-kinds.ps clear-kinds.r clear-reads.Asked clear-reads.Learnt
 clear κs args asked x y u v p q = (one (p .0) (q .0), λ i. (one (p .1) (q .1) i, v .1))
+
+pub memory-refusal : Determines 1 memory-refusal-kinds.ps memory-refusal-kinds.r memory-refusal-reads.Asked memory-refusal-reads.Learnt
+memory-refusal κs args asked x y u v p q = (one p q, refl)
 
 pub status : Determines 1 status-kinds.ps status-kinds.r status-reads.Asked status-reads.Learnt
 status κs args asked x y u v p q = (one p q, refl)

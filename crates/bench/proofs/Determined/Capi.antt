@@ -10,6 +10,12 @@ use Rattle.capi.proofs.mbrumzheg_status.Kinds as mbrumzheg-status-kinds
 use Rattle.capi.proofs.mbrumzheg_status.Reads as mbrumzheg-status-reads
 use Rattle.capi.proofs.mbrumzheg_text.Kinds as mbrumzheg-text-kinds
 use Rattle.capi.proofs.mbrumzheg_text.Reads as mbrumzheg-text-reads
+use Rattle.capi.proofs.mbrumzheg_root_named.Kinds as mbrumzheg-root-named-kinds
+use Rattle.capi.proofs.mbrumzheg_root_named.Reads as mbrumzheg-root-named-reads
+use Rattle.capi.proofs.mbrumzheg_root_name.Kinds as mbrumzheg-root-name-kinds
+use Rattle.capi.proofs.mbrumzheg_root_name.Reads as mbrumzheg-root-name-reads
+use Rattle.capi.proofs.mbrumzheg_rule.Kinds as mbrumzheg-rule-kinds
+use Rattle.capi.proofs.mbrumzheg_rule.Reads as mbrumzheg-rule-reads
 use Rattle.capi.proofs.mbrumzheg_order.Kinds as mbrumzheg-order-kinds
 use Rattle.capi.proofs.mbrumzheg_order.Reads as mbrumzheg-order-reads
 use Rattle.capi.proofs.mbrumzheg_offer.Kinds as mbrumzheg-offer-kinds
@@ -34,6 +40,15 @@ mbrumzheg-status κs args asked x y u v p q = (refl, λ i. (v .0, (one p q i, v 
 
 pub mbrumzheg-text : Determines 2 mbrumzheg-text-kinds.ps mbrumzheg-text-kinds.r mbrumzheg-text-reads.Asked mbrumzheg-text-reads.Learnt
 mbrumzheg-text κs args asked x y u v p q = (refl, λ i. (v .0, (one (p .0) (q .0) i, (one (p .1) (q .1) i, v .1 .1 .1))))
+
+pub mbrumzheg-root-named : Determines 3 mbrumzheg-root-named-kinds.ps mbrumzheg-root-named-kinds.r mbrumzheg-root-named-reads.Asked mbrumzheg-root-named-reads.Learnt
+mbrumzheg-root-named κs args asked x y u v p q = (refl, λ i. (v .0, (v .1 .0, (one p q i, v .1 .1 .1))))
+
+pub mbrumzheg-root-name : Determines 3 mbrumzheg-root-name-kinds.ps mbrumzheg-root-name-kinds.r mbrumzheg-root-name-reads.Asked mbrumzheg-root-name-reads.Learnt
+mbrumzheg-root-name κs args asked x y u v p q = (refl, λ i. (v .0, (v .1 .0, (one (p .0) (q .0) i, (one (p .1) (q .1) i, v .1 .1 .1 .1)))))
+
+pub mbrumzheg-rule : Determines 2 mbrumzheg-rule-kinds.ps mbrumzheg-rule-kinds.r mbrumzheg-rule-reads.Asked mbrumzheg-rule-reads.Learnt
+mbrumzheg-rule κs args asked x y u v p q = (refl, λ i. (v .0, (v .1 .0, (one p q i, v .1 .1 .1))))
 
 pub mbrumzheg-order : Determines 2 mbrumzheg-order-kinds.ps mbrumzheg-order-kinds.r mbrumzheg-order-reads.Asked mbrumzheg-order-reads.Learnt
 mbrumzheg-order κs args asked x y u v p q = (refl, λ i. (one (p .0) (q .0) i, (v .1 .0, (v .1 .1 .0, (v .1 .1 .1 .0, (one (p .1) (q .1) i, v .1 .1 .1 .1 .1))))))

@@ -1,0 +1,205 @@
+// The public calls that read an armed unit's profile: a root's number by its name, a root's name by its number, a rule by its number.
+ghost use mathlib.Core.Path.{_≡_};
+ghost use mathlib.Core.List.{_++_};
+ghost use Prim.Native.Nat.{_+_, _≤_, _<_};
+ghost use lib.ListN.{length, getD, drop};
+ghost use Rattle.text.specs.Text.{indexOf};
+ghost use Rattle.text.specs.declared.Number.the-variants.{Is};
+ghost use Rattle.tables.specs.RulePlace.{limitNumber, measureNumber, windowNumber};
+ghost use Rattle.made.specs.Names.{nameBytes};
+ghost use Rattle.state.specs.State.{decode};
+ghost use Rattle.calls.specs.Calls.{memoryRefusal};
+ghost use Rattle.views.specs.declared.Told.the-variants.{Rule as Terms};
+ghost use Rattle.views.specs.Views.{placeOf, rootNamed, rootName, rootNameRoom, typeNumber, termsOf, ruleTold};
+use calls::Wording;
+use rules::Kind;
+use rules::Limit;
+use rules::Rule;
+use rules::Scope;
+use text::Number;
+
+// What a name is answered: the number of its root, or a refusal.
+pub enum Found {
+    Root(u64),
+    Refused(u64),
+}
+
+// What a rule's number is answered: the rule as numbers, or a refusal.
+pub enum Told {
+    Rule {
+        ruletype: u64,
+        limit: u64,
+        window: u64,
+        root: u64,
+        unit: u64,
+    },
+    Refused(u64),
+}
+
+// The place of a name among others, or the next place.
+fn place(names: &[u64], name: u64) -> usize
+    ensures { λ r. ⌜ r ≡ indexOf name (now (names .entry)) ⌝ }
+{
+    let mut i: usize = 0;
+    while i < names.len() {
+        if names[i] == name {
+            return i;
+        }
+        i += 1;
+    }
+    i
+}
+
+// The root of a name that came as one number.
+fn root_of(m: &[u64], name: u64) -> Found
+    requires { ⌜ memoryRefusal (now m) ≡ 0 ⌝ }
+    ensures { λ r. ⌜ r ≡ placeOf (decode (now (m .entry)) .part .profile .roots) (Is name) ⌝ }
+{
+    let roots = m[3] as usize;
+    let end = 10 + roots;
+    let root = place(&m[10..end], name);
+    if root < roots {
+        return Found::Root(root as u64);
+    }
+    Found::Refused(13)
+}
+
+// The number of the root that has a name.
+pub fn root_named(m: &[u64], name: &[u8]) -> Found
+    ensures { λ r. ⌜ r ≡ rootNamed (now (m .entry)) (now (name .entry)) ⌝ }
+{
+    let refusal = calls::memory_refusal(m);
+    if refusal != 0 {
+        return Found::Refused(refusal);
+    }
+    if name.len() < 1 {
+        return Found::Refused(13);
+    }
+    let number = text::root_name(name);
+    match number {
+        Number::Is(n) => root_of(m, n),
+        Number::Bad => Found::Refused(13),
+    }
+}
+
+// How many bytes a name has that is held in one number.
+fn name_length(name: u64) -> usize
+    ensures { λ r. ⌜ r ≡ length (nameBytes name) ⌝ }
+{
+    let mut rest = name;
+    let mut count: usize = 0;
+    while 0 < rest {
+        rest = rest / 256;
+        count += 1;
+    }
+    count
+}
+
+// Writes a name that is held in one number to the front of a room, its last byte first, and answers how many bytes it has.
+fn put_name(name: u64, room: &mut [u8]) -> usize
+    requires { ⌜ length (nameBytes name) ≤ length (now room) ⌝ }
+    ensures { λ r. ⌜ r ≡ length (nameBytes name) ⌝ }
+    ensures { λ r. ⌜ now (room .exit) ≡ nameBytes name ++ drop (length (nameBytes name)) (now (room .entry)) ⌝ }
+{
+    let count = name_length(name);
+    let mut rest = name;
+    let mut i = count;
+    while 0 < i {
+        i -= 1;
+        room[i] = (rest % 256) as u8;
+        rest = rest / 256;
+    }
+    count
+}
+
+// Writes the name of a root to the front of a room of at least 6 bytes, and answers how many bytes it has.
+pub fn root_name(m: &[u64], root: u64, room: &mut [u8]) -> Wording
+    ensures { λ r. ⌜ r ≡ rootName (now (m .entry)) root (now (room .entry)) ⌝ }
+    ensures { λ r. ⌜ now (room .exit) ≡ rootNameRoom (now (m .entry)) root (now (room .entry)) ⌝ }
+{
+    let refusal = calls::memory_refusal(m);
+    if refusal != 0 {
+        return Wording::Refused(refusal);
+    }
+    if m[3] <= root {
+        return Wording::Refused(13);
+    }
+    if room.len() < 6 {
+        return Wording::Refused(1);
+    }
+    let at = 10 + root as usize;
+    let bytes = put_name(m[at], room);
+    Wording::Written(bytes as u64)
+}
+
+// A rule by its numbers, where the first type of its kind, its window, its root and its unit are known.
+fn sized(first: u64, limit: Limit, window: u64, root: u64, unit: u64) -> Told
+    requires { ⌜ first ≤ 3 ⌝ }
+    ensures { λ r. ⌜ r ≡ Terms (first + measureNumber limit) (limitNumber limit) window root unit ⌝ }
+{
+    match limit {
+        Limit::Notional(dollars) => Told::Rule {
+            ruletype: first,
+            limit: dollars.0,
+            window,
+            root,
+            unit,
+        },
+        Limit::Volume(contracts) => Told::Rule {
+            ruletype: first + 1,
+            limit: contracts.0,
+            window,
+            root,
+            unit,
+        },
+        Limit::Count(executions) => Told::Rule {
+            ruletype: first + 2,
+            limit: executions.0,
+            window,
+            root,
+            unit,
+        },
+    }
+}
+
+// A rule by its numbers, where its root and its unit are known.
+fn told_of(kind: Kind, limit: Limit, root: u64, unit: u64) -> Told
+    ensures { λ r. ⌜ r ≡ Terms (typeNumber kind limit) (limitNumber limit) (windowNumber kind) root unit ⌝ }
+{
+    match kind {
+        Kind::Rate(window) => sized(0, limit, window, root, unit),
+        Kind::Absolute => sized(3, limit, 0, root, unit),
+    }
+}
+
+// A rule by its numbers: 64 stands for no root, and 4 for all units.
+fn terms(rule: Rule) -> Told
+    ensures { λ r. ⌜ r ≡ termsOf rule ⌝ }
+{
+    let scope = rule.scope;
+    let kind = rule.kind;
+    let limit = rule.limit;
+    match scope {
+        Scope::EveryFill => told_of(kind, limit, 64, 4),
+        Scope::WholeRoot(root) => told_of(kind, limit, root, 4),
+        Scope::OneUnit(root, unit) => told_of(kind, limit, root, unit),
+    }
+}
+
+// A rule by its number.
+pub fn rule(m: &[u64], rule: u64) -> Told
+    ensures { λ r. ⌜ r ≡ ruleTold (now (m .entry)) rule ⌝ }
+{
+    let refusal = calls::memory_refusal(m);
+    if refusal != 0 {
+        return Told::Refused(refusal);
+    }
+    if m[4] <= rule {
+        return Told::Refused(13);
+    }
+    let rules = &m[74..586];
+    let at = rule as usize * 2;
+    let first = rules[at];
+    let second = rules[at + 1];
+    terms(tables::rule_of(first, second))
+}
