@@ -54,6 +54,47 @@ static void cuts_and_locks(void) {
     EXPECT(is(mbrumzheg_try_lockout(memory, MBRUMZHEG_SIZE, 20, MBRUMZHEG_LEVEL_FIRM, 1), MBRUMZHEG_UNKNOWN, 0, 0, false, false));
 }
 
+static struct mbrumzheg_found root_named(const char *name) { return mbrumzheg_try_root_named(memory, MBRUMZHEG_SIZE, name, strlen(name)); }
+
+static bool rule_is(uint64_t rule, int type, uint64_t limit, uint64_t window, uint64_t root, uint64_t unit) {
+    const struct mbrumzheg_rule_terms terms = mbrumzheg_try_rule(memory, MBRUMZHEG_SIZE, rule);
+    return terms.refusal == MBRUMZHEG_ACCEPTED && (int)terms.type == type && terms.limit == limit && terms.window == window &&
+           terms.root == root && terms.unit == unit;
+}
+
+/* Names and rules, of a profile with a rule of each type; on memory that is not armed nothing is known. */
+static void profiles(void) {
+    uint8_t room[MBRUMZHEG_NAME_BYTES] = {9, 9, 9, 9, 9, 9};
+    uint64_t row[MBRUMZHEG_ROW];
+    struct mbrumzheg_name name;
+    EXPECT(root_named("XYZ").refusal == MBRUMZHEG_NOT_ARMED);
+    EXPECT(mbrumzheg_try_root_name(memory, MBRUMZHEG_SIZE, 0).refusal == MBRUMZHEG_NOT_ARMED);
+    EXPECT(mbrumzheg_try_rule(memory, MBRUMZHEG_SIZE - 1, 0).refusal == MBRUMZHEG_NO_ROOM);
+    EXPECT(arm("ABCD,rate_ntnl,Q,100000000000\nABCD,rate_vol,XYZ123,7,86400000,,P,T\nABCD,rate_count,,2,101,T\n"
+               "ABCD,abs_ntnl,Q,1,,,C,F\nABCD,abs_vol,XYZ123,1000000000,5\nABCD,abs_count,,3,,T").refusal == MBRUMZHEG_ACCEPTED);
+    EXPECT(root_named("Q").refusal == MBRUMZHEG_ACCEPTED && root_named("Q").root == 0 && root_named("XYZ123").root == 1);
+    EXPECT(root_named("XYZ").refusal == MBRUMZHEG_UNKNOWN && root_named("").refusal == MBRUMZHEG_UNKNOWN);
+    EXPECT(root_named("q").refusal == MBRUMZHEG_UNKNOWN && root_named("XYZ1234").refusal == MBRUMZHEG_UNKNOWN);
+    EXPECT(mbrumzheg_try_root_named(memory, MBRUMZHEG_SIZE, "\0Q", 2).refusal == MBRUMZHEG_UNKNOWN);
+    name = mbrumzheg_try_root_name(memory, MBRUMZHEG_SIZE, 1);
+    EXPECT(name.refusal == MBRUMZHEG_ACCEPTED && name.length == 6 && strcmp(name.text, "XYZ123") == 0);
+    name = mbrumzheg_try_root_name(memory, MBRUMZHEG_SIZE, 2);
+    EXPECT(name.refusal == MBRUMZHEG_UNKNOWN && name.length == 0 && name.text[0] == 0);
+    mbrumzheg_root_name(memory, MBRUMZHEG_SIZE, 0, room, 5, row);
+    EXPECT(row[MBRUMZHEG_ROW_REFUSAL] == MBRUMZHEG_NO_ROOM && room[0] == 9);
+    mbrumzheg_root_name(memory, MBRUMZHEG_SIZE, 2, room, 5, row);
+    EXPECT(row[MBRUMZHEG_ROW_REFUSAL] == MBRUMZHEG_UNKNOWN);
+    mbrumzheg_root_name(memory, MBRUMZHEG_SIZE, 0, room, 6, row);
+    EXPECT(row[MBRUMZHEG_ROW_REFUSAL] == 0 && row[MBRUMZHEG_ROW_BYTES] == 1 && room[0] == 'Q' && room[1] == 9);
+    EXPECT(rule_is(0, MBRUMZHEG_RATE_NTNL, 100000000000, 100, 0, MBRUMZHEG_ALL_UNITS));
+    EXPECT(rule_is(1, MBRUMZHEG_RATE_VOL, 7, 86400000, 1, MBRUMZHEG_PUTS_TRAILING));
+    EXPECT(rule_is(2, MBRUMZHEG_RATE_COUNT, 2, 101, MBRUMZHEG_NO_ROOT, MBRUMZHEG_ALL_UNITS));
+    EXPECT(rule_is(3, MBRUMZHEG_ABS_NTNL, 1, 0, 0, MBRUMZHEG_CALLS_FRONT));
+    EXPECT(rule_is(4, MBRUMZHEG_ABS_VOL, 1000000000, 0, 1, MBRUMZHEG_ALL_UNITS));
+    EXPECT(rule_is(5, MBRUMZHEG_ABS_COUNT, 3, 0, MBRUMZHEG_NO_ROOT, MBRUMZHEG_ALL_UNITS));
+    EXPECT(mbrumzheg_try_rule(memory, MBRUMZHEG_SIZE, 6).refusal == MBRUMZHEG_UNKNOWN);
+}
+
 static void words(void) {
     struct mbrumzheg_wording wording = mbrumzheg_try_text(MBRUMZHEG_ROOT_LOCKED);
     EXPECT(wording.refusal == MBRUMZHEG_ACCEPTED && wording.length == 19 && strcmp(wording.text, "s: RiskMgmtSymLevel") == 0);
@@ -112,5 +153,6 @@ int main(void) {
     rows();
     EXPECT(mbrumzheg_try_clear(memory, MBRUMZHEG_SIZE - 1) == MBRUMZHEG_NO_ROOM && memory[0] == 1);
     EXPECT(mbrumzheg_try_clear(memory, MBRUMZHEG_SIZE) == MBRUMZHEG_ACCEPTED && memory[0] == 0);
+    profiles();
     return 0;
 }

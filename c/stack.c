@@ -14,9 +14,9 @@
 
 #define ROOM (1u << 17)
 
-enum call { EMPTY, ARM, CLEAR, ORDER, LOCKOUT, OFFER, REMAINING, STATUS, TEXT, READ_RECORD, WRITE_RECORD, CALLS };
-static const char *const names[CALLS] = {"empty", "arm", "clear", "order", "lockout", "offer", "remaining", "status", "text",
-                                         "read_record", "write_record"};
+enum call { EMPTY, ARM, CLEAR, ORDER, LOCKOUT, OFFER, REMAINING, STATUS, ROOT_NAMED, ROOT_NAME, RULE, TEXT, READ_RECORD, WRITE_RECORD, CALLS };
+static const char *const names[CALLS] = {"empty", "arm", "clear", "order", "lockout", "offer", "remaining", "status", "root_named",
+                                         "root_name", "rule", "text", "read_record", "write_record"};
 
 /* The call that is measured, with what it is given. */
 static enum call what;
@@ -41,6 +41,9 @@ static void run(void) {
     case OFFER: mbrumzheg_offer(memory, memory_len, n[0], n[1], n[2], n[3], n[4], row); break;
     case REMAINING: mbrumzheg_remaining(memory, memory_len, n[0], n[1], row); break;
     case STATUS: mbrumzheg_status(memory, memory_len, row); break;
+    case ROOT_NAMED: mbrumzheg_root_named(memory, memory_len, (const uint8_t *)"ROOT63", n[0], row); break;
+    case ROOT_NAME: mbrumzheg_root_name(memory, memory_len, n[0], room, sizeof room, row); break;
+    case RULE: mbrumzheg_rule(memory, memory_len, n[0], row); break;
     case TEXT: mbrumzheg_text(n[0], room, sizeof room, row); break;
     case READ_RECORD: mbrumzheg_read_record(room, MBRUMZHEG_RECORD_BYTES, row); break;
     case WRITE_RECORD: mbrumzheg_write_record(n[0], n[1], n[2], n[3], n[4], n[5], n[6], n[7], room, sizeof room, row); break;
@@ -94,6 +97,9 @@ static void try_calls(uint64_t *state, uint64_t time) {
             try_numbers(ORDER, state, time, root, n, 0, 0);
             try_numbers(REMAINING, state, time, root * 4 + n, 0, 0, 0);
             try_numbers(STATUS, state, 0, 0, 0, 0, 0);
+            try_numbers(ROOT_NAMED, state, n + 2, 0, 0, 0, 0);
+            try_numbers(ROOT_NAME, state, root, 0, 0, 0, 0);
+            try_numbers(RULE, state, root * 4 + n, 0, 0, 0, 0);
         }
     }
     try_numbers(OFFER, state, time, 0, 0, 0, 1);

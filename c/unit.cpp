@@ -46,6 +46,20 @@ static void cuts_and_locks() {
     EXPECT(*unit->order({Time{40}, Root{0}, Reset::Both}) == Verdict::Free && unit->status()->lowest_locked == MBRUMZHEG_NO_ROOT);
 }
 
+static void names_and_rules_are_known() {
+    const auto unit = arm("ABCD,rate_ntnl,Q,1000,0,,P,T\nABCD,abs_count,XYZ123,7\nABCD,abs_vol,,5,,T");
+    EXPECT(unit->root_named("XYZ123")->number == 1 && unit->root_name(Root{1})->view() == "XYZ123" && unit->root_name(Root{0})->view() == "Q");
+    EXPECT(unit->root_named("XYZ").refusal() == Refusal::Unknown && unit->root_named({}).refusal() == Refusal::Unknown);
+    EXPECT(unit->root_name(Root{2}).refusal() == Refusal::Unknown && unit->rule(3).refusal() == Refusal::Unknown);
+    const auto rate = unit->rule(0);
+    EXPECT(rate->type == RuleType::RateNtnl && rate->limit == 1000 && rate->window == 100 && rate->root->number == 0);
+    EXPECT(rate->unit == UnitOfRoot::PutsTrailing);
+    const auto whole = unit->rule(1);
+    EXPECT(whole->type == RuleType::AbsCount && whole->limit == 7 && !whole->window && whole->root->number == 1 && !whole->unit);
+    const auto firm = unit->rule(2);
+    EXPECT(firm->type == RuleType::AbsVol && firm->limit == 5 && !firm->window && !firm->root && !firm->unit);
+}
+
 static void refusals_say_why() {
     const auto refused = arm("ABCD,abs_vol,XYZ,1000\nABCD,abs_vol,XYZ,0\n");
     EXPECT(!refused.accepted() && refused.refusal() == Refusal::OutOfRange && refused.line() == 2);
@@ -95,6 +109,7 @@ static void events_have_records() {
 
 int main() {
     cuts_and_locks();
+    names_and_rules_are_known();
     refusals_say_why();
     a_unit_moves();
     a_unit_stands_on_lent_memory();

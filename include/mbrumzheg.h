@@ -12,7 +12,7 @@
  *  - The length is not more than what is there. No check can see these three.
  *
  * Threads. Calls on different memory may run at the same time. On the same memory one call runs at a time, but for calls that take it as
- * const (Remaining, Status), which may run beside each other.
+ * const (Remaining, Status, and those that read the profile), which may run beside each other.
  *
  * Answers. A call writes a row of numbers, the refusal first, 0 for none; MBRUMZHEG_ROW_.. names the places. A refused call has zeros after
  * its refusal (but for Arm's line) and changes nothing that was lent but the row. The mbrumzheg_try_.. functions below answer a struct
@@ -46,10 +46,11 @@ extern "C" {
 #define MBRUMZHEG_VERSION_MINOR 2
 #define MBRUMZHEG_VERSION_PATCH 0
 
-/* How many 64-bit numbers the state takes, how many bytes a record has, and the room for a text that is asked for. */
+/* How many 64-bit numbers the state takes, how many bytes a record has, and the room for a text and for a root's name that is asked for. */
 #define MBRUMZHEG_SIZE 1866
 #define MBRUMZHEG_RECORD_BYTES 12
 #define MBRUMZHEG_TEXT_BYTES 20
+#define MBRUMZHEG_NAME_BYTES 6
 
 /* How many bytes of stack Arm takes at most, and how many every other call, by measurement on x86-64 and aarch64. */
 #define MBRUMZHEG_STACK_BYTES 16384
@@ -79,7 +80,7 @@ enum mbrumzheg_refusal {
     MBRUMZHEG_UNIT_CLASH = 10,    /* call/put and month do not go together, or stand in a firm rule */
     MBRUMZHEG_TOO_MANY = 11,      /* one rule or root too many */
     MBRUMZHEG_BAD_TIME = 12,      /* a time out of range, or below the clock */
-    MBRUMZHEG_UNKNOWN = 13,       /* a root, unit, rule, level, reset or verdict number */
+    MBRUMZHEG_UNKNOWN = 13,       /* a root, unit, rule, level, reset or verdict number, or a root's name */
     MBRUMZHEG_BAD_AMOUNT = 14,    /* a premium or contracts out of range */
     MBRUMZHEG_LOG_FULL = 15,      /* 512 entries stand inside the longest window */
     MBRUMZHEG_FAULTY_RECORD = 16  /* no record of a valid event, or no valid event */
@@ -105,13 +106,24 @@ enum mbrumzheg_unit {
 /* The kinds of event records. */
 enum mbrumzheg_kind { MBRUMZHEG_KIND_ORDER = 0, MBRUMZHEG_KIND_OFFER = 1, MBRUMZHEG_KIND_LOCKOUT = 2 };
 
-/* Status' lowest locked root where none is locked. */
-enum { MBRUMZHEG_NO_ROOT = 64 };
+/* The types of rules, by what they count: premium times contracts, contracts or executions, in a window of time or over the day. */
+enum mbrumzheg_rule_type {
+    MBRUMZHEG_RATE_NTNL = 0,
+    MBRUMZHEG_RATE_VOL = 1,
+    MBRUMZHEG_RATE_COUNT = 2,
+    MBRUMZHEG_ABS_NTNL = 3,
+    MBRUMZHEG_ABS_VOL = 4,
+    MBRUMZHEG_ABS_COUNT = 5
+};
 
-/* How long a row is, and that of a record that was read. */
-enum { MBRUMZHEG_ROW = 5, MBRUMZHEG_EVENT_ROW = 9 };
+/* Status' lowest locked root where none is locked, and a firm rule's root; the unit of a rule that covers all four. */
+enum { MBRUMZHEG_NO_ROOT = 64, MBRUMZHEG_ALL_UNITS = 4 };
 
-/* The places in a row: of every call, of Arm, of Order, Lockout and Offer, of Remaining, of Status, of Text, of a record that was read. */
+/* How long a row is, that of a rule, and that of a record that was read. */
+enum { MBRUMZHEG_ROW = 5, MBRUMZHEG_RULE_ROW = 6, MBRUMZHEG_EVENT_ROW = 9 };
+
+/* The places in a row: of every call, of Arm, of Order, Lockout and Offer, of Remaining, of Status, of Text and a root's name, of a root by its
+ * name, of a rule, of a record that was read. */
 enum mbrumzheg_place {
     MBRUMZHEG_ROW_REFUSAL = 0,
 
@@ -133,6 +145,14 @@ enum mbrumzheg_place {
     MBRUMZHEG_ROW_LOWEST_LOCKED = 4,
 
     MBRUMZHEG_ROW_BYTES = 1,
+
+    MBRUMZHEG_ROW_ROOT_NAMED = 1,
+
+    MBRUMZHEG_ROW_RULE_TYPE = 1,
+    MBRUMZHEG_ROW_RULE_LIMIT = 2,
+    MBRUMZHEG_ROW_RULE_WINDOW = 3,
+    MBRUMZHEG_ROW_RULE_ROOT = 4,
+    MBRUMZHEG_ROW_RULE_UNIT = 5,
 
     MBRUMZHEG_ROW_KIND = 1,
     MBRUMZHEG_ROW_TIME = 2,
@@ -185,6 +205,19 @@ MBRUMZHEG_NOT_NULL void mbrumzheg_remaining(const uint64_t *memory, size_t memor
 
 /* How the roots stand. Row: refusal, how many are tripped, locked by the user, locked at all, and the lowest locked root, 64 if none. */
 MBRUMZHEG_NOT_NULL void mbrumzheg_status(const uint64_t *memory, size_t memory_len, uint64_t row[MBRUMZHEG_AT_LEAST(5)]);
+
+/* The number of the root that has a name, given as its bytes with no terminating 0; bytes that no root has are unknown [13], whatever they are.
+ * Row: refusal, the root. */
+MBRUMZHEG_NOT_NULL void mbrumzheg_root_named(const uint64_t *memory, size_t memory_len, const uint8_t *name, size_t name_len,
+                                             uint64_t row[MBRUMZHEG_AT_LEAST(5)]);
+
+/* Writes the name of a root to the front of a room of at least 6 bytes, with no terminating 0. Row: refusal, how many bytes were written: 1 to 6. */
+MBRUMZHEG_NOT_NULL void mbrumzheg_root_name(const uint64_t *memory, size_t memory_len, uint64_t root, uint8_t *room, size_t room_len,
+                                            uint64_t row[MBRUMZHEG_AT_LEAST(5)]);
+
+/* A rule by its number. Row, of SIX numbers: refusal; type, enum mbrumzheg_rule_type; limit as the profile has it, in whole dollars, contracts or
+ * executions; window in milliseconds, 0 for an absolute rule; root, 64 for a firm rule; unit, 4 for all four. */
+MBRUMZHEG_NOT_NULL void mbrumzheg_rule(const uint64_t *memory, size_t memory_len, uint64_t rule, uint64_t row[MBRUMZHEG_AT_LEAST(6)]);
 
 /* Writes the text of a rejection, for verdict 1 or 2, to the front of a room of at least 20 bytes, with no terminating 0.
  * Row: refusal, how many bytes were written: 20 or 19. */

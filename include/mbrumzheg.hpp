@@ -8,6 +8,7 @@
 
 #include <cstddef>
 #include <cstdint>
+#include <optional>
 #include <string_view>
 #include <utility>
 #include <variant>
@@ -27,6 +28,16 @@ private:
     mbrumzheg_wording wording_;
 };
 
+// The name of a root: 1 to 6 capitals or digits.
+class Name {
+public:
+    explicit Name(const mbrumzheg_name& name) noexcept : name_(name) {}
+    std::string_view view() const noexcept { return {name_.text, name_.length}; }
+
+private:
+    mbrumzheg_name name_;
+};
+
 namespace detail {
 
 template <class T>
@@ -40,6 +51,15 @@ inline Result<Answer> answer(const mbrumzheg_judged& judged) {
 inline Result<Verdict> verdict(const mbrumzheg_judged& judged) {
     if (judged.refusal != MBRUMZHEG_ACCEPTED) return refused<Verdict>(judged.refusal);
     return static_cast<Verdict>(judged.verdict);
+}
+
+// A rule by its numbers, where 0 is no window, 64 no root and 4 no unit.
+inline Rule rule(const mbrumzheg_rule_terms& terms) noexcept {
+    Rule rule{static_cast<RuleType>(terms.type), terms.limit, std::nullopt, std::nullopt, std::nullopt};
+    if (terms.window != 0) rule.window = terms.window;
+    if (terms.root != MBRUMZHEG_NO_ROOT) rule.root = Root{terms.root};
+    if (terms.unit != MBRUMZHEG_ALL_UNITS) rule.unit = static_cast<UnitOfRoot>(terms.unit);
+    return rule;
 }
 
 // An event's numbers, as a record has them.
@@ -141,6 +161,25 @@ public:
         const auto s = mbrumzheg_try_status(numbers(), size());
         if (s.refusal != MBRUMZHEG_ACCEPTED) return detail::refused<Status>(s.refusal);
         return Status{s.tripped, s.locked_by_user, s.locked, s.lowest_locked};
+    }
+
+    // The root that has a name; Unknown for one that the profile does not have.
+    Result<Root> root_named(std::string_view name) const {
+        const auto found = mbrumzheg_try_root_named(numbers(), size(), name.data() == nullptr ? "" : name.data(), name.size());
+        if (found.refusal != MBRUMZHEG_ACCEPTED) return detail::refused<Root>(found.refusal);
+        return Root{found.root};
+    }
+    // The name of a root.
+    Result<Name> root_name(Root root) const {
+        const auto name = mbrumzheg_try_root_name(numbers(), size(), root.number);
+        if (name.refusal != MBRUMZHEG_ACCEPTED) return detail::refused<Name>(name.refusal);
+        return Name(name);
+    }
+    // A rule, numbered from 0 by line.
+    Result<Rule> rule(std::uint64_t number) const {
+        const auto terms = mbrumzheg_try_rule(numbers(), size(), number);
+        if (terms.refusal != MBRUMZHEG_ACCEPTED) return detail::refused<Rule>(terms.refusal);
+        return detail::rule(terms);
     }
 
     // The numbers that the state is kept in, to be saved and adopted again.

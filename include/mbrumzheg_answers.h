@@ -45,6 +45,30 @@ struct mbrumzheg_standing {
     uint64_t lowest_locked;
 };
 
+/* The root that has a name. */
+struct mbrumzheg_found {
+    enum mbrumzheg_refusal refusal;
+    uint64_t root;
+};
+
+/* A root's name, here with a terminating 0, and its length without it. */
+struct mbrumzheg_name {
+    enum mbrumzheg_refusal refusal;
+    size_t length;
+    char text[MBRUMZHEG_NAME_BYTES + 1];
+};
+
+/* A rule: its limit as the profile has it, in whole dollars, contracts or executions; its window in milliseconds, 0 for an absolute rule; its root,
+ * MBRUMZHEG_NO_ROOT for a firm rule; its unit, MBRUMZHEG_ALL_UNITS for all four. */
+struct mbrumzheg_rule_terms {
+    enum mbrumzheg_refusal refusal;
+    enum mbrumzheg_rule_type type;
+    uint64_t limit;
+    uint64_t window;
+    uint64_t root;
+    uint64_t unit;
+};
+
 /* The text of a rejection, here with a terminating 0, and its length without it. */
 struct mbrumzheg_wording {
     enum mbrumzheg_refusal refusal;
@@ -174,6 +198,44 @@ static inline struct mbrumzheg_standing mbrumzheg_try_status(const uint64_t *mem
     standing.locked = row[MBRUMZHEG_ROW_LOCKED];
     standing.lowest_locked = row[MBRUMZHEG_ROW_LOWEST_LOCKED];
     return standing;
+}
+
+/* mbrumzheg_root_named; the name may be any bytes, as those of a string */
+static inline struct mbrumzheg_found mbrumzheg_try_root_named(const uint64_t *memory, size_t memory_len, const void *name, size_t name_len) {
+    uint64_t row[MBRUMZHEG_ROW];
+    struct mbrumzheg_found found;
+    mbrumzheg_root_named(memory, memory_len, MBRUMZHEG_AS(const uint8_t *, name), name_len, row);
+    found.refusal = mbrumzheg_refusal_in(row);
+    found.root = row[MBRUMZHEG_ROW_ROOT_NAMED];
+    return found;
+}
+
+/* mbrumzheg_root_name, into the answer itself */
+static inline struct mbrumzheg_name mbrumzheg_try_root_name(const uint64_t *memory, size_t memory_len, uint64_t root) {
+    uint8_t room[MBRUMZHEG_NAME_BYTES] = {0};
+    uint64_t row[MBRUMZHEG_ROW];
+    struct mbrumzheg_name name;
+    size_t i;
+    mbrumzheg_root_name(memory, memory_len, root, room, sizeof room, row);
+    name.refusal = mbrumzheg_refusal_in(row);
+    name.length = MBRUMZHEG_AS(size_t, row[MBRUMZHEG_ROW_BYTES]);
+    for (i = 0; i < MBRUMZHEG_NAME_BYTES; i++) name.text[i] = MBRUMZHEG_AS(char, room[i]);
+    name.text[MBRUMZHEG_NAME_BYTES] = 0;
+    return name;
+}
+
+/* mbrumzheg_rule */
+static inline struct mbrumzheg_rule_terms mbrumzheg_try_rule(const uint64_t *memory, size_t memory_len, uint64_t rule) {
+    uint64_t row[MBRUMZHEG_RULE_ROW];
+    struct mbrumzheg_rule_terms terms;
+    mbrumzheg_rule(memory, memory_len, rule, row);
+    terms.refusal = mbrumzheg_refusal_in(row);
+    terms.type = MBRUMZHEG_AS(enum mbrumzheg_rule_type, row[MBRUMZHEG_ROW_RULE_TYPE]);
+    terms.limit = row[MBRUMZHEG_ROW_RULE_LIMIT];
+    terms.window = row[MBRUMZHEG_ROW_RULE_WINDOW];
+    terms.root = row[MBRUMZHEG_ROW_RULE_ROOT];
+    terms.unit = row[MBRUMZHEG_ROW_RULE_UNIT];
+    return terms;
 }
 
 /* mbrumzheg_text, into the answer itself */

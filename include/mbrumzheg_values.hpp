@@ -5,6 +5,7 @@
 #include <array>
 #include <cstdint>
 #include <exception>
+#include <optional>
 #include <utility>
 #include <variant>
 
@@ -70,6 +71,26 @@ struct Answer { Verdict verdict; std::uint64_t grant; bool root_trip; bool firm_
 
 // How many roots are tripped, locked by the user, locked at all; the lowest locked one, MBRUMZHEG_NO_ROOT if none.
 struct Status { std::uint64_t tripped; std::uint64_t locked_by_user; std::uint64_t locked; std::uint64_t lowest_locked; };
+
+// The types of rules, by the numbers of enum mbrumzheg_rule_type.
+enum class RuleType : std::uint64_t {
+    RateNtnl = MBRUMZHEG_RATE_NTNL,
+    RateVol = MBRUMZHEG_RATE_VOL,
+    RateCount = MBRUMZHEG_RATE_COUNT,
+    AbsNtnl = MBRUMZHEG_ABS_NTNL,
+    AbsVol = MBRUMZHEG_ABS_VOL,
+    AbsCount = MBRUMZHEG_ABS_COUNT,
+};
+
+// A rule of the profile: its limit in whole dollars, contracts or executions; its window in milliseconds, none for an absolute rule; its root, none
+// for a firm rule; its unit, none where it covers all four.
+struct Rule {
+    RuleType type;
+    std::uint64_t limit;
+    std::optional<std::uint64_t> window;
+    std::optional<Root> root;
+    std::optional<UnitOfRoot> unit;
+};
 
 using Record = std::array<std::uint8_t, MBRUMZHEG_RECORD_BYTES>;
 

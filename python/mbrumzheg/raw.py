@@ -1,4 +1,4 @@
-"""The calls as the library exports them: numbers and bytes in, a row of five numbers out, the refusal first.
+"""The calls as the library exports them: numbers and bytes in, a row of numbers out, the refusal first.
 
 Nothing here can go wrong in memory: the library checks every number and the whole state itself. The class Unit is the better way in; these functions are for
 whoever has numbers, as a comparison with another program does.
@@ -23,14 +23,19 @@ RECORD_SIZE = 12
 """How many bytes a record has."""
 TEXT_SIZE = 20
 """How many bytes of room Text asks for."""
+NAME_SIZE = 6
+"""How many bytes of room a root's name asks for."""
 
 Row = Tuple[int, int, int, int, int]
 """An answer: five numbers, the refusal first (0 if the call was not refused)."""
+RuleRow = Tuple[int, int, int, int, int, int]
+"""A rule: refusal, type, limit, window, root, unit."""
 EventNumbers = Tuple[int, int, int, int, int, int, int, int]
 """An event's numbers: kind, time, root, unit, premium, contracts, reset, level. One that its kind does not use is 0."""
 
 _library = load()
 _Row = ctypes.c_uint64 * 5
+_RuleRow = ctypes.c_uint64 * 6
 _EventRow = ctypes.c_uint64 * 9
 
 
@@ -104,6 +109,29 @@ def status(lent: Memory) -> Row:
     row = _Row()
     _library.mbrumzheg_status(lent, len(lent), row)
     return _numbers(row)
+
+
+def root_named(lent: Memory, name: bytes) -> Row:
+    """The number of the root that has a name: refusal, the root."""
+    row = _Row()
+    _library.mbrumzheg_root_named(lent, len(lent), name, len(name), row)
+    return _numbers(row)
+
+
+def root_name(lent: Memory, root: int, into: Room) -> Row:
+    """Writes the name of a root to the front of a room of at least 6 bytes: refusal, how many bytes."""
+    row = _Row()
+    _library.mbrumzheg_root_name(lent, len(lent), _u64(root), into, len(into), row)
+    return _numbers(row)
+
+
+def rule(lent: Memory, number: int) -> RuleRow:
+    """A rule by its number: refusal; type (0 rate_ntnl, 1 rate_vol, 2 rate_count, 3 abs_ntnl, 4 abs_vol, 5 abs_count); limit in whole dollars,
+    contracts or executions; window (0 for an absolute rule); root (64 for a firm rule); unit (4 for all four)."""
+    row = _RuleRow()
+    _library.mbrumzheg_rule(lent, len(lent), _u64(number), row)
+    refusal, rule_type, limit, window, root, unit = row
+    return refusal, rule_type, limit, window, root, unit
 
 
 def text(verdict: int, into: Room) -> Row:

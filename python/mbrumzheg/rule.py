@@ -1,4 +1,4 @@
-"""The rules of an armed unit, as they stand in its memory by the map in docs/MEMORY.md."""
+"""The rules of an armed unit, as the library tells them by their numbers."""
 
 from __future__ import annotations
 
@@ -7,11 +7,12 @@ from enum import IntEnum
 from typing import Optional
 
 from .event import Offer
+from .raw import RuleRow
 from .values import Root, UnitOfRoot
 
-# where the rules stand, two numbers each; limits of notional stand in whole dollars
-RULES = 74
+# limits of notional are told in whole dollars; a firm rule has no root, and one that covers all four units no unit
 _DOLLAR = 10_000
+_NO_ROOT, _ALL_UNITS = 64, 4
 
 
 class Measure(IntEnum):
@@ -50,17 +51,9 @@ class Rule:
         return ("abs_" if self.window is None else "rate_") + ("ntnl", "vol", "count")[self.measure]
 
 
-def _field(number: int, end: int, width: int) -> int:
-    """The field of so many bits that ends so many bits above the last."""
-    return number >> end & ((1 << width) - 1)
-
-
-def rule_of(number: int, first: int, second: int) -> Rule:
-    """The rule that two numbers of a sound state hold."""
-    measure = Measure(_field(second, 11, 2))
-    limit = _field(first, 27, 37) * (_DOLLAR if measure is Measure.NOTIONAL else 1)
-    window = None if _field(second, 10, 1) else _field(first, 0, 27)
-    width = _field(second, 8, 2)
-    root = Root(_field(second, 2, 6)) if width > 0 else None
-    unit = UnitOfRoot(_field(second, 0, 2)) if width > 1 else None
-    return Rule(number, measure, limit, window, Scope(root, unit))
+def rule_of(number: int, row: RuleRow) -> Rule:
+    """The rule of a row that was not refused."""
+    _, rule_type, limit, window, root, unit = row
+    measure = Measure(rule_type % 3)
+    scope = Scope(None if root == _NO_ROOT else Root(root), None if unit == _ALL_UNITS else UnitOfRoot(unit))
+    return Rule(number, measure, limit * (_DOLLAR if measure is Measure.NOTIONAL else 1), window if rule_type < 3 else None, scope)

@@ -1,13 +1,14 @@
-"""What may be read from an armed unit's memory beside the calls: clock, names, marks and rules. The map is in docs/MEMORY.md;
-the reading is tested against the second program, not proved."""
+"""What may be asked of an armed unit beside its events: clock, names, marks and rules. The library answers for roots' names and rules; the rest is
+read from the memory by the map in docs/MEMORY.md, which is tested against the second program, not proved."""
 
 from __future__ import annotations
 
 from dataclasses import dataclass
 from typing import TYPE_CHECKING, Optional
 
+from . import raw
 from .refusal import Refusal, Refused
-from .rule import RULES, Rule, rule_of
+from .rule import Rule, rule_of
 from .values import Root, Time
 
 if TYPE_CHECKING:
@@ -15,7 +16,7 @@ if TYPE_CHECKING:
 
 # where the map has what this file reads
 _MARK, _CLOCK, _FIRM, _ROOTS, _RULES = range(5)
-_FIRM_TRIPPED, _FIRM_LOCKED, _ROOTS_TRIPPED, _ROOTS_LOCKED, _ROOT_NAMES = range(6, 11)
+_FIRM_TRIPPED, _FIRM_LOCKED, _ROOTS_TRIPPED, _ROOTS_LOCKED = range(6, 10)
 
 
 @dataclass(frozen=True)
@@ -73,15 +74,35 @@ class View:
 
     def rules(self) -> list[Rule]:
         """The rules of the profile, by number."""
-        return [rule_of(number, self._at(RULES + 2 * number), self._at(RULES + 2 * number + 1)) for number in range(self.rule_count)]
+        return [self.rule(number) for number in range(self.rule_count)]
+
+    def rule(self, number: int) -> Rule:
+        """A rule by its number; one that the profile does not have raises Refused with UNKNOWN."""
+        row = raw.rule(self._memory, number)
+        if row[0]:
+            raise Refused(Refusal(row[0]))
+        return rule_of(number, row)
 
     def roots(self) -> list[tuple[Root, str]]:
         """The roots with their names, by number."""
-        return [(Root(number), _name(self._at(_ROOT_NAMES + number))) for number in range(self.root_count)]
+        return [(Root(number), self.root_name(Root(number))) for number in range(self.root_count)]
+
+    def root_name(self, root: Root) -> str:
+        """The name of a root; one that the profile does not have raises Refused with UNKNOWN."""
+        room = raw.room(raw.NAME_SIZE)
+        refusal, length = raw.root_name(self._memory, root, room)[:2]
+        if refusal:
+            raise Refused(Refusal(refusal))
+        return bytes(room[:length]).decode("ascii")
 
     def root_named(self, name: str) -> Optional[Root]:
         """The root of a name; none if the profile does not have it."""
-        return next((root for root, known in self.roots() if known == name), None)
+        refusal, root = raw.root_named(self._memory, name.encode())[:2]
+        if refusal == Refusal.UNKNOWN:
+            return None
+        if refusal:
+            raise Refused(Refusal(refusal))
+        return Root(root)
 
     @property
     def firm_marks(self) -> Marks:

@@ -104,6 +104,7 @@ class Pair:
         names = [name for _, name in self.unit.roots()]
         lines = text.decode("latin-1").rstrip("\n").split("\n")
         self.test.assertEqual([fields(rule, names) for rule in self.unit.rules()], list(map(written, lines)))
+        self.test.assertEqual([self.unit.root_named(name) for name in names], list(range(len(names))))
         return [0, 0, int.from_bytes(self.unit.firm.encode(), "big"), self.unit.rule_count, self.unit.root_count]
 
     def status(self) -> list[int]:

@@ -84,7 +84,12 @@ class Units(unittest.TestCase):
     def test_status_and_marks_agree(self) -> None:
         unit = Unit().arm("ABCD,abs_vol,XYZ,1000\nABCD,abs_vol,QQQ,1000\nABCD,abs_vol,SPY,1")
         self.assertEqual(unit.roots(), [(0, "XYZ"), (1, "QQQ"), (2, "SPY")])
-        self.assertEqual((unit.root_named("SPY"), unit.root_named("IBM")), (2, None))
+        self.assertEqual((unit.root_named("SPY"), unit.root_named("IBM"), unit.root_named(""), unit.root_named("é")), (2, None, None, None))
+        self.assertEqual((unit.root_name(Root(1)), unit.rule(2).type_name, unit.rule(2).limit), ("QQQ", "abs_vol", 1))
+        self.refused(Refusal.UNKNOWN, unit.root_name, Root(3))
+        self.refused(Refusal.UNKNOWN, unit.rule, 3)
+        self.refused(Refusal.NOT_ARMED, Unit().root_named, "SPY")
+        self.refused(Refusal.NOT_ARMED, Unit().rule, 0)
         self.assertEqual(unit.status(), Status(0, 0, 0, None))
         self.assertTrue(unit.offer(offer(5, 1_001)).cuts(Contracts(1_001)))
         unit.lockout(Time(6), Level(Root(0)))

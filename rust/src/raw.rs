@@ -1,4 +1,4 @@
-//! The calls as the library exports them: numbers and slices in, a row of five numbers out, the refusal first.
+//! The calls as the library exports them: numbers and slices in, a row of numbers out, the refusal first.
 //!
 //! Nothing here is unsafe to call: the library checks every number and the whole memory itself. The types of the rest of this
 //! crate are the better way in; these functions are for whoever has numbers, as a comparison with another program does.
@@ -9,11 +9,14 @@ pub const SIZE: usize = 1866;
 /// An answer: five numbers, the refusal first (0 if the call was not refused).
 pub type Row = [u64; 5];
 
+/// A rule: refusal, type, limit, window, root, unit.
+pub type RuleRow = [u64; 6];
+
 /// An event's numbers: kind, time, root, unit, premium, contracts, reset, level. One that its kind does not use is 0.
 pub type EventNumbers = [u64; 8];
 
 mod exported {
-    use super::Row;
+    use super::{Row, RuleRow};
     /// What reading a record answers: the refusal, then the event's numbers.
     pub type Reading = [u64; 9];
     extern "C" {
@@ -24,6 +27,9 @@ mod exported {
         pub fn mbrumzheg_offer(m: *mut u64, len: usize, time: u64, root: u64, unit: u64, premium: u64, contracts: u64, row: *mut Row);
         pub fn mbrumzheg_remaining(m: *const u64, len: usize, time: u64, rule: u64, row: *mut Row);
         pub fn mbrumzheg_status(m: *const u64, len: usize, row: *mut Row);
+        pub fn mbrumzheg_root_named(m: *const u64, len: usize, name: *const u8, name_len: usize, row: *mut Row);
+        pub fn mbrumzheg_root_name(m: *const u64, len: usize, root: u64, room: *mut u8, room_len: usize, row: *mut Row);
+        pub fn mbrumzheg_rule(m: *const u64, len: usize, rule: u64, row: *mut RuleRow);
         pub fn mbrumzheg_text(verdict: u64, room: *mut u8, len: usize, row: *mut Row);
         pub fn mbrumzheg_read_record(bytes: *const u8, len: usize, row: *mut Reading);
         pub fn mbrumzheg_write_record(
@@ -43,7 +49,7 @@ mod exported {
 }
 
 // SAFETY, of every call below: a slice's pointer and length are lent for the call alone, the library keeps neither, and the
-// row that it writes is five numbers.
+// row that it writes has as many numbers as its type.
 
 /// Arms memory from a profile: refusal, line, firm's name as a number, rules, roots.
 #[inline]
@@ -99,6 +105,31 @@ pub fn remaining(memory: &[u64], time: u64, rule: u64) -> Row {
 pub fn status(memory: &[u64]) -> Row {
     let mut row = [0; 5];
     unsafe { exported::mbrumzheg_status(memory.as_ptr(), memory.len(), &mut row) };
+    row
+}
+
+/// The number of the root that has a name: refusal, the root.
+#[inline]
+pub fn root_named(memory: &[u64], name: &[u8]) -> Row {
+    let mut row = [0; 5];
+    unsafe { exported::mbrumzheg_root_named(memory.as_ptr(), memory.len(), name.as_ptr(), name.len(), &mut row) };
+    row
+}
+
+/// Writes the name of a root to the front of a room of at least 6 bytes: refusal, how many bytes.
+#[inline]
+pub fn root_name(memory: &[u64], root: u64, room: &mut [u8]) -> Row {
+    let mut row = [0; 5];
+    unsafe { exported::mbrumzheg_root_name(memory.as_ptr(), memory.len(), root, room.as_mut_ptr(), room.len(), &mut row) };
+    row
+}
+
+/// A rule by its number: refusal, type (0 `rate_ntnl`, 1 `rate_vol`, 2 `rate_count`, 3 `abs_ntnl`, 4 `abs_vol`, 5 `abs_count`), limit (whole
+/// dollars, contracts or executions), window (0 for an absolute rule), root (64 for a firm rule), unit (4 for all four).
+#[inline]
+pub fn rule(memory: &[u64], rule: u64) -> RuleRow {
+    let mut row = [0; 6];
+    unsafe { exported::mbrumzheg_rule(memory.as_ptr(), memory.len(), rule, &mut row) };
     row
 }
 

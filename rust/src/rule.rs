@@ -1,7 +1,8 @@
-//! The rules of an armed unit, read from its memory by the map in `docs/MEMORY.md`. The reading is tested against the second program, not proved.
+//! The rules of an armed unit, as the library tells them by their numbers.
 
 use crate::event::Offer;
 use crate::memory::Memory;
+use crate::raw::{self, RuleRow};
 use crate::unit::{Armed, Unit};
 use crate::values::{Root, UnitOfRoot};
 
@@ -42,15 +43,8 @@ pub struct Rule {
     pub scope: Scope,
 }
 
-/// Where the rules stand, two numbers each.
-const RULES: usize = 74;
-/// Limits of notional stand in whole dollars.
+/// Limits of notional are told in whole dollars.
 const DOLLAR: u64 = 10_000;
-
-/// The field of so many bits that ends so many bits above the last.
-const fn field(number: u64, end: u32, width: u32) -> u64 {
-    number >> end & ((1 << width) - 1)
-}
 
 impl Rule {
     /// The type as a profile has it, like `rate_vol`.
@@ -74,24 +68,20 @@ impl Rule {
         }
     }
 
-    /// The rule that two numbers of a sound state hold; none for numbers that no sound state has.
-    fn from_numbers(number: u64, first: u64, second: u64) -> Option<Rule> {
-        let (limit, window) = (field(first, 27, 37), field(first, 0, 27));
-        let (measure, limit) = match field(second, 11, 2) {
+    /// The rule of a row; none for one that was refused.
+    fn from_row(number: u64, row: RuleRow) -> Option<Rule> {
+        let [0, rule_type, limit, window, root, unit] = row else { return None };
+        let (measure, limit) = match rule_type % 3 {
             0 => (Measure::Notional, limit * DOLLAR),
             1 => (Measure::Volume, limit),
-            2 => (Measure::Count, limit),
-            _ => return None,
+            _ => (Measure::Count, limit),
         };
-        let root = Root::new(field(second, 2, 6)).ok()?;
-        let scope = match field(second, 8, 2) {
-            0 => Scope::Firm,
-            1 => Scope::Root(root),
-            2 => Scope::Unit(root, UnitOfRoot::from_number(field(second, 0, 2)).ok()?),
-            _ => return None,
+        let scope = match (Root::new(root), UnitOfRoot::from_number(unit)) {
+            (Err(_), _) => Scope::Firm,
+            (Ok(root), Err(_)) => Scope::Root(root),
+            (Ok(root), Ok(unit)) => Scope::Unit(root, unit),
         };
-        let window = (field(second, 10, 1) == 0).then_some(window);
-        Some(Rule { number, measure, limit, window, scope })
+        Some(Rule { number, measure, limit, window: (rule_type < 3).then_some(window), scope })
     }
 }
 
@@ -107,7 +97,11 @@ impl<M: Memory> Unit<M, Armed> {
     /// assert_eq!(rules[1], Rule { number: 1, measure: Measure::Notional, limit: 200_000_000, window: None, scope: Scope::Firm });
     /// ```
     pub fn rules(&self) -> impl Iterator<Item = Rule> + '_ {
-        let numbers = self.memory()[RULES..][..2 * self.rule_count() as usize].chunks_exact(2);
-        (0..).zip(numbers).filter_map(|(number, two)| Rule::from_numbers(number, two[0], two[1]))
+        (0..self.rule_count()).map_while(|number| self.rule(number))
+    }
+
+    /// A rule by its number; none if the profile does not have it.
+    pub fn rule(&self, number: u64) -> Option<Rule> {
+        Rule::from_row(number, raw::rule(self.memory(), number))
     }
 }

@@ -1,7 +1,8 @@
-//! What may be read from an armed unit's memory beside the calls: clock, names and marks. The map is in `docs/MEMORY.md`; the reading is tested against
-//! the second program, not proved.
+//! What may be asked of an armed unit beside its events: clock, names and marks. The library answers for the roots' names; the rest is read from the
+//! memory by the map in `docs/MEMORY.md`, which is tested against the second program, not proved.
 
 use crate::memory::Memory;
+use crate::raw;
 use crate::unit::{Armed, Unit};
 use crate::values::{Root, Time};
 use core::fmt;
@@ -16,26 +17,29 @@ mod place {
     pub const FIRM_LOCKED: usize = 7;
     pub const ROOTS_TRIPPED: usize = 8;
     pub const ROOTS_LOCKED: usize = 9;
-    pub const ROOT_NAMES: usize = 10;
 }
 
 /// The name of a firm or a root: 1 to 6 capitals or digits.
 #[derive(Clone, Copy, PartialEq, Eq, Hash)]
 pub struct Name {
-    bytes: [u8; 8],
-    first: usize,
+    bytes: [u8; 6],
+    length: usize,
 }
 
 impl Name {
-    /// A name from its number: the bytes in base 256, the first on top.
+    /// A firm's name from its number: the bytes in base 256, the first on top.
     fn from_number(number: u64) -> Name {
-        let first = number.leading_zeros() as usize / 8;
-        Name { bytes: number.to_be_bytes(), first }
+        let all = number.to_be_bytes();
+        let letters = &all[number.leading_zeros() as usize / 8..];
+        let length = letters.len().min(6);
+        let mut bytes = [0; 6];
+        bytes[..length].copy_from_slice(&letters[..length]);
+        Name { bytes, length }
     }
 
     /// The name's letters.
     pub fn as_str(&self) -> &str {
-        core::str::from_utf8(&self.bytes[self.first..]).unwrap_or_default()
+        core::str::from_utf8(&self.bytes[..self.length]).unwrap_or_default()
     }
 }
 
@@ -90,8 +94,24 @@ impl<M: Memory> Unit<M, Armed> {
 
     /// The roots with their names, by number.
     pub fn roots(&self) -> impl Iterator<Item = (Root, Name)> + '_ {
-        let names = &self.memory()[place::ROOT_NAMES..][..self.root_count() as usize];
-        names.iter().zip(0..).filter_map(|(name, number)| Some((Root::new(number).ok()?, Name::from_number(*name))))
+        (0..self.root_count()).map_while(|number| {
+            let root = Root::new(number).ok()?;
+            Some((root, self.root_name(root)?))
+        })
+    }
+
+    /// The name of a root; none if the profile does not have it.
+    ///
+    /// ```
+    /// # use mbrumzheg::{Root, Unit};
+    /// let unit = Unit::new().arm("ABCD,abs_vol,XYZ,1000").unwrap();
+    /// assert_eq!(unit.root_name(Root::new(0).unwrap()).unwrap().as_str(), "XYZ");
+    /// assert!(unit.root_name(Root::new(1).unwrap()).is_none());
+    /// ```
+    pub fn root_name(&self, root: Root) -> Option<Name> {
+        let mut bytes = [0; 6];
+        let [refusal, length, ..] = raw::root_name(self.memory(), root.number(), &mut bytes);
+        (refusal == 0).then_some(Name { bytes, length: length as usize })
     }
 
     /// The root of a name.
@@ -103,7 +123,10 @@ impl<M: Memory> Unit<M, Armed> {
     /// assert!(unit.root_named("SPY").is_none());
     /// ```
     pub fn root_named(&self, name: &str) -> Option<Root> {
-        self.roots().find(|(_, known)| known.as_str() == name).map(|(root, _)| root)
+        match raw::root_named(self.memory(), name.as_bytes()) {
+            [0, root, ..] => Root::new(root).ok(),
+            _ => None,
+        }
     }
 
     /// The firm's marks.

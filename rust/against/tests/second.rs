@@ -74,6 +74,7 @@ fn compare(unit: &Unit<Box<[u64]>, Armed>, other: &second::unit::Unit) {
     assert_eq!(unit.root_count(), armed.roots.len() as u64);
     for ((root, name), (marks, known)) in unit.roots().zip(armed.roots.iter().zip(&armed.profile.roots)) {
         assert_eq!(name.as_str().as_bytes(), known);
+        assert_eq!(unit.root_named(name.as_str()), Some(root));
         assert_eq!((unit.root_marks(root).tripped, unit.root_marks(root).locked_by_user), (marks.tripped, marks.user));
     }
     for rule in 0..=unit.rule_count() {
@@ -89,6 +90,7 @@ fn compare(unit: &Unit<Box<[u64]>, Armed>, other: &second::unit::Unit) {
 fn same_rules(unit: &Unit<Box<[u64]>, Armed>, other: &second::unit::Unit) {
     let known = &other.armed.as_ref().expect("armed").profile.rules;
     assert_eq!(unit.rules().count(), known.len());
+    assert_eq!(unit.rule(known.len() as u64), None);
     for (place, (rule, known)) in unit.rules().zip(known).enumerate() {
         assert_eq!((rule.number, rule.limit, rule.window), (place as u64, known.limit, known.window));
         assert_eq!(format!("{:?}", rule.measure), format!("{:?}", known.measure));
