@@ -151,8 +151,10 @@ int main(void) {
     records();
     events();
     rows();
-    EXPECT(mbrumzheg_try_clear(memory, MBRUMZHEG_SIZE - 1) == MBRUMZHEG_NO_ROOM && memory[0] == 1);
-    EXPECT(mbrumzheg_try_clear(memory, MBRUMZHEG_SIZE) == MBRUMZHEG_ACCEPTED && memory[0] == 0);
+    EXPECT(mbrumzheg_try_clear(memory, MBRUMZHEG_SIZE - 1) == MBRUMZHEG_NO_ROOM);
+    EXPECT(mbrumzheg_try_status(memory, MBRUMZHEG_SIZE).refusal == MBRUMZHEG_ACCEPTED);
+    EXPECT(mbrumzheg_try_clear(memory, MBRUMZHEG_SIZE) == MBRUMZHEG_ACCEPTED);
+    EXPECT(mbrumzheg_try_status(memory, MBRUMZHEG_SIZE).refusal == MBRUMZHEG_NOT_ARMED);
     profiles();
     return 0;
 }

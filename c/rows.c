@@ -45,6 +45,8 @@ int main(void) {
     mbrumzheg_status(memory, MBRUMZHEG_SIZE, row);
     EXPECT(is(0, 1, 0, 1, 0));
     mbrumzheg_clear(memory, MBRUMZHEG_SIZE, row);
-    EXPECT(is(0, 0, 0, 0, 0) && memory[0] == 0);
+    EXPECT(is(0, 0, 0, 0, 0));
+    mbrumzheg_status(memory, MBRUMZHEG_SIZE, row);
+    EXPECT(is(MBRUMZHEG_NOT_ARMED, 0, 0, 0, 0));
     return 0;
 }

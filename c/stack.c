@@ -155,7 +155,7 @@ static bool try_full_log(uint64_t *state) {
     return so;
 }
 
-/* Memory that is short, unarmed, marked with nothing behind the mark; the smallest profile; texts and records. */
+/* Memory that is short, unarmed, unsound; the smallest profile; texts and records. */
 static bool try_small(uint64_t *state) {
     try_call(STATUS, state, 3);
     try_calls(state, 5);
@@ -163,7 +163,7 @@ static bool try_small(uint64_t *state) {
     add("abs_vol", 0, 5, "");
     const bool so = arm(state, MBRUMZHEG_ACCEPTED);
     try_calls(state, 5);
-    state[5] = 600;
+    state[MBRUMZHEG_SIZE - 1] = 600; /* a place that is not used */
     try_calls(state, 5);
     for (uint64_t n = 0; n < 4; n++) {
         const uint64_t event[8] = {n, 10, 0, 0, n == 1 ? 70000 : 0, n == 1 ? 200 : 0, n == 0 ? 3 : 0, n == 2};

@@ -60,7 +60,9 @@ int main(void) {
     for (int n = 0; n < THREADS; n++) own_sum[n] = &sums[n];
     run_day(memories[THREADS]);
     read_all(&sums[THREADS]);
-    so = at_once(run_day, own) && at_once(read_all, own_sum) && memories[THREADS][1] > 0 && sums[THREADS] > 0;
+    so = at_once(run_day, own) && at_once(read_all, own_sum) && sums[THREADS] > 0;
+    /* the day has moved the clock */
+    so = so && mbrumzheg_try_remaining(memories[THREADS], MBRUMZHEG_SIZE, 0, 0).refusal == MBRUMZHEG_BAD_TIME;
     for (int n = 0; n < THREADS; n++) {
         so = so && memcmp(memories[n], memories[THREADS], sizeof memories[n]) == 0;
         so = so && sums[n] == sums[THREADS];

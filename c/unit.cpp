@@ -75,7 +75,7 @@ static void a_unit_moves() {
     auto adopted = Unit::adopt(moved.memory());
     EXPECT(adopted.accepted() && *adopted->remaining(Time{0}, 0) == 999);
     auto saved = std::move(moved).memory();
-    saved[0] = 7;
+    saved.back() = 7;
     EXPECT(Unit::adopt(saved).refusal() == Refusal::Unsound);
     EXPECT(Unit::adopt(std::vector<std::uint64_t>(MBRUMZHEG_SIZE)).refusal() == Refusal::NotArmed);
     EXPECT(Unit::adopt({}).refusal() == Refusal::NoRoom);
@@ -87,7 +87,7 @@ static void a_unit_stands_on_lent_memory() {
     const auto lent = [] { return Lent(room, MBRUMZHEG_SIZE + 1); };
     EXPECT(LentUnit::arm(lent(), "ABCD,rate_count,,10,1000,T").refusal() == Refusal::ArmedAlready);
     auto unit = LentUnit::arm(*LentUnit::cleared(lent()), "ABCD,rate_count,,10,1000,T");
-    EXPECT(unit.accepted() && room[0] == 1 && room[MBRUMZHEG_SIZE] == 9);
+    EXPECT(unit.accepted() && unit->status().accepted() && room[MBRUMZHEG_SIZE] == 9);
     EXPECT(unit->offer(at(0, 1)).refusal() == Refusal::Unknown);
     EXPECT(LentUnit::cleared(Lent(room, 3)).refusal() == Refusal::NoRoom);
 }

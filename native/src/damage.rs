@@ -2,7 +2,8 @@
 
 use second::gen::Random;
 use second::lent::Lent;
-use second::memory::{self, LOG, ROOTS, RULES, TOTALS};
+use second::memory;
+use second::place::*;
 use second::profile::{Level, MOST_ROOTS, MOST_RULES};
 use second::unit::{Armed, Entry, Marks, LOG_PLACES};
 use second::LAST_TIME;
@@ -63,28 +64,43 @@ pub fn damage(random: &mut Random, second: &mut Lent) -> Vec<(usize, u64)> {
 
 /// Another number in one place.
 fn single(random: &mut Random, second: &mut Lent) -> (usize, u64) {
-    let (first, length) = table(random, second);
-    let place = first + random.below(length) as usize;
+    let places = part(random, second);
+    let place = random.pick(&places);
     (place, other_number(random, second, place))
 }
 
-/// Two numbers of one table exchanged, or two pairs of numbers.
+/// Two numbers of one part exchanged, or two pairs of numbers.
 fn exchanged(random: &mut Random, second: &mut Lent) -> Vec<(usize, u64)> {
-    let (first, length) = table(random, second);
+    let places = part(random, second);
     let wide = random.pick(&[1, 2]);
-    let places = [(); 2].map(|_| first + (random.below(length) / wide * wide) as usize);
-    let sides = (0..wide as usize).map(|side| places.map(|place| (place + side).min(SIZE - 1)));
+    let starts = [(); 2].map(|_| random.below(places.len() as u64) as usize / wide * wide);
+    let sides = (0..wide).map(|side| starts.map(|start| places[(start + side).min(places.len() - 1)]));
     sides.flat_map(|[one, other]| [(one, second.numbers()[other]), (other, second.numbers()[one])]).collect()
 }
 
-/// Where a table of the state begins and how many numbers of it are used, with one beyond at times.
-fn table(random: &mut Random, second: &mut Lent) -> (usize, u64) {
-    let Some(armed) = &second.unit().armed else { return (0, SIZE as u64) };
-    let (roots, rules, log) = (armed.roots.len(), armed.profile.rules.len(), armed.log.len());
-    let tables = [(0, 10), (ROOTS, roots), (RULES, 2 * rules), (TOTALS, rules), (LOG, 2 * log), (LOG, 2 * log), (0, SIZE)];
-    let (first, length) = random.pick(&tables);
-    let beyond = usize::from(length == 0 || random.once_in(20) && first + length < SIZE);
-    (first, (length + beyond) as u64)
+/// The numbers that stand in no row of a table: mark, clock, firm, counts and locks.
+const ALONE: [usize; 10] = [MARK, CLOCK, FIRM, ROOT_COUNT, RULE_COUNT, ENTRY_COUNT, FIRM_TRIPPED, FIRM_LOCKED, ROOTS_TRIPPED, ROOTS_LOCKED];
+
+/// The places of a part of the state that are used, or all places; with one beyond at times.
+fn part(random: &mut Random, second: &mut Lent) -> Vec<usize> {
+    let Some(armed) = &second.unit().armed else { return (0..SIZE).collect() };
+    let (mut places, beyond) = match random.below(7) {
+        0 => (ALONE.to_vec(), ROOTS),
+        1 => from(ROOTS, armed.roots.len()),
+        2 => from(RULES, 2 * armed.profile.rules.len()),
+        3 => from(TOTALS, armed.totals.len()),
+        4 | 5 => from(LOG, 2 * armed.log.len()),
+        _ => from(0, SIZE),
+    };
+    if places.is_empty() || random.once_in(20) && beyond < SIZE {
+        places.push(beyond);
+    }
+    places
+}
+
+/// So many places from the first on, and the one beyond them.
+fn from(first: usize, length: usize) -> (Vec<usize>, usize) {
+    ((first..first + length).collect(), first + length)
 }
 
 /// Another number for a place: a bit, a unit of some field, a field at an end, a total near its limit, or any number.
@@ -96,8 +112,8 @@ fn other_number(random: &mut Random, second: &mut Lent, place: usize) -> u64 {
         1 => number.wrapping_add(random.pick(&[1, u64::MAX])),
         2 => number.wrapping_add(random.pick(&[bit, bit.wrapping_neg()])),
         3 => any_number(random),
-        4 if place == 1 && number <= LAST_TIME => random.between(number, LAST_TIME),
-        5 if (TOTALS..LOG).contains(&place) => total_near(random, second, place - TOTALS),
+        4 if place == CLOCK && number <= LAST_TIME => random.between(number, LAST_TIME),
+        5 if (TOTALS..FIRM_TRIPPED).contains(&place) => total_near(random, second, place - TOTALS),
         _ => other_field(random, number, place),
     }
 }
@@ -113,9 +129,9 @@ fn total_near(random: &mut Random, second: &mut Lent, line: usize) -> u64 {
 /// The number with another value in one of its fields.
 fn other_field(random: &mut Random, number: u64, place: usize) -> u64 {
     let fields: &[(u32, u32)] = match place {
-        RULES..TOTALS if place % 2 == 0 => &[(0, 27), (27, 37)],
+        RULES..TOTALS if (place - RULES) % 2 == 0 => &[(0, 27), (27, 37)],
         RULES..TOTALS => &[(0, 2), (2, 6), (8, 2), (10, 1), (11, 2)],
-        LOG.. if place % 2 == 0 => &[(0, 1), (1, 1), (2, 2), (4, 6), (10, 27)],
+        LOG.. if (place - LOG) % 2 == 0 => &[(0, 1), (1, 1), (2, 2), (4, 6), (10, 27)],
         LOG.. => &[(0, 20), (20, 27)],
         _ => &[(0, 64), (0, 8), (8, 8), (0, 6)],
     };

@@ -55,7 +55,7 @@ fn verdict(m: &State, root: u64) -> u64 {
     if m[FIRM_TRIPPED] | m[FIRM_LOCKED] != 0 {
         1
     } else {
-        ((m[TRIPPED] | m[LOCKED]) >> root & 1) * 2
+        ((m[ROOTS_TRIPPED] | m[ROOTS_LOCKED]) >> root & 1) * 2
     }
 }
 
@@ -96,8 +96,8 @@ pub fn text(verdict: u64, room: &mut [u8]) -> Row {
 pub fn status(m: &[u64]) -> Row {
     row(state(m).and_then(|m| {
         armed(m)?;
-        let all = m[TRIPPED] | m[LOCKED];
-        Ok([m[TRIPPED].count_ones(), m[LOCKED].count_ones(), all.count_ones(), all.trailing_zeros()].map(u64::from))
+        let all = m[ROOTS_TRIPPED] | m[ROOTS_LOCKED];
+        Ok([m[ROOTS_TRIPPED].count_ones(), m[ROOTS_LOCKED].count_ones(), all.count_ones(), all.trailing_zeros()].map(u64::from))
     }))
 }
 
@@ -116,7 +116,7 @@ pub fn lockout(m: &mut [u64], time: u64, level: u64, root: u64) -> Row {
     row(state_mut(m).and_then(|m| {
         armed_at(m, time)?;
         match level {
-            0 if root < m[ROOT_COUNT] => m[LOCKED] |= 1 << root,
+            0 if root < m[ROOT_COUNT] => m[ROOTS_LOCKED] |= 1 << root,
             1 if root == 0 => m[FIRM_LOCKED] = 1,
             _ => return Err(13),
         }
@@ -142,8 +142,8 @@ pub fn order(m: &mut [u64], time: u64, root: u64, reset: u64) -> Row {
 /// Carries out a reset of a root, of the firm or of both.
 fn carry_out(m: &mut State, root: u64, of_root: bool, of_firm: bool) {
     if of_root {
-        m[TRIPPED] &= !(1 << root);
-        m[LOCKED] &= !(1 << root);
+        m[ROOTS_TRIPPED] &= !(1 << root);
+        m[ROOTS_LOCKED] &= !(1 << root);
     }
     if of_firm {
         m[FIRM_TRIPPED] = 0;
@@ -156,7 +156,7 @@ fn carry_out(m: &mut State, root: u64, of_root: bool, of_firm: bool) {
 /// Zeroes the totals of the root's rules, of firm rules, or of both.
 fn zero_totals(m: &mut State, root: u64, of_root: bool, of_firm: bool) {
     let count = m[RULE_COUNT] as usize;
-    let (rules, totals) = m[RULES..LOG].split_at_mut(TOTALS - RULES);
+    let (rules, totals) = m[RULES..FIRM_TRIPPED].split_at_mut(2 * MOST_RULES);
     for (rule, total) in rules.chunks_exact(2).zip(&mut totals[..count]) {
         let is_firm = rule[1] & SCOPE == 0;
         let is_hit = if is_firm { of_firm } else { of_root && rule[1] >> 2 & 63 == root };
@@ -206,7 +206,7 @@ fn offered(m: &mut State, o: &Offer) -> Result<[u64; 4], u64> {
         join(m, o, grant, longest);
     }
     trips.cut(&cuts, grant, o.contracts);
-    m[TRIPPED] |= u64::from(trips.root) << o.root;
+    m[ROOTS_TRIPPED] |= u64::from(trips.root) << o.root;
     m[FIRM_TRIPPED] |= u64::from(trips.firm);
     Ok([0, grant, trips.root.into(), trips.firm.into()])
 }

@@ -4,6 +4,7 @@ use std::collections::VecDeque;
 
 use second::gen::{self, Call, Maker, Random};
 use second::lent::Lent;
+use second::place::MARK;
 use second::unit::LOG_PLACES;
 use second::LAST_TIME;
 
@@ -35,7 +36,7 @@ impl Day {
         day.queue.push_back(Step::new(Kind::Length, &[if day.random.once_in(200) { 70_000 } else { length }]));
         if day.random.once_in(4) {
             for _ in 0..day.random.between(1, 20) {
-                let place = day.random.between(1, SIZE as u64 - 1);
+                let place = day.random.between(MARK as u64 + 1, SIZE as u64 - 1);
                 day.queue.push_back(Step::new(Kind::Damage, &[place, day.random.number()]));
             }
         }

@@ -8,6 +8,7 @@ use native::run::{rate, report, run, End};
 use native::scripts::{Kind, Step};
 use native::SIZE;
 use second::gen;
+use second::place::*;
 
 /// The first day's seed, and how many days the gate compares, which takes about a minute.
 const SEED: u64 = 20_120_514;
@@ -82,7 +83,8 @@ fn profiles_are_read_alike() {
 #[test]
 fn any_length_and_any_filling_is_answered() {
     let profile = || Step::arm(b"A,abs_vol,Q,5".to_vec());
-    for length in [0, 1, 9, 10, 73, 585, 841, 1_865, 1_866, 1_867, 70_000] {
+    let starts_of_parts = [MARK, CLOCK, ROOT_COUNT, ROOTS, RULE_COUNT, RULES, TOTALS, FIRM_TRIPPED, ENTRY_COUNT, LOG];
+    for length in starts_of_parts.into_iter().chain([SIZE - 1, SIZE, SIZE + 1, 70_000]).map(|length| length as u64) {
         let mut pair = armed();
         agree(&mut pair, Step::new(Kind::Length, &[length]));
         let refusal = u64::from(length < SIZE as u64);
@@ -94,7 +96,7 @@ fn any_length_and_any_filling_is_answered() {
         }
         if length > 0 {
             assert_eq!(agree(&mut pair, Step::new(Kind::Status, &[]))[0], if refusal == 1 { 1 } else { 2 });
-            agree(&mut pair, Step::new(Kind::Damage, &[0, 0]));
+            agree(&mut pair, Step::new(Kind::Damage, &[MARK as u64, 0]));
         }
         assert_eq!(agree(&mut pair, profile())[0], refusal);
         assert_eq!(agree(&mut pair, Step::new(Kind::Clear, &[]))[0], refusal);

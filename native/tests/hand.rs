@@ -5,6 +5,7 @@ use native::profiles::clashing;
 use native::records::{compare, Records};
 use native::{arm, hand, offer, order, status, SIZE};
 use second::gen::{self, Random};
+use second::place::CLOCK;
 
 #[test]
 fn days_of_calls_are_answered_alike_by_hand() {
@@ -30,7 +31,7 @@ fn slips_are_found() {
         },
         |_, m, row| {
             if row[0] == 15 {
-                m[1] += 1
+                m[CLOCK] += 1
             }
         },
         |_, _, row| row[0] = if row[0] == 2 { 0 } else { row[0] },

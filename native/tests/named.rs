@@ -3,6 +3,7 @@
 
 use native::pair::{as_it_is, Pair};
 use native::scripts::Step;
+use second::place::*;
 
 /// Ten-thousandths in a dollar.
 const DOLLAR: u64 = 10_000;
@@ -53,7 +54,7 @@ const BAD: [&str; 4] = ["order 86400000 64 4", "lockout 86400000 2 64", "offer 8
 
 #[test]
 fn refusal_1_short_memory_and_short_room() {
-    for length in [0, 1, 10, 1_865] {
+    for length in [0, 1, ROOTS, NUMBERS - 1] {
         for both in [&mut Both::new(), &mut Both::armed("A,abs_vol,Q,5")] {
             both.run(&format!("length {length}"));
             both.refuses(1, &GOOD).refuses(1, &BAD).refuses(1, &["arm A,abs_vol,Q,5", "arm", "clear"]);
@@ -65,11 +66,18 @@ fn refusal_1_short_memory_and_short_room() {
 
 #[test]
 fn refusal_2_unsound_memory() {
-    for damage in
-        ["damage 0 2", "damage 1 86400000", "damage 4 0", "damage 6 2", "damage 8 2", "damage 586 1000000000000001", "damage 1865 1"]
-    {
+    let damaged = [
+        (MARK, 2),
+        (CLOCK, 86_400_000),
+        (RULE_COUNT, 0),
+        (TOTALS, 1_000_000_000_000_001),
+        (FIRM_TRIPPED, 2),
+        (ROOTS_TRIPPED, 2),
+        (NUMBERS - 1, 1u64),
+    ];
+    for (place, number) in damaged {
         let mut both = Both::armed("A,abs_vol,Q,5");
-        both.run(damage);
+        both.run(&format!("damage {place} {number}"));
         both.refuses(2, &GOOD).refuses(2, &BAD).refuses(3, &["arm A,abs_vol,Q,5"]);
         both.says("clear", &[0]).refuses(4, &["status"]);
     }
@@ -79,7 +87,7 @@ fn refusal_2_unsound_memory() {
 fn refusal_3_arming_twice() {
     Both::armed("A,abs_vol,Q,5").refuses(3, &["arm A,abs_vol,Q,5", "arm", "arm x"]);
     let mut both = Both::new();
-    both.run("damage 0 18446744073709551615");
+    both.run(&format!("damage {MARK} {}", u64::MAX));
     both.refuses(3, &["arm A,abs_vol,Q,5", "arm"]);
 }
 
@@ -87,7 +95,7 @@ fn refusal_3_arming_twice() {
 fn refusal_4_not_armed() {
     let mut both = Both::new();
     both.refuses(4, &GOOD).refuses(4, &BAD);
-    both.run("damage 4 999");
+    both.run(&format!("damage {RULE_COUNT} 999"));
     both.refuses(4, &GOOD).says("text 2 20", &[0, 19]).says("arm A,abs_vol,Q,5", &[0, 0, 0x41, 1, 1]).says("status", &[0, 0, 0, 0, 64]);
 }
 

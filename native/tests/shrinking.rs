@@ -4,6 +4,7 @@ use native::pair::{as_it_is, first_difference, Difference, Twist};
 use native::run::{report, run, End};
 use native::scripts::{parse, print, Kind, Step};
 use second::lent::{Lent, Row};
+use second::place::{CLOCK, FIRM_TRIPPED};
 
 /// In how many days a wrong version has to show.
 const DAYS: u64 = 500;
@@ -41,14 +42,14 @@ fn a_wrong_grant_is_found_and_made_short() {
 /// Leaves the clock one too late after a reset of both levels past the first second.
 fn moves_the_clock(step: &Step, second: &mut Lent, row: &mut Row) {
     if step.kind == Kind::Order && row[0] == 0 && step.numbers[2] == 3 && step.numbers[0] > 1_000 {
-        second.numbers_mut()[1] += 1;
+        second.numbers_mut()[CLOCK] += 1;
     }
 }
 
 #[test]
 fn a_wrong_number_in_memory_is_found_and_made_short() {
     let (text, difference) = found(moves_the_clock);
-    assert_eq!(difference, Difference::Memory { place: 1, library: 1_001, second: 1_002 });
+    assert_eq!(difference, Difference::Memory { place: CLOCK, library: 1_001, second: 1_002 });
     let lines: Vec<&str> = text.lines().collect();
     assert_eq!(lines.len(), 2, "{text}");
     assert_eq!(lines[1], "order 1001 0 3");
@@ -76,7 +77,7 @@ fn times_that_hang_together_are_lowered_together() {
 
 /// Takes a state whose firm mark is 2 for a sound one.
 fn overlooks_a_mark(step: &Step, second: &mut Lent, row: &mut Row) {
-    if step.kind == Kind::Status && row[0] == 2 && second.numbers()[6] == 2 {
+    if step.kind == Kind::Status && row[0] == 2 && second.numbers()[FIRM_TRIPPED] == 2 {
         row[0] = 0;
     }
 }
@@ -86,7 +87,7 @@ fn a_wrong_judgement_of_damage_is_found_and_made_short() {
     let (text, difference) = found(overlooks_a_mark);
     assert_eq!(difference, Difference::Answer { library: [2, 0, 0, 0, 0], second: [0; 5] });
     let lines: Vec<&str> = text.lines().collect();
-    assert!(lines.len() <= 3 && lines.contains(&"damage 6 2"), "{text}");
+    assert!(lines.len() <= 3 && lines.contains(&&format!("damage {FIRM_TRIPPED} 2")[..]), "{text}");
     assert_eq!(*lines.last().expect("a step"), "status");
 }
 

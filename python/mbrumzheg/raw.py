@@ -10,6 +10,7 @@ import ctypes
 from operator import index
 from typing import TYPE_CHECKING, Tuple
 
+from . import _place
 from ._library import load
 
 if TYPE_CHECKING:
@@ -17,7 +18,7 @@ if TYPE_CHECKING:
     Memory = ctypes.Array[ctypes.c_uint64]
     Room = ctypes.Array[ctypes.c_uint8]
 
-SIZE = 1866
+SIZE = _place.SIZE
 """How many 64-bit numbers the state takes. More may be lent; the rest is neither read nor written."""
 RECORD_SIZE = 12
 """How many bytes a record has."""

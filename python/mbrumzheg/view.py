@@ -6,17 +6,13 @@ from __future__ import annotations
 from dataclasses import dataclass
 from typing import TYPE_CHECKING, Optional
 
-from . import raw
+from . import _place, raw
 from .refusal import Refusal, Refused
 from .rule import Rule, rule_of
 from .values import Root, Time
 
 if TYPE_CHECKING:
     from .raw import Memory
-
-# where the map has what this file reads
-_MARK, _CLOCK, _FIRM, _ROOTS, _RULES = range(5)
-_FIRM_TRIPPED, _FIRM_LOCKED, _ROOTS_TRIPPED, _ROOTS_LOCKED = range(6, 10)
 
 
 @dataclass(frozen=True)
@@ -45,7 +41,7 @@ class View:
     @property
     def armed(self) -> bool:
         """Whether the unit was armed: check it before the first order passes."""
-        return self._memory[_MARK] == 1
+        return self._memory[_place.MARK] == 1
 
     def _at(self, place: int) -> int:
         if not self.armed:
@@ -55,22 +51,22 @@ class View:
     @property
     def clock(self) -> Time:
         """The time of the last event that was not refused."""
-        return Time(self._at(_CLOCK))
+        return Time(self._at(_place.CLOCK))
 
     @property
     def firm(self) -> str:
         """The firm's name."""
-        return _name(self._at(_FIRM))
+        return _name(self._at(_place.FIRM))
 
     @property
     def rule_count(self) -> int:
         """How many rules the profile has."""
-        return self._at(_RULES)
+        return self._at(_place.RULE_COUNT)
 
     @property
     def root_count(self) -> int:
         """How many roots the profile has."""
-        return self._at(_ROOTS)
+        return self._at(_place.ROOT_COUNT)
 
     def rules(self) -> list[Rule]:
         """The rules of the profile, by number."""
@@ -107,8 +103,8 @@ class View:
     @property
     def firm_marks(self) -> Marks:
         """The firm's marks."""
-        return Marks(self._at(_FIRM_TRIPPED) == 1, self._at(_FIRM_LOCKED) == 1)
+        return Marks(self._at(_place.FIRM_TRIPPED) == 1, self._at(_place.FIRM_LOCKED) == 1)
 
     def root_marks(self, root: Root) -> Marks:
         """A root's marks."""
-        return Marks(bool(self._at(_ROOTS_TRIPPED) >> root & 1), bool(self._at(_ROOTS_LOCKED) >> root & 1))
+        return Marks(bool(self._at(_place.ROOTS_TRIPPED) >> root & 1), bool(self._at(_place.ROOTS_LOCKED) >> root & 1))

@@ -76,7 +76,7 @@ class Units(unittest.TestCase):
         self.assertEqual((other.root_marks(Root(0)).tripped, unit.root_marks(Root(0)).tripped), (True, False))
         self.refused(Refusal.NO_ROOM, Unit.adopt, unit.memory()[:-1])
         damaged = bytearray(unit.memory())
-        damaged[0] = 7
+        damaged[-1] = 7
         self.refused(Refusal.UNSOUND, Unit.adopt, bytes(damaged))
         self.assertFalse(Unit.adopt(bytes(8 * SIZE)).armed)
         self.assertEqual(raw.status(raw.memory(0)), (1, 0, 0, 0, 0))

@@ -62,6 +62,7 @@ struct Paper;
 
 mod event;
 mod memory;
+mod place;
 pub mod raw;
 mod record;
 mod refusal;

@@ -4,7 +4,7 @@
 //! crate are the better way in; these functions are for whoever has numbers, as a comparison with another program does.
 
 /// How many 64-bit numbers the state takes. More may be lent; the rest is neither read nor written.
-pub const SIZE: usize = 1866;
+pub const SIZE: usize = crate::place::SIZE;
 
 /// An answer: five numbers, the refusal first (0 if the call was not refused).
 pub type Row = [u64; 5];

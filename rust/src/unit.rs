@@ -94,7 +94,7 @@ impl<M: Memory> Unit<M, Unarmed> {
     /// let Ok(Adopted::Unarmed(unit)) = Unit::adopt(&mut lent[..]) else { panic!("zeros are not armed") };
     /// unit.arm("ABCD,abs_vol,XYZ,1000").unwrap();
     /// assert!(matches!(Unit::adopt(&mut lent[..]), Ok(Adopted::Armed(_))));
-    /// lent[0] = 7;
+    /// lent.fill(7);
     /// assert_eq!(Unit::adopt(&mut lent[..]).unwrap_err().why, Refusal::Unsound);
     /// ```
     pub fn adopt(memory: M) -> Result<Adopted<M>, Refused<M>> {

@@ -2,22 +2,11 @@
 //! memory by the map in `docs/MEMORY.md`, which is tested against the second program, not proved.
 
 use crate::memory::Memory;
+use crate::place;
 use crate::raw;
 use crate::unit::{Armed, Unit};
 use crate::values::{Root, Time};
 use core::fmt;
-
-/// Where the map has what this file reads.
-mod place {
-    pub const CLOCK: usize = 1;
-    pub const FIRM: usize = 2;
-    pub const ROOTS: usize = 3;
-    pub const RULES: usize = 4;
-    pub const FIRM_TRIPPED: usize = 6;
-    pub const FIRM_LOCKED: usize = 7;
-    pub const ROOTS_TRIPPED: usize = 8;
-    pub const ROOTS_LOCKED: usize = 9;
-}
 
 /// The name of a firm or a root: 1 to 6 capitals or digits.
 #[derive(Clone, Copy, PartialEq, Eq, Hash)]
@@ -84,12 +73,12 @@ impl<M: Memory> Unit<M, Armed> {
 
     /// How many rules the profile has.
     pub fn rule_count(&self) -> u64 {
-        self.memory()[place::RULES]
+        self.memory()[place::RULE_COUNT]
     }
 
     /// How many roots the profile has.
     pub fn root_count(&self) -> u64 {
-        self.memory()[place::ROOTS]
+        self.memory()[place::ROOT_COUNT]
     }
 
     /// The roots with their names, by number.

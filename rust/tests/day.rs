@@ -1,7 +1,7 @@
 //! The scope paper's example, the bench table's lines, and what the types promise of a unit.
 use mbrumzheg::{
-    Armed, Contracts, Event, Level, Marks, Offer, Premium, RecordWriter, Records, Reset, Root, Status, Time, Unarmed, Unit, UnitOfRoot,
-    Verdict, SIZE,
+    Adopted, Armed, Contracts, Event, Level, Marks, Offer, Premium, RecordWriter, Records, Reset, Root, Status, Time, Unarmed, Unit,
+    UnitOfRoot, Verdict, SIZE,
 };
 
 fn time(ms: u64) -> Time {
@@ -192,5 +192,6 @@ fn a_unit_stands_on_its_own_or_on_lent_memory() {
     let unit: Unit<&mut [u64], Unarmed> = Unit::cleared(&mut lent[..]).expect("long enough");
     let mut unit = unit.arm("ABCD,abs_vol,XYZ,1000").expect("accepted");
     assert_eq!(unit.order(time(1), root(), Reset::None), Ok(Verdict::Free));
-    assert_eq!((lent[0], &lent[SIZE..]), (1, &[7; 10][..]), "what is lent beyond the state is untouched");
+    assert_eq!(lent[SIZE..], [7; 10], "what is lent beyond the state is untouched");
+    assert!(matches!(Unit::adopt(&mut lent[..]), Ok(Adopted::Armed(_))));
 }

@@ -57,9 +57,9 @@ fn short_memory_is_refused_with_1_and_given_back() {
 #[test]
 fn memory_without_a_sound_state_is_refused_with_2() {
     let mut memory = Unit::new().arm(EXAMPLE).expect("accepted").into_memory();
-    memory[1] = 86_400_000;
-    let refused = Unit::adopt(memory).expect_err("the clock is no time");
-    assert_eq!((refused.why, refused.kept[1]), (Refusal::Unsound, 86_400_000));
+    memory[SIZE - 1] = 7;
+    let refused = Unit::adopt(memory).expect_err("a place that is not used holds a number");
+    assert_eq!((refused.why, refused.kept[SIZE - 1]), (Refusal::Unsound, 7));
 }
 
 #[test]

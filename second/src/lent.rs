@@ -1,6 +1,7 @@
 //! The second unit over lent numbers: refusals 1 and 2, and what each call should leave in the memory.
 
-use crate::memory::{self, Held, NUMBERS};
+use crate::memory::{self, Held};
+use crate::place::{MARK, NUMBERS};
 use crate::unit::Unit;
 
 /// The row of an answer: the refusal first, then the answers, and 0 where there are fewer than four.
@@ -24,7 +25,7 @@ pub struct Lent {
 impl Lent {
     /// Numbers whose mark is 0, all of them lent.
     pub fn new(numbers: Vec<u64>) -> Lent {
-        assert!(numbers.len() >= NUMBERS && numbers[0] == 0, "room for a state, and the mark 0");
+        assert!(numbers.len() >= NUMBERS && numbers[MARK] == 0, "room for a state, and the mark 0");
         Lent { length: numbers.len(), numbers, unit: Unit::new(), unsound: false, changed: false }
     }
 
@@ -67,7 +68,7 @@ impl Lent {
         if self.length < NUMBERS {
             return refused(1);
         }
-        if self.numbers[0] != 0 {
+        if self.numbers[MARK] != 0 {
             return refused(3);
         }
         self.look();
@@ -110,7 +111,7 @@ impl Lent {
             return 1;
         }
         self.look();
-        match (self.numbers[0], self.unsound) {
+        match (self.numbers[MARK], self.unsound) {
             (0, _) => 4,
             (_, true) => 2,
             _ => 0,

@@ -5,6 +5,7 @@
 pub mod gen;
 pub mod lent;
 pub mod memory;
+pub mod place;
 pub mod profile;
 pub mod records;
 pub mod unit;

@@ -1,21 +1,11 @@
-//! The state in lent 64-bit numbers: the map of docs/MEMORY.md, and document 01's sentence on what is sound.
+//! The state in lent 64-bit numbers: how docs/MEMORY.md packs it, and document 01's sentence on what is sound.
 
 use std::collections::VecDeque;
 
+use crate::place::*;
 use crate::profile::{self, Level, Measure, Profile, Rule, UNITS};
 use crate::unit::{Armed, Entry, Marks, LOG_PLACES};
 use crate::{is_contracts, is_premium, is_time};
-
-/// How many numbers the state takes.
-pub const NUMBERS: usize = 1_866;
-/// Where the roots' names begin.
-pub const ROOTS: usize = 10;
-/// Where the rules begin, two numbers each.
-pub const RULES: usize = 74;
-/// Where the totals begin.
-pub const TOTALS: usize = 586;
-/// Where the log begins, two numbers an entry.
-pub const LOG: usize = 842;
 
 /// The largest total of a rule.
 const MOST_TOTAL: u64 = 1_000_000_000_000_000;
@@ -35,7 +25,7 @@ pub enum Held {
 
 /// Reads what the numbers hold.
 pub fn read(numbers: &[u64]) -> Held {
-    match numbers[0] {
+    match numbers[MARK] {
         0 => Held::NotArmed,
         1 => armed_of(numbers).map_or(Held::Unsound, Held::Sound),
         _ => Held::Unsound,
@@ -46,21 +36,31 @@ pub fn read(numbers: &[u64]) -> Held {
 pub fn write(armed: &Armed, numbers: &mut [u64]) {
     let profile = &armed.profile;
     numbers[..NUMBERS].fill(0);
-    let lengths = [profile.roots.len() as u64, profile.rules.len() as u64, armed.log.len() as u64];
-    numbers[..3].copy_from_slice(&[1, armed.clock, name_number(&profile.firm)]);
-    numbers[3..6].copy_from_slice(&lengths);
-    numbers[6..8].copy_from_slice(&[armed.firm.tripped.into(), armed.firm.user.into()]);
+    numbers[MARK] = 1;
+    numbers[CLOCK] = armed.clock;
+    numbers[FIRM] = name_number(&profile.firm);
+    write_table(&mut numbers[ROOT_COUNT..], profile.roots.iter().map(|name| [name_number(name)]));
+    write_table(&mut numbers[RULE_COUNT..], profile.rules.iter().map(rule_numbers));
+    numbers[TOTALS..][..armed.totals.len()].copy_from_slice(&armed.totals);
+    write_locks(armed, numbers);
+    write_table(&mut numbers[ENTRY_COUNT..], armed.log.iter().map(entry_numbers));
+}
+
+/// Writes a table over zeros: how many rows it has, then these.
+fn write_table<const N: usize>(table: &mut [u64], rows: impl ExactSizeIterator<Item = [u64; N]>) {
+    table[0] = rows.len() as u64;
+    for (place, row) in rows.enumerate() {
+        table[1 + N * place..][..N].copy_from_slice(&row);
+    }
+}
+
+/// Writes the marks of the firm and of the roots over zeros.
+fn write_locks(armed: &Armed, numbers: &mut [u64]) {
+    numbers[FIRM_TRIPPED] = armed.firm.tripped.into();
+    numbers[FIRM_LOCKED] = armed.firm.user.into();
     for (root, marks) in armed.roots.iter().enumerate() {
-        numbers[8] |= u64::from(marks.tripped) << root;
-        numbers[9] |= u64::from(marks.user) << root;
-        numbers[ROOTS + root] = name_number(&profile.roots[root]);
-    }
-    for (line, rule) in profile.rules.iter().enumerate() {
-        numbers[RULES + 2 * line..][..2].copy_from_slice(&rule_numbers(rule));
-        numbers[TOTALS + line] = armed.totals[line];
-    }
-    for (place, entry) in armed.log.iter().enumerate() {
-        numbers[LOG + 2 * place..][..2].copy_from_slice(&entry_numbers(entry));
+        numbers[ROOTS_TRIPPED] |= u64::from(marks.tripped) << root;
+        numbers[ROOTS_LOCKED] |= u64::from(marks.user) << root;
     }
 }
 
@@ -114,12 +114,12 @@ fn entry_numbers(entry: &Entry) -> [u64; 2] {
 
 /// The state of numbers whose mark is 1, if it is sound.
 fn armed_of(numbers: &[u64]) -> Option<Armed> {
-    let clock = Some(numbers[1]).filter(|clock| is_time(*clock))?;
-    let roots = used(&numbers[ROOTS..RULES], numbers[3], 1)?;
-    let rules = used(&numbers[RULES..TOTALS], numbers[4], 2)?;
-    let totals = used(&numbers[TOTALS..LOG], numbers[4], 1)?;
-    let log = used(&numbers[LOG..NUMBERS], numbers[5], 2)?;
-    let profile = profile_of(numbers[2], roots, rules)?;
+    let clock = Some(numbers[CLOCK]).filter(|clock| is_time(*clock))?;
+    let roots = rows_of(&numbers[ROOT_COUNT..RULE_COUNT], 1)?;
+    let rules = rows_of(&numbers[RULE_COUNT..TOTALS], 2)?;
+    let totals = used(&numbers[TOTALS..FIRM_TRIPPED], numbers[RULE_COUNT], 1)?;
+    let log = rows_of(&numbers[ENTRY_COUNT..NUMBERS], 2)?;
+    let profile = profile_of(numbers[FIRM], roots, rules)?;
     if !totals.iter().zip(&profile.rules).all(|(total, rule)| is_total(*total, rule)) {
         return None;
     }
@@ -127,15 +127,21 @@ fn armed_of(numbers: &[u64]) -> Option<Armed> {
     if profile.longest_window().is_none() && !log.is_empty() {
         return None;
     }
-    let firm = Marks { tripped: flag(numbers[6])?, user: flag(numbers[7])? };
-    let roots = marks_of(numbers[8], numbers[9], roots.len())?;
+    let firm = Marks { tripped: flag(numbers[FIRM_TRIPPED])?, user: flag(numbers[FIRM_LOCKED])? };
+    let roots = marks_of(numbers[ROOTS_TRIPPED], numbers[ROOTS_LOCKED], roots.len())?;
     Some(Armed { profile, clock, totals: totals.to_vec(), firm, roots, log })
 }
 
-/// The part of a table that is used, if it has so many places and the others hold 0.
-fn used(table: &[u64], places: u64, numbers_each: usize) -> Option<&[u64]> {
-    let length = usize::try_from(places).ok()?.checked_mul(numbers_each)?;
-    let (used, unused) = table.split_at_checked(length)?;
+/// The rows of a table that has their count in front, if there are so many places and the others hold 0.
+fn rows_of(table: &[u64], numbers_each: usize) -> Option<&[u64]> {
+    let (count, places) = table.split_first()?;
+    used(places, *count, numbers_each)
+}
+
+/// The first so many of some places, if there are so many and the others hold 0.
+fn used(places: &[u64], count: u64, numbers_each: usize) -> Option<&[u64]> {
+    let length = usize::try_from(count).ok()?.checked_mul(numbers_each)?;
+    let (used, unused) = places.split_at_checked(length)?;
     unused.iter().all(|number| *number == 0).then_some(used)
 }
 

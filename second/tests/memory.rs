@@ -2,7 +2,8 @@
 
 use second::gen;
 use second::lent::Lent;
-use second::memory::{read, write, Held, NUMBERS};
+use second::memory::{read, write, Held};
+use second::place::*;
 use second::unit::Unit;
 
 /// A firm rule, a rule of one unit and a rule of a whole root; two fills, a trip of root 0 and a lockout of root 1.
@@ -31,20 +32,63 @@ fn with(changes: &[(usize, u64)]) -> Held {
     read(&numbers)
 }
 
+/// The first and last number of `4 to 67`, or of one number alone.
+fn span_of(text: &str) -> Option<(usize, usize)> {
+    let number = |text: &str| text.trim().replace(',', "").parse().ok();
+    let (first, last) = text.split_once(" to ").unwrap_or((text, text));
+    number(first).zip(number(last))
+}
+
+#[test]
+fn the_places_are_those_of_the_page() {
+    let page = include_str!("../../docs/MEMORY.md");
+    let cells = page.lines().filter_map(|row| row.split('|').nth(2));
+    let told: Vec<(usize, usize)> = cells.flat_map(|cell| cell.split(", ").filter_map(span_of)).collect();
+    let firsts = [
+        MARK,
+        CLOCK,
+        FIRM,
+        ROOT_COUNT,
+        ROOTS,
+        RULE_COUNT,
+        RULES,
+        TOTALS,
+        FIRM_TRIPPED,
+        FIRM_LOCKED,
+        ROOTS_TRIPPED,
+        ROOTS_LOCKED,
+        ENTRY_COUNT,
+        LOG,
+        NUMBERS,
+    ];
+    let places: Vec<(usize, usize)> = firsts.windows(2).map(|next| (next[0], next[1] - 1)).collect();
+    assert_eq!(told, places);
+}
+
 #[test]
 fn the_example_stands_where_the_map_says() {
     let mut map = vec![0; NUMBERS];
-    map[..10].copy_from_slice(&[1, 15, 0x41_4239, 2, 4, 2, 0, 0, 0b01, 0b10]);
-    map[10..12].copy_from_slice(&[0x58_595A, 0x51]);
+    let mut put = |place: usize, numbers: &[u64]| map[place..][..numbers.len()].copy_from_slice(numbers);
+    put(MARK, &[1]);
+    put(CLOCK, &[15]);
+    put(FIRM, &[0x41_4239]);
+    put(ROOT_COUNT, &[2]);
+    put(ROOTS, &[0x58_595A, 0x51]);
+    put(RULE_COUNT, &[4]);
     // limit and window, then measure, kind, scope, root and unit
-    map[74..76].copy_from_slice(&[1_000 << 27, 1 << 10]);
-    map[76..78].copy_from_slice(&[500 << 27 | 60_000, 1 << 11 | 2 << 8 | 3]);
-    map[78..80].copy_from_slice(&[7 << 27 | 1_000, 2 << 11 | 1 << 8 | 1 << 2]);
-    map[80..82].copy_from_slice(&[2 << 27, 2 << 11 | 1 << 10 | 1 << 8]);
-    map[586..590].copy_from_slice(&[210_005, 0, 0, 2]);
+    put(RULES, &[1_000 << 27, 1 << 10]);
+    put(RULES + 2, &[500 << 27 | 60_000, 1 << 11 | 2 << 8 | 3]);
+    put(RULES + 4, &[7 << 27 | 1_000, 2 << 11 | 1 << 8 | 1 << 2]);
+    put(RULES + 6, &[2 << 27, 2 << 11 | 1 << 10 | 1 << 8]);
+    put(TOTALS, &[210_005, 0, 0, 2]);
+    put(FIRM_TRIPPED, &[0]);
+    put(FIRM_LOCKED, &[0]);
+    put(ROOTS_TRIPPED, &[0b01]);
+    put(ROOTS_LOCKED, &[0b10]);
+    put(ENTRY_COUNT, &[2]);
     // time, root, unit and flags, then premium and contracts
-    map[842..844].copy_from_slice(&[10 << 10 | 3 << 2 | 3, 70_000 << 20 | 3]);
-    map[844..846].copy_from_slice(&[12 << 10 | 3, 1 << 20 | 5]);
+    put(LOG, &[10 << 10 | 3 << 2 | 3, 70_000 << 20 | 3]);
+    put(LOG + 2, &[12 << 10 | 3, 1 << 20 | 5]);
     assert_eq!(example().1, map);
 }
 
@@ -66,69 +110,72 @@ fn reading_after_writing_gives_the_state_back() {
 #[test]
 fn the_mark_decides_first() {
     assert_eq!(read(&vec![0; NUMBERS]), Held::NotArmed);
-    assert_eq!(with(&[(0, 0)]), Held::NotArmed);
-    assert_eq!(with(&[(0, 0), (4, 999), (1_000, 5)]), Held::NotArmed);
-    assert_eq!(with(&[(0, 2)]), Held::Unsound);
-    assert_eq!(with(&[(0, u64::MAX)]), Held::Unsound);
+    assert_eq!(with(&[(MARK, 0)]), Held::NotArmed);
+    assert_eq!(with(&[(MARK, 0), (RULE_COUNT, 999), (LOG, 5)]), Held::NotArmed);
+    assert_eq!(with(&[(MARK, 2)]), Held::Unsound);
+    assert_eq!(with(&[(MARK, u64::MAX)]), Held::Unsound);
 }
 
 #[test]
 fn each_part_of_the_sentence_can_fail() {
     let rate = 500 << 27;
     let unsound: &[&[(usize, u64)]] = &[
-        &[(1, 86_400_000)], // the clock is no time
-        &[(1, 11)],         // an entry is later than the clock
-        &[(2, 0)],
-        &[(2, 0x41_4243_4445)],
-        &[(2, 0x61)], // no firm, one too long, a small letter
-        &[(3, 1)],
-        &[(3, 3)],
-        &[(3, 65)],
-        &[(3, u64::MAX)], // roots that have no rule, or a rule without root
-        &[(10, 0x51)],
-        &[(10, 0)],
-        &[(10, 0x41 << 48)], // two roots of one name, none, seven bytes
-        &[(10, 0x51), (11, 0x58_595A), (74 + 3, 1 << 11 | 2 << 8 | 1 << 2 | 3)], // root 1 is named before root 0
-        &[(4, 3)],
-        &[(4, 5)],
-        &[(4, 257)],
-        &[(4, 0)], // a rule that is not counted, or is not there
-        &[(5, 1)],
-        &[(5, 3)],
-        &[(5, 513)], // an entry that is not counted, or is not there
-        &[(6, 2)],
-        &[(7, 2)], // the firm's marks
-        &[(8, 4)],
-        &[(9, 1 << 63)], // a bit beyond the last root
-        &[(74, 0)],
-        &[(74, 100_000_000_001 << 27)], // limits in dollars
-        &[(76, 60_000)],
-        &[(76, 1_000_000_001 << 27 | 60_000)], // limits in contracts
-        &[(76, rate)],
-        &[(76, rate | 99)],
-        &[(76, rate | 86_400_001)], // windows
-        &[(74, 1_000 << 27 | 100)], // an absolute rule with a window
-        &[(75, 1 << 13)],
-        &[(75, 3 << 11)],
-        &[(75, 3 << 8)], // spare bits, measure 3, scope 3
-        &[(75, 1 << 10 | 1)],
-        &[(79, 2 << 11 | 1 << 8 | 5)],          // a unit where the scope has none
-        &[(77, 1 << 11 | 2 << 8 | 2 << 2 | 3)], // a root that is not there
-        &[(586, 1_000_000_000_000_001)],
-        &[(587, 1)],        // a total too large, one of a rate rule
-        &[(842, 13 << 10)], // entries out of order
-        &[(842, 10 << 10 | 2 << 4)],
-        &[(842, 1 << 37)], // an unknown root, spare bits
-        &[(843, 3)],
-        &[(843, 100_000_001 << 20 | 3)],
-        &[(843, 1 << 47 | 1 << 20 | 3)], // premium and what is above it
-        &[(843, 1 << 20)],
-        &[(843, 1 << 20 | 1_000_001)], // contracts
-        &[(12, 1)],
-        &[(82, 1)],
-        &[(590, 1)],
-        &[(846, 1)],
-        &[(1_865, 1)], // places that are not used
+        &[(CLOCK, 86_400_000)], // the clock is no time
+        &[(CLOCK, 11)],         // an entry is later than the clock
+        &[(FIRM, 0)],
+        &[(FIRM, 0x41_4243_4445)],
+        &[(FIRM, 0x61)], // no firm, one too long, a small letter
+        &[(ROOT_COUNT, 1)],
+        &[(ROOT_COUNT, 3)],
+        &[(ROOT_COUNT, 65)],
+        &[(ROOT_COUNT, u64::MAX)], // roots that have no rule, or a rule without root
+        &[(ROOTS, 0x51)],
+        &[(ROOTS, 0)],
+        &[(ROOTS, 0x41 << 48)], // two roots of one name, none, seven bytes
+        &[(ROOTS, 0x51), (ROOTS + 1, 0x58_595A), (RULES + 3, 1 << 11 | 2 << 8 | 1 << 2 | 3)], // root 1 is named before root 0
+        &[(RULE_COUNT, 3)],
+        &[(RULE_COUNT, 5)],
+        &[(RULE_COUNT, 257)],
+        &[(RULE_COUNT, 0)], // a rule that is not counted, or is not there
+        &[(ENTRY_COUNT, 1)],
+        &[(ENTRY_COUNT, 3)],
+        &[(ENTRY_COUNT, 513)], // an entry that is not counted, or is not there
+        &[(FIRM_TRIPPED, 2)],
+        &[(FIRM_LOCKED, 2)], // the firm's marks
+        &[(ROOTS_TRIPPED, 4)],
+        &[(ROOTS_LOCKED, 1 << 63)], // a bit beyond the last root
+        &[(RULES, 0)],
+        &[(RULES, 100_000_000_001 << 27)], // limits in dollars
+        &[(RULES + 2, 60_000)],
+        &[(RULES + 2, 1_000_000_001 << 27 | 60_000)], // limits in contracts
+        &[(RULES + 2, rate)],
+        &[(RULES + 2, rate | 99)],
+        &[(RULES + 2, rate | 86_400_001)], // windows
+        &[(RULES, 1_000 << 27 | 100)],     // an absolute rule with a window
+        &[(RULES + 1, 1 << 13)],
+        &[(RULES + 1, 3 << 11)],
+        &[(RULES + 1, 3 << 8)], // spare bits, measure 3, scope 3
+        &[(RULES + 1, 1 << 10 | 1)],
+        &[(RULES + 5, 2 << 11 | 1 << 8 | 5)],          // a unit where the scope has none
+        &[(RULES + 3, 1 << 11 | 2 << 8 | 2 << 2 | 3)], // a root that is not there
+        &[(TOTALS, 1_000_000_000_000_001)],
+        &[(TOTALS + 1, 1)], // a total too large, one of a rate rule
+        &[(LOG, 13 << 10)], // entries out of order
+        &[(LOG, 10 << 10 | 2 << 4)],
+        &[(LOG, 1 << 37)], // an unknown root, spare bits
+        &[(LOG + 1, 3)],
+        &[(LOG + 1, 100_000_001 << 20 | 3)],
+        &[(LOG + 1, 1 << 47 | 1 << 20 | 3)], // premium and what is above it
+        &[(LOG + 1, 1 << 20)],
+        &[(LOG + 1, 1 << 20 | 1_000_001)], // contracts
+        &[(ROOTS + 2, 1)],
+        &[(RULE_COUNT - 1, 1)],
+        &[(RULES + 8, 1)],
+        &[(TOTALS - 1, 1)],
+        &[(TOTALS + 4, 1)],
+        &[(FIRM_TRIPPED - 1, 1)],
+        &[(LOG + 4, 1)],
+        &[(NUMBERS - 1, 1)], // places that are not used, the first and the last of each part
     ];
     for changes in unsound {
         assert_eq!(with(changes), Held::Unsound, "{changes:?}");
@@ -139,14 +186,14 @@ fn each_part_of_the_sentence_can_fail() {
 fn what_no_day_gives_may_still_be_sound() {
     let sound: &[&[(usize, u64)]] = &[
         &[],
-        &[(1, 86_399_999)],
-        &[(2, 0x30)],
-        &[(6, 1), (7, 1), (8, 3), (9, 0)],
-        &[(74, 100_000_000_000 << 27)],
-        &[(76, 1_000_000_000 << 27 | 86_400_000)],
-        &[(586, 1_000_000_000_000_000), (589, 1_000_000_000_000_000)],
-        &[(842, 12 << 10 | 1 << 4), (843, 100_000_000 << 20 | 1_000_000)],
-        &[(5, 0), (842, 0), (843, 0), (844, 0), (845, 0)],
+        &[(CLOCK, 86_399_999)],
+        &[(FIRM, 0x30)],
+        &[(FIRM_TRIPPED, 1), (FIRM_LOCKED, 1), (ROOTS_TRIPPED, 3), (ROOTS_LOCKED, 0)],
+        &[(RULES, 100_000_000_000 << 27)],
+        &[(RULES + 2, 1_000_000_000 << 27 | 86_400_000)],
+        &[(TOTALS, 1_000_000_000_000_000), (TOTALS + 3, 1_000_000_000_000_000)],
+        &[(LOG, 12 << 10 | 1 << 4), (LOG + 1, 100_000_000 << 20 | 1_000_000)],
+        &[(ENTRY_COUNT, 0), (LOG, 0), (LOG + 1, 0), (LOG + 2, 0), (LOG + 3, 0)],
     ];
     for changes in sound {
         assert!(matches!(with(changes), Held::Sound(_)), "{changes:?}");
@@ -157,12 +204,13 @@ fn what_no_day_gives_may_still_be_sound() {
 fn no_entry_without_a_rate_rule_and_no_unit_with_seven_rules() {
     let absolute = |rules: u64, entries: u64| {
         let mut numbers = vec![0; NUMBERS];
-        numbers[..6].copy_from_slice(&[1, 5, 0x41, 1, rules, entries]);
-        numbers[10] = 0x51;
+        (numbers[MARK], numbers[CLOCK], numbers[FIRM]) = (1, 5, 0x41);
+        (numbers[ROOT_COUNT], numbers[RULE_COUNT], numbers[ENTRY_COUNT]) = (1, rules, entries);
+        numbers[ROOTS] = 0x51;
         for line in 0..rules as usize {
-            numbers[74 + 2 * line..][..2].copy_from_slice(&[9 << 27, 1 << 11 | 1 << 10 | 1 << 8]);
+            numbers[RULES + 2 * line..][..2].copy_from_slice(&[9 << 27, 1 << 11 | 1 << 10 | 1 << 8]);
         }
-        numbers[842..844].copy_from_slice(&[entries * (5 << 10), entries * (1 << 20 | 1)]);
+        numbers[LOG..][..2].copy_from_slice(&[entries * (5 << 10), entries * (1 << 20 | 1)]);
         read(&numbers)
     };
     assert!(matches!(absolute(6, 0), Held::Sound(_)));
@@ -174,18 +222,18 @@ fn no_entry_without_a_rate_rule_and_no_unit_with_seven_rules() {
 fn lent_numbers_are_refused_by_1_then_4_then_2() {
     let mut lent = Lent::new(vec![0; NUMBERS + 2]);
     assert_eq!(lent.ask(|unit| unit.status().numbers()), [4, 0, 0, 0, 0]);
-    lent.numbers_mut()[0] = 1;
+    lent.numbers_mut()[MARK] = 1;
     assert_eq!(lent.ask(|unit| unit.status().numbers()), [2, 0, 0, 0, 0]);
     assert_eq!(lent.arm(b"A,abs_vol,Q,5"), [3, 0, 0, 0, 0]);
     lent.set_length(NUMBERS - 1);
     assert_eq!(lent.change(|unit| unit.order(0, 0, 0).numbers()), [1, 0, 0, 0, 0]);
     assert_eq!([lent.arm(b""), lent.clear()], [[1, 0, 0, 0, 0]; 2]);
-    assert_eq!(lent.numbers()[0], 1);
+    assert_eq!(lent.numbers()[MARK], 1);
     lent.set_length(NUMBERS);
     assert_eq!(lent.clear(), [0; 5]);
-    lent.numbers_mut()[1_000] = 5;
+    lent.numbers_mut()[LOG] = 5;
     assert_eq!(lent.arm(b"A,abs_vol,Q"), [6, 1, 0, 0, 0]);
-    assert_eq!(lent.numbers()[1_000], 5, "a refusal changes nothing");
+    assert_eq!(lent.numbers()[LOG], 5, "a refusal changes nothing");
     assert_eq!(lent.arm(b"A,abs_vol,Q,5"), [0, 0, 0x41, 1, 1]);
     assert_eq!(lent.numbers()[..NUMBERS], numbers_of(lent.clone().unit()));
 }

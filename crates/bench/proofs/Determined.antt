@@ -10,6 +10,8 @@ pub mod Profile
 pub mod Made
 pub mod Log
 pub mod State
+pub mod Locks
+pub mod Counting
 pub mod Grant
 pub mod Reset
 pub mod Calls

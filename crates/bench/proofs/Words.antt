@@ -2,7 +2,7 @@
 use Prim.Native.Nat.{ℕ, zero, suc, _*_, _-_, _^_, _≤_, _<_}
 use native.Mathlib.Nat.{lt-of-lt-of-le}
 use native.Mathlib.Omega.{arith}
-use mathlib.Core.Path.{_≡_}
+use mathlib.Core.Path.{_≡_, sym, subst}
 use mathlib.Core.Bool.{Bool, true, false}
 use mathlib.Core.List.{List, [], _∷_, _++_}
 use lib.ListN.{length, drop}
@@ -24,16 +24,17 @@ use Rattle.machine.proofs.Totals.{isPaid, total-in}
 use Rattle.machine.specs.Entries.{isEntry}
 use Rattle.machine.specs.declared.Entry.{Entry}
 use Rattle.machine.specs.State.{State, rootsIn}
-use Rattle.tables.specs.RulePlace.{limitWidths, limitValues, scopeWidths, scopeValues, ruleNumbers, rulesTable}
-use Rattle.tables.specs.EntryPlace.{fillWidths, fillValues, amountWidths, amountValues, entryNumbers, logTable, flagNumber}
+use Rattle.tables.specs.RulePlace.{limitWidths, limitValues, scopeWidths, scopeValues, ruleNumbers, rulesShape}
+use Rattle.tables.specs.EntryPlace.{fillWidths, fillValues, amountWidths, amountValues, entryNumbers, logShape, flagNumber}
+use Rattle.shapes.specs.Shape.{one, both, named, word, flag, rows, table as counted}
+use Rattle.tables.proofs.Shapes.{rules-written, log-written}
 use Rattle.tables.proofs.RulePlace.{limit-fit, scope-fit}
 use Rattle.tables.proofs.EntryPlace.{fill-fit, amount-fit}
-use Rattle.profile.specs.Profile.{rootsTable}
 use Rattle.made.specs.Names.{nameBytes, isNameNumber}
 use Rattle.made.specs.Made.{areRoots}
 use Rattle.made.proofs.Bytes.{made-most}
 use Rattle.made.proofs.Digits.{digits-room}
-use Rattle.state.specs.State.{size, totalsTable, totalsIn, encode, stored}
+use Rattle.state.specs.State.{size, number, marksOf, locksShape, linesOf, profileShape, totalsShape, partShape, numbersShape, totalsIn, numbersOf, encode, stored}
 use Rattle.state.specs.Sound.{SoundState}
 use Rattle.state.proofs.Exactly.{MadeParts}
 use Rattle.bench.specs.Lent.{Below}
@@ -129,38 +130,46 @@ module _ (s : State) (k : SoundState s) (m : MadeParts (s .part .profile)) where
   few : length (s .part .profile .roots) ≤ 64
   few = m .few
 
-  roots-words : Below (2 ^ 64) (rootsTable (s .part .profile .roots))
-  unfolding rootsTable
-  roots-words = ones-words 64 (s .part .profile .roots) (names-words (s .part .profile .roots) (m .names))
+  roots-words : Below (2 ^ 64) (counted 64 number .write (s .part .profile .roots))
+  unfolding counted named both rows one number table
+  roots-words = (under n 64 64 few tt, ones-words 64 (s .part .profile .roots) (names-words (s .part .profile .roots) (m .names)))
 
-  rules-words : Below (2 ^ 64) (rulesTable rules)
-  rules-words = below-table (isRule n) ruleNumbers (rule-words n few) 2 256 rules (m .valid)
+  rules-words : Below (2 ^ 64) (rulesShape n .write rules)
+  rules-words =
+      subst (Below (2 ^ 64)) (sym (rules-written n rules))
+      (under (length rules) 256 64 (m .most) tt, below-table (isRule n) ruleNumbers (rule-words n few) 2 256 rules (m .valid))
 
-  sums-words : Below (2 ^ 64) (totalsTable sums)
-  unfolding totalsTable
+  profile-words : Below (2 ^ 64) (profileShape .write (s .part .profile))
+  unfolding profileShape linesOf named both number one
+  profile-words = (name-word 4 (s .part .profile .firm) (lit≤ tt) (m .firm), below-append (2 ^ 64) (counted 64 number .write (s .part .profile .roots)) (rulesShape n .write rules) roots-words rules-words)
+
+  sums-words : Below (2 ^ 64) (totalsShape rules .write sums)
+  unfolding totalsShape rows one number table
   sums-words = ones-words 256 sums (totals-words (s .part .accounts) (k .totals))
 
-  log-words : Below (2 ^ 64) (logTable (s .log))
-  unfolding rootsIn
-  log-words = below-table (isEntry n) entryNumbers (entry-words n few) 2 512 (s .log) (k .entries)
+  locks-words : Below (2 ^ 64) (locksShape .write (s .part .locks))
+  unfolding locksShape marksOf named both word flag number one rootsIn
+  locks-words = (
+    flag-word (s .part .locks .firmTripped),
+    (flag-word (s .part .locks .firmByUser), (lt-of-lt-of-le (k .tripped) (pow-mono few), (lt-of-lt-of-le (k .byUser) (pow-mono few), tt))),
+  )
 
-  tables-words : Below (2 ^ 64) (rootsTable (s .part .profile .roots) ++ (rulesTable rules ++ (totalsTable sums ++ logTable (s .log))))
-  tables-words =
-      below-append (2 ^ 64) (rootsTable (s .part .profile .roots)) (rulesTable rules ++ (totalsTable sums ++ logTable (s .log))) roots-words
-      (below-append (2 ^ 64) (rulesTable rules) (totalsTable sums ++ logTable (s .log)) rules-words
-      (below-append (2 ^ 64) (totalsTable sums) (logTable (s .log)) sums-words log-words))
+  log-words : Below (2 ^ 64) (logShape n .write (s .log))
+  unfolding rootsIn
+  log-words =
+      subst (Below (2 ^ 64)) (sym (log-written n (s .log)))
+      (under (length (s .log)) 512 64 (k .number) tt, below-table (isEntry n) entryNumbers (entry-words n few) 2 512 (s .log) (k .entries))
 
   encode-words : Below (2 ^ 64) (encode s)
-  unfolding encode rootsIn
+  unfolding encode numbersOf numbersShape partShape both number one
   encode-words =
       let clock = under (s .part .clock) (times .most) 64 (k .clock .1) tt in
-      let firm = name-word 4 (s .part .profile .firm) (lit≤ tt) (m .firm) in
-      let roots = under n 64 64 few tt in
-      let accounts = under (length (s .part .profile .rules)) 256 64 (m .most) tt in
-      let log = under (length (s .log)) 512 64 (k .number) tt in
-      let tripped = lt-of-lt-of-le (k .tripped) (pow-mono few) in
-      let locked = lt-of-lt-of-le (k .byUser) (pow-mono few) in
-      (lit< tt, (clock, (firm, (roots, (accounts, (log, (flag-word (s .part .locks .firmTripped), (flag-word (s .part .locks .firmByUser), (tripped, (locked, tables-words))))))))))
+      let sums-then = totalsShape rules .write sums in
+      let locks-then = locksShape .write (s .part .locks) in
+      let profile-then = profileShape .write (s .part .profile) in
+      let rest =
+      below-append (2 ^ 64) profile-then (sums-then ++ locks-then) profile-words (below-append (2 ^ 64) sums-then locks-then sums-words locks-words) in
+      (lit< tt, (clock, below-append (2 ^ 64) (profile-then ++ (sums-then ++ locks-then)) (logShape n .write (s .log)) rest log-words))
 
   pub stored-words : (xs : List ℕ) → Below (2 ^ 64) xs → Below (2 ^ 64) (stored s xs)
   unfolding stored

@@ -9,7 +9,7 @@ use lib.Dec.{eqb, ltb}
 use borrow.Author.Tests.{eq-eqb, ne-eqb, le-ltb, lt-ltb}
 use Rattle.state.specs.State.{size, decode}
 use Rattle.state.specs.Sound.{isSound}
-use Rattle.state.proofs.Restored.{taken-apart}
+use Rattle.state.proofs.Exactly.{taken-apart}
 use Rattle.machine.specs.Calls.{Call}
 use Rattle.machine.specs.Refusals.{firstOf}
 use Rattle.machine.specs.Judge.{step, isRefusal}

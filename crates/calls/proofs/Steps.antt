@@ -1,6 +1,7 @@
 -- A call on sound memory: what the machine refuses, and what it does. Assumes nothing.
 use Prim.Native.Nat.{ℕ, zero, suc, _≤_, _<_}
 use native.Mathlib.Omega.{arith}
+use native.Mathlib.Nat.{suc-ne-zero}
 use mathlib.Core.Path.{_≡_, refl, sym, _∙_, subst, ap}
 use mathlib.Core.Bool.{Bool, true, false, not, cond, _&&_, _||_, false≢true}
 use mathlib.Core.List.{List}
@@ -10,45 +11,32 @@ use borrow.Author.Tests.{ne-eqb, lt-leb, ltb-true, eqb-true}
 use Rattle.laws.specs.Folds.{every}
 use Rattle.measures.specs.Ranges.{isIn, times}
 use Rattle.rules.specs.Valid.{isRule}
-use Rattle.machine.specs.State.{Profile, State, cellsOf, ruleOf, Fitting}
+use Rattle.machine.specs.State.{Profile, State, rootsIn}
 use Rattle.machine.specs.Calls.{Call, order, lockout, remaining, status}
-use Rattle.machine.specs.Effects.{lastReset}
+use Rattle.machine.specs.Deeds.{resetting}
+use Rattle.machine.specs.Effects.{effectOf, lastReset}
 use Rattle.machine.specs.Refusals.{firstOf, badTime, isRoot, refusalOf}
 use Rattle.machine.specs.Step.{after}
-use Rattle.machine.specs.Judge.{logPlaces, judged, unless, judge, stepIn, step, isRefusal}
+use Rattle.machine.specs.Judge.{logPlaces, judged, ordered, unless, judge, stepIn, step, isRefusal}
 use Rattle.machine.specs.declared.Answer.the-variants.{Refused}
+use Rattle.machine.proofs.Refusals.{orderable}
 use Rattle.machine.proofs.Keeps.{remaining-same, status-same}
 use Rattle.machine.proofs.Sound.{step-sound}
 use Rattle.state.specs.State.{decode, stored}
 use Rattle.state.specs.Sound.{Given, SoundState, isSound}
 use Rattle.state.specs.Laid.{Laid}
-use Rattle.state.proofs.Restored.{Tests, taken-apart, roots-number, many-rules, accounts-fit}
-use Rattle.state.proofs.Stored.{map-length, decode-stored}
-use Rattle.state.proofs.Exactly.{made-parts, sound-fits, given-is-made, sound-decode, sound-stored, sound-is-laid}
-use Rattle.calls.specs.Calls.{memoryRefusal, callAnswer, callMemory}
-use Rattle.calls.proofs.Armed.{sound-memory}
+use Rattle.state.proofs.Stored.{decode-stored}
+use Rattle.state.proofs.Exactly.{made-parts, given-is-made, sound-decode, sound-state-fits, sound-stored, sound-is-laid}
+use Rattle.calls.specs.Calls.{memoryRefusal, refusalIn, callAnswer, callMemory}
+use Rattle.calls.proofs.Armed.{sound-memory, call-refused}
 
 -- the state that a call leaves which is not refused
 abbrev pub done : List ℕ → Call → State
 done xs call = after (judged (decode xs) call .deed) (decode xs)
 
 module _ (xs : List ℕ) (ready : memoryRefusal xs ≡ 0) where
-  tests : Tests xs
-  tests = taken-apart xs (sound-memory xs ready)
-
   pub laid : Laid xs
   laid = sound-is-laid xs (sound-memory xs ready)
-
-  pub roots-are : length (decode xs .part .profile .roots) ≡ getD xs 3 0
-  unfolding decode
-  roots-are = roots-number xs tests
-
-  pub rules-are : length (decode xs .part .accounts) ≡ getD xs 4 0
-  unfolding Fitting cellsOf decode
-  rules-are = sym (map-length ruleOf (decode xs .part .accounts)) ∙ ap length (accounts-fit xs tests) ∙ many-rules xs tests
-
-  pub few-roots : getD xs 3 0 ≤ 64
-  few-roots = tests .roots
 
   -- the machine refuses, and nothing changes; or it acts
   module _ (call : Call) where
@@ -61,20 +49,25 @@ module _ (xs : List ℕ) (ready : memoryRefusal xs ≡ 0) where
     unfolding callAnswer callMemory step stepIn judge unless
     acts e f = (rw (ready, e), rw (ready, e, f))
 
-  -- 12, then 13, of the calls with a time
-  module _ (time : ℕ) (late : Bool) (is-late : late ≡ not (isIn times time && leb (getD xs 1 0) time)) where
+  -- the refusal that a call meets on such memory
+  pub meets : (call : Call) (n : ℕ) → refusalOf logPlaces (decode xs) call ≡ n → n ≡ refusalIn xs call
+  unfolding refusalIn
+  meets call n e = rw (ready, e)
+
+  -- 12, then 13, of the calls with a time, by the clock, the roots and the accounts that were read
+  module _ (clock : ℕ) (clock-is : clock ≡ decode xs .part .clock) (time : ℕ) (late : Bool) (is-late : late ≡ not (isIn times time && leb clock time)) where
     pub time-is : badTime (decode xs .part) time ≡ late
-    unfolding badTime decode
-    time-is = sym is-late
+    unfolding badTime
+    time-is = rw (← clock-is) (sym is-late)
 
     pub order-late : (root reset : ℕ) → late ≡ true → refusalOf logPlaces (decode xs) (order time root reset) ≡ 12
     unfolding refusalOf firstOf
     order-late root reset e = rw (time-is, e)
 
-    pub order-known : (root reset : ℕ) → late ≡ false → (b : Bool) → not (ltb root (getD xs 3 0) && leb reset lastReset) ≡ b
+    pub order-known : (root reset : ℕ) → late ≡ false → (roots : ℕ) → roots ≡ rootsIn (decode xs) → (b : Bool) → not (ltb root roots && leb reset lastReset) ≡ b
         → refusalOf logPlaces (decode xs) (order time root reset) ≡ cond b 13 0
-    unfolding refusalOf firstOf isRoot
-    order-known root reset e b f = rw (time-is, e, roots-are, f)
+    unfolding refusalOf firstOf isRoot rootsIn
+    order-known root reset e roots r b f = rw (time-is, e, ← r, f)
 
     pub lockout-late : (level root : ℕ) → late ≡ true → refusalOf logPlaces (decode xs) (lockout time level root) ≡ 12
     unfolding refusalOf firstOf
@@ -84,9 +77,9 @@ module _ (xs : List ℕ) (ready : memoryRefusal xs ≡ 0) where
     unfolding refusalOf firstOf
     remaining-late rule e = rw (time-is, e)
 
-    pub remaining-known : (rule : ℕ) → late ≡ false → (b : Bool) → not (ltb rule (getD xs 4 0)) ≡ b → refusalOf logPlaces (decode xs) (remaining time rule) ≡ cond b 13 0
+    pub remaining-known : (rule : ℕ) → late ≡ false → (accounts : ℕ) → accounts ≡ length (decode xs .part .accounts) → (b : Bool) → not (ltb rule accounts) ≡ b → refusalOf logPlaces (decode xs) (remaining time rule) ≡ cond b 13 0
     unfolding refusalOf firstOf
-    remaining-known rule e b f = rw (time-is, e, rules-are, f)
+    remaining-known rule e accounts r b f = rw (time-is, e, ← r, f)
 
     either-level : (level : ℕ) (a c : Bool) → (eqb level 0 && a || eqb level 1 && c) ≡ (leb level 1 && cond (eqb level 0) a c)
     either-level zero true c = refl
@@ -95,11 +88,41 @@ module _ (xs : List ℕ) (ready : memoryRefusal xs ≡ 0) where
     either-level (suc (suc n)) a c =
         rw (ne-eqb (suc (suc n)) 0 (λ e. omega arith), ne-eqb (suc (suc n)) 1 (λ e. omega arith), lt-leb (suc (suc n)) 1 (omega arith))
 
-    pub lockout-known : (level root : ℕ) → late ≡ false → (b : Bool) → not (eqb level 0 && ltb root (getD xs 3 0) || eqb level 1 && eqb root 0) ≡ b
+    pub lockout-known : (level root : ℕ) → late ≡ false → (roots : ℕ) → roots ≡ rootsIn (decode xs) → (b : Bool) → not (eqb level 0 && ltb root roots || eqb level 1 && eqb root 0) ≡ b
         → refusalOf logPlaces (decode xs) (lockout time level root) ≡ cond b 13 0
-    unfolding refusalOf firstOf isRoot
-    lockout-known level root e b f =
-        rw (time-is, e, roots-are, ← either-level level (ltb root (getD xs 3 0)) (eqb root 0), f)
+    unfolding refusalOf firstOf isRoot rootsIn
+    lockout-known level root e roots r b f = rw (time-is, e, ← r, ← either-level level (ltb root roots) (eqb root 0), f)
+
+-- a call on any memory: it is refused by the number that it meets, and meets none on sound memory alone, where the machine takes it
+module _ (xs : List ℕ) (call : Call) where
+  pub meets-memory : (n : ℕ) → n ≡ memoryRefusal xs → (n ≡ 0 → ⊥) → n ≡ refusalIn xs call
+  unfolding refusalIn
+  meets-memory n e h = rw (← e, ne-eqb n 0 h)
+
+  pub refused-by : (n : ℕ) → n ≡ refusalIn xs call → (n ≡ 0 → ⊥) → (Refused n ≡ callAnswer xs call) × (xs ≡ callMemory xs call)
+  unfolding refusalIn
+  refused-by n e h = go (memoryRefusal xs) refl n e h
+    where
+      go : (k : ℕ) → memoryRefusal xs ≡ k → (n : ℕ) → n ≡ cond (eqb k 0) (refusalOf logPlaces (decode xs) call) k → (n ≡ 0 → ⊥)
+          → (Refused n ≡ callAnswer xs call) × (xs ≡ callMemory xs call)
+      go zero k zero e h = absurd (h refl)
+      go zero k (suc n) e h = refused xs k call n (sym e)
+      go (suc j) k n e h = call-refused xs call n ((rw (ne-eqb (suc j) 0 (λ z. omega arith)) at e) ∙ sym k) h
+
+  taken-by : refusalIn xs call ≡ 0 → (memoryRefusal xs ≡ 0) × (refusalOf logPlaces (decode xs) call ≡ 0)
+  unfolding refusalIn
+  taken-by e = go (memoryRefusal xs) refl e
+    where
+      go : (k : ℕ) → memoryRefusal xs ≡ k → cond (eqb k 0) (refusalOf logPlaces (decode xs) call) k ≡ 0
+          → (memoryRefusal xs ≡ 0) × (refusalOf logPlaces (decode xs) call ≡ 0)
+      go zero k e = (k, e)
+      go (suc j) k e = absurd (suc-ne-zero j (rw (ne-eqb (suc j) 0 (λ z. omega arith)) at e))
+
+  pub ready-by : refusalIn xs call ≡ 0 → memoryRefusal xs ≡ 0
+  ready-by e = taken-by e .0
+
+  pub accepted-by : refusalIn xs call ≡ 0 → refusalOf logPlaces (decode xs) call ≡ 0
+  accepted-by e = taken-by e .1
 
 -- after every call a sound memory is sound again
 module _ (xs : List ℕ) (ready : memoryRefusal xs ≡ 0) where
@@ -123,8 +146,7 @@ module _ (xs : List ℕ) (ready : memoryRefusal xs ≡ 0) where
 
     pub after-decoded : decode (stored (done xs call) xs) ≡ done xs call
     after-decoded =
-        let s = done xs call in
-        decode-stored s (sound-fits s after-sound (made-parts (s .part .profile) (given-is-made (s .part .profile) (after-sound .given)))) xs
+        decode-stored (done xs call) (sound-state-fits (done xs call) after-sound) xs
 
   pub kept-sound : (call : Call) → isSound (callMemory xs call) ≡ true
   unfolding callMemory
@@ -134,18 +156,50 @@ module _ (xs : List ℕ) (ready : memoryRefusal xs ≡ 0) where
       pick true = sound
       pick false = sound-stored (step (decode xs) call .after) xs (step-after call)
 
--- a lockout that is not refused names a root below 64
-pub lockout-root : (level root roots : ℕ) → roots ≤ 64 → (eqb level 0 && ltb root roots || eqb level 1 && eqb root 0) ≡ true → root < 64
-lockout-root level root roots few h = go (eqb level 0) (ltb root roots) refl (eqb level 1) (eqb root 0) refl h
+-- the root of an order that is not refused is below 64
+pub order-low : (xs : List ℕ) (time root reset : ℕ) → refusalIn xs (order time root reset) ≡ 0 → root < 64
+unfolding rootsIn
+order-low xs time root reset e =
+    let call = order time root reset in
+    omega (arith, orderable logPlaces (decode xs) time root reset (accepted-by xs call e) .1, laid xs (ready-by xs call e) .fits .roots)
+
+-- what an order leaves that is not refused: a state is laid out there, the one after its reset
+module _ (xs : List ℕ) (time root reset : ℕ) (e : refusalIn xs (order time root reset) ≡ 0) {ys : List ℕ}
+    (is : ys ≡ stored (after (resetting time root (effectOf reset)) (decode xs)) xs) where
+  pub order-laid : Laid ys
+  unfolding judged ordered
+  order-laid =
+      let call = order time root reset in
+      subst Laid (sym is) (after-laid xs (ready-by xs call e) call (accepted-by xs call e))
+
+  pub order-decoded : decode ys ≡ after (resetting time root (effectOf reset)) (decode xs)
+  unfolding judged ordered
+  order-decoded =
+      let call = order time root reset in
+      ap decode is ∙ after-decoded xs (ready-by xs call e) call (accepted-by xs call e)
+
+-- the root that a lockout names which is not refused is below 64
+pub lockout-root : (xs : List ℕ) (time level root : ℕ) → refusalIn xs (lockout time level root) ≡ 0 → root < 64
+unfolding refusalOf firstOf isRoot rootsIn
+lockout-root xs time level root e =
+    let few : rootsIn (decode xs) ≤ 64 = laid xs (ready-by xs (lockout time level root) e) .fits .roots in
+    let c = accepted-by xs (lockout time level root) e in
+    go (badTime (decode xs .part) time) level few c
   where
-    go : (a b : Bool) → ltb root roots ≡ b → (c d : Bool) → eqb root 0 ≡ d → (a && b || c && d) ≡ true → root < 64
-    go a true p c d q h = omega (arith, ltb-true root roots p)
-    go true false p true true q h = omega (arith, eqb-true root 0 q)
-    go false false p true true q h = omega (arith, eqb-true root 0 q)
-    go true false p true false q h = absurd (false≢true h)
-    go false false p true false q h = absurd (false≢true h)
-    go true false p false d q h = absurd (false≢true h)
-    go false false p false d q h = absurd (false≢true h)
+    go : (late : Bool) (n : ℕ) → rootsIn (decode xs) ≤ 64
+        → _≡_ {A = ℕ} (cond late 12 (cond (not (leb n 1 && cond (eqb n 0) (ltb root (rootsIn (decode xs))) (eqb root 0))) 13 0)) 0 → root < 64
+    go true n few c = absurd (omega arith)
+    go false zero few c = low (ltb root (rootsIn (decode xs))) refl c
+      where
+        low : (b : Bool) → ltb root (rootsIn (decode xs)) ≡ b → _≡_ {A = ℕ} (cond (not b) 13 0) 0 → root < 64
+        low true t c = omega (arith, few, ltb-true root (rootsIn (decode xs)) t)
+        low false t c = absurd (omega arith)
+    go false (suc n) few c = none (leb (suc n) 1) (eqb root 0) refl (rw (ne-eqb (suc n) 0 (λ z. omega arith)) at c)
+      where
+        none : (a b : Bool) → eqb root 0 ≡ b → _≡_ {A = ℕ} (cond (not (a && b)) 13 0) 0 → root < 64
+        none true true t c = omega (arith, eqb-true root 0 t)
+        none true false t c = absurd (omega arith)
+        none false b t c = absurd (omega arith)
 
 -- a call that leaves the machine's state leaves the memory, number for number
 same-memory : (xs : List ℕ) (call : Call) → step (decode xs) call .after ≡ decode xs → callMemory xs call ≡ xs

@@ -14,7 +14,7 @@ use Rattle.state.specs.State.{size, decode, stored}
 use Rattle.machine.specs.State.{State, rulesIn, armed}
 use Rattle.rules.specs.Valid.{hasRate}
 use Rattle.machine.specs.Calls.{Call}
-use Rattle.machine.specs.Refusals.{firstOf, badTime, isRoot, used}
+use Rattle.machine.specs.Refusals.{firstOf, badTime, isRoot, used, refusalOf}
 use Rattle.machine.specs.Judge.{step, logPlaces, isRefusal}
 use Rattle.machine.specs.Locks.{verdictOf}
 use Rattle.state.specs.Sound.{isSound}
@@ -58,6 +58,10 @@ clearMemory xs = cond (isShort xs) xs (zeros size ++ drop size xs)
 unfoldable pub memoryRefusal : List ℕ → ℕ
 memoryRefusal xs = firstOf ((isShort xs, 1) ∷ (eqb (markOf xs) 0, 4) ∷ (not (isSound xs), 2) ∷ [])
 
+-- the refusal that a call meets, 0 for none: that of the memory, else that of the machine
+unfoldable pub refusalIn : List ℕ → Call → ℕ
+refusalIn xs call = cond (eqb (memoryRefusal xs) 0) (refusalOf logPlaces (decode xs) call) (memoryRefusal xs)
+
 unfoldable pub callAnswer : List ℕ → Call → Answer
 callAnswer xs call = cond (eqb (memoryRefusal xs) 0) (step (decode xs) call .answer) (Refused (memoryRefusal xs))
 
@@ -65,11 +69,29 @@ callAnswer xs call = cond (eqb (memoryRefusal xs) 0) (step (decode xs) call .ans
 unfoldable pub callMemory : List ℕ → Call → List ℕ
 callMemory xs call = cond (isRefusal (callAnswer xs call)) xs (stored (step (decode xs) call .after) xs)
 
+-- an offer's refusal by its numbers, before the log is looked at
+unfoldable pub offerRefusal : List ℕ → Offer → ℕ
+offerRefusal xs o =
+    cond (eqb (memoryRefusal xs) 0)
+    (firstOf
+    ((badTime (decode xs .part) (o .time), 12)
+    ∷ (not (isRoot (decode xs .part) (o .root) && isIn units (o .unit)), 13)
+    ∷ (not (isIn premiums (o .premium) && isIn offers (o .contracts)), 14)
+    ∷ []))
+    (memoryRefusal xs)
+
 -- the profile has a rate rule, and the log's places hold entries inside the longest window
 unfoldable pub isFull : State → Offer → Bool
 isFull s o = hasRate (rulesIn s) && leb logPlaces (used s (o .time))
 
--- a sound memory, and an offer that is neither refused by its numbers nor locked out
+-- a sound memory, and an offer that its numbers do not refuse
+pub record Met (xs : List ℕ) (o : Offer) : Type 0 where
+  pub ready : memoryRefusal xs ≡ 0
+  pub timely : badTime (decode xs .part) (o .time) ≡ false
+  pub known : not (isRoot (decode xs .part) (o .root) && isIn units (o .unit)) ≡ false
+  pub priced : not (isIn premiums (o .premium) && isIn offers (o .contracts)) ≡ false
+
+-- and that is not locked out
 pub record Granting (xs : List ℕ) (o : Offer) : Type 0 where
   pub ready : memoryRefusal xs ≡ 0
   pub asked : Asked xs o

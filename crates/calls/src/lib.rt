@@ -10,7 +10,7 @@ ghost use Rattle.machine.specs.Entries.{areOrdered};
 ghost use Rattle.machine.specs.Calls.{Call};
 ghost use Rattle.state.specs.State.{decode};
 ghost use Rattle.state.specs.Laid.{Laid};
-ghost use Rattle.calls.specs.Calls.{isFull, Granting, memoryRefusal, callAnswer, callMemory, armAnswer, armMemory, clearAnswer, clearMemory, sayAnswer, sayMemory, textAnswer, textMemory};
+ghost use Rattle.calls.specs.Calls.{isFull, Granting, memoryRefusal, refusalIn, offerRefusal, callAnswer, callMemory, armAnswer, armMemory, clearAnswer, clearMemory, sayAnswer, sayMemory, textAnswer, textMemory};
 use machine::Answer;
 use machine::Offer;
 use measures::Contracts;
@@ -19,6 +19,9 @@ use measures::TenThousandths;
 use measures::TenThousandthsRead;
 use measures::Time;
 use profile::Reading;
+
+// How many numbers a unit's memory takes.
+pub const SIZE: usize = state::SIZE;
 
 // What Clear answers.
 pub enum Clearing {
@@ -37,10 +40,10 @@ pub fn arm(m: &mut [u64], text: &[u8]) -> Reading
     ensures { λ r. ⌜ r ≡ armAnswer (now (m .entry)) (now (text .entry)) ⌝ }
     ensures { λ r. ⌜ now (m .exit) ≡ armMemory (now (m .entry)) (now (text .entry)) ⌝ }
 {
-    if m.len() < 1866 {
+    if m.len() < state::SIZE {
         return Reading::Refused { number: 1, line: 0 };
     }
-    if m[0] != 0 {
+    if m[state::MARK] != 0 {
         return Reading::Refused { number: 3, line: 0 };
     }
     let scan = profile::read(text);
@@ -61,10 +64,10 @@ pub fn clear(m: &mut [u64]) -> Clearing
     ensures { λ r. ⌜ r ≡ clearAnswer (now (m .entry)) ⌝ }
     ensures { λ r. ⌜ now (m .exit) ≡ clearMemory (now (m .entry)) ⌝ }
 {
-    if m.len() < 1866 {
+    if m.len() < state::SIZE {
         return Clearing::Refused(1);
     }
-    log::blank(&mut m[..1866]);
+    log::blank(&mut m[..state::SIZE]);
     Clearing::Done
 }
 
@@ -72,10 +75,10 @@ pub fn clear(m: &mut [u64]) -> Clearing
 pub fn memory_refusal(m: &[u64]) -> u64
     ensures { λ r. ⌜ r ≡ memoryRefusal (now (m .entry)) ⌝ }
 {
-    if m.len() < 1866 {
+    if m.len() < state::SIZE {
         return 1;
     }
-    if m[0] == 0 {
+    if m[state::MARK] == 0 {
         return 4;
     }
     if !state::is_sound(m) {
@@ -92,7 +95,7 @@ pub fn status(m: &[u64]) -> Answer
     if refusal != 0 {
         return Answer::Refused(refusal);
     }
-    Answer::Standing(bits::locked_roots(m[8], m[9]))
+    Answer::Standing(locks::standing(&m[state::LOCKS..state::LOG]))
 }
 
 // Whether a time is out of range, or below the clock.
@@ -102,23 +105,34 @@ fn bad_time(time: u64, clock: u64) -> bool
     !(measures::is_in(time, 0, Time::MOST) & (clock <= time))
 }
 
+// The refusal that an order meets, 0 for none.
+fn order_refusal(m: &[u64], time: u64, root: u64, reset: u64) -> u64
+    ensures { λ r. ⌜ r ≡ refusalIn (now (m .entry)) (Call.order time root reset) ⌝ }
+{
+    let refusal = memory_refusal(m);
+    if refusal != 0 {
+        return refusal;
+    }
+    if bad_time(time, state::clock_in(m)) {
+        return 12;
+    }
+    if !((root < state::roots_in(m)) & (reset <= 3)) {
+        return 13;
+    }
+    0
+}
+
 // An order: the reset comes first, then the verdict.
 pub fn order(m: &mut [u64], time: u64, root: u64, reset: u64) -> Answer
     ensures { λ r. ⌜ r ≡ callAnswer (now (m .entry)) (Call.order time root reset) ⌝ }
     ensures { λ r. ⌜ now (m .exit) ≡ callMemory (now (m .entry)) (Call.order time root reset) ⌝ }
 {
-    let refusal = memory_refusal(m);
+    let refusal = order_refusal(m, time, root, reset);
     if refusal != 0 {
         return Answer::Refused(refusal);
     }
-    if bad_time(time, m[1]) {
-        return Answer::Refused(12);
-    }
-    if !((root < m[3]) & (reset <= 3)) {
-        return Answer::Refused(13);
-    }
     reset::reset_state(m, time, root, reset);
-    let verdict = reset::verdict(m, root);
+    let verdict = locks::verdict(&m[state::LOCKS..state::LOG], root);
     Answer::Judged {
         verdict,
         grant: 0,
@@ -127,20 +141,31 @@ pub fn order(m: &mut [u64], time: u64, root: u64, reset: u64) -> Answer
     }
 }
 
+// The refusal that a lockout meets, 0 for none.
+fn lockout_refusal(m: &[u64], time: u64, level: u64, root: u64) -> u64
+    ensures { λ r. ⌜ r ≡ refusalIn (now (m .entry)) (Call.lockout time level root) ⌝ }
+{
+    let refusal = memory_refusal(m);
+    if refusal != 0 {
+        return refusal;
+    }
+    if bad_time(time, state::clock_in(m)) {
+        return 12;
+    }
+    if !((level == 0) & (root < state::roots_in(m)) | (level == 1) & (root == 0)) {
+        return 13;
+    }
+    0
+}
+
 // A lockout of a root or the firm, which the user asks for.
 pub fn lockout(m: &mut [u64], time: u64, level: u64, root: u64) -> Answer
     ensures { λ r. ⌜ r ≡ callAnswer (now (m .entry)) (Call.lockout time level root) ⌝ }
     ensures { λ r. ⌜ now (m .exit) ≡ callMemory (now (m .entry)) (Call.lockout time level root) ⌝ }
 {
-    let refusal = memory_refusal(m);
+    let refusal = lockout_refusal(m, time, level, root);
     if refusal != 0 {
         return Answer::Refused(refusal);
-    }
-    if bad_time(time, m[1]) {
-        return Answer::Refused(12);
-    }
-    if !((level == 0) & (root < m[3]) | (level == 1) & (root == 0)) {
-        return Answer::Refused(13);
     }
     reset::lock_out(m, time, level, root);
     Answer::Judged {
@@ -183,15 +208,14 @@ fn is_full(m: &[u64], o: Offer) -> bool
     requires { ⌜ Laid (now m) × (areOrdered 0 (o .time) (decode (now m) .log) ≡ true) ⌝ }
     ensures { λ r. ⌜ r ≡ isFull (decode (now (m .entry))) o ⌝ }
 {
-    let entries = m[5] as usize;
-    if entries < 512 {
+    if state::entries_in(m) < log::PLACES {
         return false;
     }
     let longest = grant::longest_window(m);
     if longest == 0 {
         return false;
     }
-    512 <= log::recent_entries(&m[842..1866], entries, longest, o.time)
+    log::PLACES <= log::recent_entries(&m[state::LOG..state::SIZE], longest, o.time)
 }
 
 // The lesser of two numbers.
@@ -221,27 +245,38 @@ fn granted(m: &mut [u64], o: Offer) -> Answer
     }
 }
 
+// The refusal that an offer meets before the log is looked at, 0 for none.
+fn offer_refusal(m: &[u64], o: Offer) -> u64
+    ensures { λ r. ⌜ r ≡ offerRefusal (now (m .entry)) o ⌝ }
+{
+    let refusal = memory_refusal(m);
+    if refusal != 0 {
+        return refusal;
+    }
+    if bad_time(o.time, state::clock_in(m)) {
+        return 12;
+    }
+    if !((o.root < state::roots_in(m)) & measures::is_in(o.unit, 0, 3)) {
+        return 13;
+    }
+    if !is_priced(o) {
+        return 14;
+    }
+    0
+}
+
 // An offered fill, cut to what the rules allow.
 pub fn offer(m: &mut [u64], o: Offer) -> Answer
     ensures { λ r. ⌜ r ≡ callAnswer (now (m .entry)) (Call.offer o) ⌝ }
     ensures { λ r. ⌜ now (m .exit) ≡ callMemory (now (m .entry)) (Call.offer o) ⌝ }
 {
-    let refusal = memory_refusal(m);
+    let refusal = offer_refusal(m, o);
     if refusal != 0 {
         return Answer::Refused(refusal);
     }
-    if bad_time(o.time, m[1]) {
-        return Answer::Refused(12);
-    }
-    if !((o.root < m[3]) & measures::is_in(o.unit, 0, 3)) {
-        return Answer::Refused(13);
-    }
-    if !is_priced(o) {
-        return Answer::Refused(14);
-    }
-    let verdict = reset::verdict(m, o.root);
+    let verdict = locks::verdict(&m[state::LOCKS..state::LOG], o.root);
     if verdict != 0 {
-        m[1] = o.time;
+        state::put_clock(m, o.time);
         return Answer::Judged {
             verdict,
             grant: 0,
@@ -252,21 +287,32 @@ pub fn offer(m: &mut [u64], o: Offer) -> Answer
     granted(m, o)
 }
 
+// The refusal that a question after what remains meets, 0 for none.
+fn remaining_refusal(m: &[u64], time: u64, rule: u64) -> u64
+    ensures { λ r. ⌜ r ≡ refusalIn (now (m .entry)) (Call.remaining time rule) ⌝ }
+{
+    let refusal = memory_refusal(m);
+    if refusal != 0 {
+        return refusal;
+    }
+    if bad_time(time, state::clock_in(m)) {
+        return 12;
+    }
+    if !(rule < state::accounts_in(m) as u64) {
+        return 13;
+    }
+    0
+}
+
 // What remains of a rule's limit at a time.
 pub fn remaining(m: &[u64], time: u64, rule: u64) -> Answer
     ensures { λ r. ⌜ r ≡ callAnswer (now (m .entry)) (Call.remaining time rule) ⌝ }
 {
-    let refusal = memory_refusal(m);
+    let refusal = remaining_refusal(m, time, rule);
     if refusal != 0 {
         return Answer::Refused(refusal);
     }
-    if bad_time(time, m[1]) {
-        return Answer::Refused(12);
-    }
-    if !(rule < m[4]) {
-        return Answer::Refused(13);
-    }
-    let left = reset::left(m, time, rule as usize);
+    let left = counting::left(m, time, rule as usize);
     Answer::Left(left.number())
 }
 

@@ -102,7 +102,7 @@ fn answer_all(memory: &mut [u64], input: &mut [u8], output: &mut [u8]) {
 
 // A read brings at most 4,096 records, and their lines take at most 126 bytes each.
 fn main() {
-    let mut memory = [0u64; 1866];
+    let mut memory = [0u64; lines::SIZE];
     if !arm(&mut memory) {
         return;
     }

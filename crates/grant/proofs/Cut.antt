@@ -3,7 +3,7 @@ use Prim.Native.Nat.{ℕ, _+_, _≤_, _<_, min}
 use native.Mathlib.Numerals.{add-one}
 use native.Mathlib.Omega.{arith}
 use mathlib.Core.Path.{_≡_, refl, sym, ap, ap₂, _∙_}
-use mathlib.Core.Bool.{Bool, true, false, cond, not, _&&_, and-false, and-true, false≢true}
+use mathlib.Core.Bool.{Bool, true, false, cond, not, _&&_, and-false, and-true}
 use mathlib.Core.List.{List, [], _∷_}
 use lib.ListN.{length, getD, drop, drop-of-length-le}
 use lib.Seq.{drop-cons}
@@ -11,13 +11,11 @@ use lib.Dec.{eqb}
 use borrow.Author.Tests.{not-true, not-false}
 use Rattle.laws.specs.Tests.{and-l}
 use Rattle.rules.specs.Amounts.{numberOf, amountIn}
-use Rattle.rules.specs.Rules.{levelOf, covers, isRate, countedOf}
+use Rattle.rules.specs.Rules.{levelOf, covers}
 use Rattle.rules.specs.Allowance.{allowance}
 use Rattle.rules.specs.declared.Level.{Level}
 use Rattle.rules.specs.declared.Level.the-variants.{Firm, Root}
 use Rattle.rules.specs.declared.Limit.{Limit}
-use Rattle.rules.specs.declared.Kind.{Kind}
-use Rattle.rules.specs.declared.Kind.the-variants.{Rate, Absolute}
 use Rattle.rules.specs.declared.Scope.{Scope}
 use Rattle.rules.specs.declared.Scope.the-variants.{EveryFill, WholeRoot, OneUnit}
 use Rattle.rules.specs.declared.Rule.{Rule}
@@ -25,8 +23,6 @@ use Rattle.rules.specs.declared.Amount.{Amount}
 use Rattle.rules.specs.declared.Account.{Account}
 use Rattle.rules.proofs.Amounts.{number-in}
 use Rattle.machine.specs.declared.Entry.{Entry}
-use Rattle.machine.specs.Entries.{entryShare}
-use Rattle.laws.specs.Folds.{sumOf}
 use Rattle.machine.specs.Offers.{counted, coversOffer, sameLevel}
 use Rattle.machine.specs.declared.Offer.{Offer}
 use Rattle.grant.specs.Grant.{concerns, allowedBy, lowered, leastAt}
@@ -113,27 +109,6 @@ allows-is log o a {rule} is sum e =
     e
     ∙ ap₂ (λ (l : Limit) (n : ℕ). allowance l n (o .premium) (o .contracts)) (ap (λ (r : Rule). r .limit) is)
     (ap numberOf sum ∙ number-in (rule .limit) (counted log (o .time) a))
-
--- what a rule has counted: its total if it is absolute, else what the log counts for it
-module _ (log : List Entry) (time : ℕ) (a : Account) {rule : Rule} {b : Bool} (is : rule ≡ a .rule) (test : b ≡ not (isRate (rule .kind))) where
-  kind-is : b ≡ not (isRate (a .rule .kind))
-  kind-is = test ∙ ap (λ (r : Rule). not (isRate (r .kind))) is
-
-  pub counted-total : {n : ℕ} → b ≡ true → n ≡ numberOf (a .total) → n ≡ counted log time a
-  unfolding counted isRate countedOf
-  counted-total {n = n} absolute e = go (a .rule .kind) (sym kind-is ∙ absolute)
-    where
-      go : (kind : Kind) → not (isRate kind) ≡ true → n ≡ countedOf kind (numberOf (a .total)) (sumOf (entryShare (a .rule) time) log)
-      go (Rate w) h = absurd (false≢true h)
-      go Absolute h = e
-
-  pub counted-log : {n : ℕ} → b ≡ false → n ≡ sumOf (entryShare rule time) log → n ≡ counted log time a
-  unfolding counted isRate countedOf
-  counted-log {n = n} rate e = go (a .rule .kind) (sym kind-is ∙ rate)
-    where
-      go : (kind : Kind) → not (isRate kind) ≡ false → n ≡ countedOf kind (numberOf (a .total)) (sumOf (entryShare (a .rule) time) log)
-      go (Rate w) h = e ∙ ap (λ (r : Rule). sumOf (entryShare r time) log) is
-      go Absolute h = absurd (false≢true (sym h))
 
 -- after i rules the cut of a level is n
 pub record Cut (log : List Entry) (o : Offer) (accounts : List Account) (level : Level) (i n : ℕ) : Type 0 where

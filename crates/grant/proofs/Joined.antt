@@ -1,31 +1,23 @@
--- The log and the marks after a grant, and the state that a fill leaves. Assumes nothing.
-use Prim.Native.Nat.{ℕ, _+_, _≤_, _<_}
+-- The log after a grant: whether a fill joins it, and that the state with it still fits. Assumes nothing.
+use Prim.Native.Nat.{ℕ, _≤_, _<_}
 use native.Mathlib.Omega.{arith}
-use mathlib.Core.Path.{_≡_, refl, sym, ap, ap₂, _∙_, subst}
-use mathlib.Core.Bool.{Bool, true, false, cond, not, _&&_, _||_}
+use mathlib.Core.Path.{_≡_, refl, sym, ap, _∙_, subst}
+use mathlib.Core.Bool.{Bool, true, false, cond, not, _&&_}
 use mathlib.Core.List.{List, [], _∷_, _++_}
-use lib.ListN.{length, getD, take, drop, set, length-append}
+use lib.ListN.{length, length-append}
 use lib.Dec.{ltb}
 use borrow.Author.Tests.{ltb-true, not-true, not-false}
 use Rattle.laws.specs.Tests.{and-l, and-r}
 use Rattle.measures.specs.Ranges.{offers}
-use Rattle.bits.specs.Locks.{withBit}
-use Rattle.tables.specs.RulePlace.{rulesTable}
-use Rattle.tables.specs.EntryPlace.{logTable, flagNumber}
 use Rattle.machine.specs.Entries.{isEntry, recent}
-use Rattle.machine.specs.declared.Entry.{Entry}
 use Rattle.machine.specs.State.{State, rulesIn, rootsIn}
 use Rattle.rules.specs.Valid.{hasRate}
 use Rattle.machine.specs.Offers.{entryOf, longest, joinedLog}
 use Rattle.tables.proofs.EntryPlace.{entry-valid}
-use Rattle.profile.specs.Profile.{rootsTable}
-use Rattle.state.specs.State.{size, totalsTable, totalsIn, encode, stored, decode}
-use Rattle.state.specs.Laid.{Fits, Laid, withLog}
-use Rattle.state.proofs.Stores.{put-other}
+use Rattle.state.specs.Laid.{Fits, withLog}
 use Rattle.machine.specs.declared.Offer.{Offer}
 use Rattle.machine.proofs.Lists.{every-keep, every-join}
-use Rattle.grant.specs.Grant.{Asked, HasRoom, marked}
-use Rattle.grant.specs.declared.Trips.{Trips}
+use Rattle.grant.specs.Grant.{Asked, HasRoom}
 use Rattle.grant.proofs.Windows.{rate-longest}
 
 -- whether a fill joins the log, by the longest window
@@ -96,33 +88,3 @@ fits-joined {o = o} {grant = grant} s f a r most room = go (hasRate (rulesIn s))
     go true p false q = f
     go false p true q = f
     go false p false q = f
-
--- another log in its places, with its number
-pub put-log : {xs ys : List ℕ} {n : ℕ} (log : List Entry) → Laid xs → n ≡ length log → ys ≡ logTable log
-    → set (take 842 xs ++ (ys ++ drop 1024 (drop 842 xs))) 5 n ≡ stored (withLog (decode xs) log) xs
-put-log {xs} log h count is =
-    (λ k. set (take 842 (h .is k) ++ (is k ++ drop 1024 (drop 842 (h .is k)))) 5 (count k)) ∙ put-other (decode xs) (h .fits) xs log
-
-flag-or : (a b : Bool) → cond a 1 (flagNumber b) ≡ flagNumber (a || b)
-flag-or true b = refl
-flag-or false b = refl
-
-marks-of : (s : State) (xs : List ℕ) (o : Offer) (trips : Trips)
-    → set (set (set (stored s xs) 1 (o .time)) 6 (cond (trips .firm) 1 (getD (stored s xs) 6 0))) 8
-    (cond (trips .root) (withBit (getD (stored s xs) 8 0) (o .root)) (getD (stored s xs) 8 0))
-    ≡ stored (marked s o trips) xs
-unfolding stored encode marked
-marks-of s xs o trips =
-    ap (λ (n : ℕ). (1 ∷ o .time ∷ s .part .profile .firm ∷ length (s .part .profile .roots) ∷ length (s .part .profile .rules) ∷ length (s .log) ∷ n ∷ flagNumber (s .part .locks .firmByUser)
-    ∷ cond (trips .root) (withBit (s .part .locks .tripped) (o .root)) (s .part .locks .tripped) ∷ s .part .locks .byUser
-    ∷ (rootsTable (s .part .profile .roots) ++ (rulesTable (s .part .profile .rules) ++ (totalsTable (totalsIn (s .part .accounts)) ++ logTable (s .log)))))
-    ++ drop size xs) (flag-or (trips .firm) (s .part .locks .firmTripped))
-
--- clock and trips in their places
-pub put-marks : {xs : List ℕ} {v w : ℕ} (o : Offer) (trips : Trips) → Laid xs → v ≡ cond (trips .firm) 1 (getD xs 6 0)
-    → w ≡ cond (trips .root) (withBit (getD xs 8 0) (o .root)) (getD xs 8 0)
-    → set (set (set xs 1 (o .time)) 6 v) 8 w ≡ stored (marked (decode xs) o trips) xs
-put-marks {xs} o trips h p q =
-    ap₂ (λ (v w : ℕ). set (set (set xs 1 (o .time)) 6 v) 8 w) p q
-    ∙ ap (λ (l : List ℕ). set (set (set l 1 (o .time)) 6 (cond (trips .firm) 1 (getD l 6 0))) 8 (cond (trips .root) (withBit (getD l 8 0) (o .root)) (getD l 8 0))) (h .is)
-    ∙ marks-of (decode xs) xs o trips

@@ -2,23 +2,23 @@
 use Prim.Native.Nat.{ℕ, _≤_, _<_, min}
 use native.Mathlib.Omega.{arith}
 use mathlib.Core.Path.{_≡_, sym, ap, ap₂, _∙_, subst}
-use mathlib.Core.Bool.{Bool, true, cond, _&&_, _||_}
+use mathlib.Core.Bool.{Bool, true, _&&_, _||_}
 use mathlib.Core.List.{List, map}
 use lib.ListN.{length}
 use lib.Dec.{ltb, eqb}
 use Rattle.measures.specs.Ranges.{offers}
-use Rattle.bits.specs.Locks.{withBit}
 use Rattle.rules.specs.declared.Level.{Level}
 use Rattle.rules.specs.declared.Level.the-variants.{Firm, Root}
-use Rattle.rules.specs.declared.Account.{Account}
 use Rattle.machine.specs.Entries.{areOrdered}
-use Rattle.machine.specs.State.{State, rulesIn}
+use Rattle.machine.specs.State.{State, Locks, rulesIn}
 use Rattle.machine.specs.Offers.{joinedLog, credited, levelTrips}
 use Rattle.state.specs.State.{stored, decode}
-use Rattle.state.specs.Laid.{Fits, withLog, withAccounts}
+use Rattle.state.specs.Laid.{Laid, withClock, withLocks, withLog, withAccounts}
+use Rattle.state.proofs.After.{Holds, held-state, held-laid, step-on, fits-clock}
+use Rattle.state.proofs.Done.{fits-all}
+use Rattle.locks.proofs.Numbers.{trips-told}
 use Rattle.machine.specs.declared.Offer.{Offer}
 use Rattle.machine.specs.Deeds.{granted, filling, clockAfter}
-use Rattle.machine.specs.Locks.{trippedBy}
 use Rattle.machine.specs.Step.{after, partAfter, accountsAfter, locksAfter, logAfter}
 use Rattle.machine.proofs.Grants.{grant-le}
 use Rattle.grant.specs.Grant.{leastAt, reachedAt, Asked, HasRoom, AllCredited, marked, Ready}
@@ -26,8 +26,7 @@ use Rattle.grant.specs.declared.Cuts.{Cuts}
 use Rattle.grant.specs.declared.Reached.{Reached}
 use Rattle.grant.specs.declared.Trips.{Trips}
 use Rattle.grant.proofs.Trip.{grant-cuts, level-trips}
-use Rattle.grant.proofs.After.{Holds, held-state, held-laid, step-on}
-use Rattle.grant.proofs.Accounts.{done-end, fits-done}
+use Rattle.grant.proofs.Credits.{credit-fair}
 use Rattle.grant.proofs.Joined.{fits-joined}
 
 -- a state with its totals after a grant, and with its log after it
@@ -36,6 +35,10 @@ paid o grant s = withAccounts s (map (credited o grant) (s .part .accounts))
 
 abbrev pub logged : Offer → ℕ → State → State
 logged o grant s = withLog s (joinedLog (rulesIn s) (s .log) o grant)
+
+-- the clock's number is stored
+pub clock-holds : {xs ys : List ℕ} {time : ℕ} → Laid xs → ys ≡ stored (withClock (decode xs) time) xs → Holds (withClock (decode xs) time) xs ys
+clock-holds {time = time} h e = record { fits = fits-clock (h .fits) time; is = e }
 
 module _ {xs : List ℕ} {o : Offer} {grant : ℕ} {cuts : Cuts} (r : Ready xs o grant cuts) where
   pub grant-in : grant ≤ offers .most
@@ -47,14 +50,7 @@ module _ {xs : List ℕ} {o : Offer} {grant : ℕ} {cuts : Cuts} (r : Ready xs o
 
   -- the totals
   pub paid-holds : {ys : List ℕ} {reached : Reached} → AllCredited o grant xs ys reached → Holds (paid o grant (decode xs)) xs ys
-  paid-holds c =
-      let s = decode xs in
-      record {
-        fits =
-            subst (λ (l : List Account). Fits (withAccounts s l)) (done-end (credited o grant) (length (s .part .accounts)) (s .part .accounts) (omega arith))
-            (fits-done o grant s (length (s .part .accounts)) (r .asked .laid .fits));
-        is = c .memory;
-      }
+  paid-holds c = record { fits = fits-all (credit-fair o grant) (r .asked .laid .fits); is = c .memory }
 
   module _ {ys : List ℕ} (h : Holds (paid o grant (decode xs)) xs ys) where
     pub paid-asked : Asked ys o
@@ -65,13 +61,11 @@ module _ {xs : List ℕ} {o : Offer} {grant : ℕ} {cuts : Cuts} (r : Ready xs o
       premium = r .asked .premium;
       contracts = r .asked .contracts;
       time = r .asked .time;
+      ordered = subst (λ (s : State). areOrdered 0 (o .time) (s .log) ≡ true) (sym (held-state h)) (r .asked .ordered);
     }
 
     pub paid-has-room : HasRoom (decode ys) o grant
     paid-has-room = subst (λ (s : State). HasRoom s o grant) (sym (held-state h)) paid-room
-
-    pub paid-ordered : areOrdered 0 (o .time) (decode ys .log) ≡ true
-    paid-ordered = subst (λ (s : State). areOrdered 0 (o .time) (s .log) ≡ true) (sym (held-state h)) (r .ordered)
 
     -- the log
     pub logged-holds : {zs : List ℕ} → zs ≡ stored (logged o grant (decode ys)) ys → Holds (logged o grant (paid o grant (decode xs))) xs zs
@@ -106,23 +100,11 @@ module _ {xs : List ℕ} {o : Offer} {grant : ℕ} {cuts : Cuts} (r : Ready xs o
   module _ {trips : Trips} (root : trips .root ≡ levelTrips (decode xs .log) o grant (decode xs .part .accounts) (Root (o .root)))
       (firm : trips .firm ≡ levelTrips (decode xs .log) o grant (decode xs .part .accounts) Firm) where
     filled-is : marked (logged o grant (paid o grant (decode xs))) o trips ≡ after (filling granted o grant) (decode xs)
-    unfolding marked after partAfter clockAfter accountsAfter locksAfter logAfter trippedBy rulesIn
+    unfolding after partAfter clockAfter accountsAfter locksAfter logAfter rulesIn
     filled-is =
         let s = decode xs in
-        λ k. record {
-          part = record {
-            clock = o .time;
-            profile = s .part .profile;
-            accounts = map (credited o grant) (s .part .accounts);
-            locks = record {
-              firmTripped = firm k || s .part .locks .firmTripped;
-              firmByUser = s .part .locks .firmByUser;
-              tripped = cond (root k) (withBit (s .part .locks .tripped) (o .root)) (s .part .locks .tripped);
-              byUser = s .part .locks .byUser;
-            };
-          };
-          log = joinedLog (rulesIn s) (s .log) o grant;
-        }
+        ap (λ (l : Locks). withLocks (withClock (logged o grant (paid o grant s)) (o .time)) l)
+        (trips-told (levelTrips (s .log) o grant (s .part .accounts)) (o .root) (s .part .locks) root firm)
 
     pub filled-memory : {zs ws : List ℕ} → Holds (logged o grant (paid o grant (decode xs))) xs zs → ws ≡ stored (marked (decode zs) o trips) zs
         → ws ≡ stored (after (filling granted o grant) (decode xs)) xs

@@ -19,7 +19,7 @@ use Rattle.machine.specs.Offers.{windowOf, longest}
 use Rattle.machine.specs.State.{State, rulesIn}
 use Rattle.machine.specs.Remaining.{noAccount}
 use Rattle.state.specs.Laid.{Fits}
-use Rattle.grant.proofs.Memory.{many-accounts, account-rule}
+use Rattle.state.proofs.Laid.{many-accounts, account-rule}
 use Rattle.grant.proofs.Cut.{next}
 
 -- after i rules the longest window is n

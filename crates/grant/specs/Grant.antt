@@ -3,10 +3,9 @@ use Prim.Native.Nat.{ℕ, _+_, _<_, min}
 use mathlib.Core.Path.{_≡_}
 use mathlib.Core.Bool.{Bool, true, false, cond, _&&_, _||_}
 use mathlib.Core.List.{List, [], _∷_, map}
-use lib.ListN.{length, getD, set}
+use lib.ListN.{length, set}
 use lib.Dec.{eqb}
 use Rattle.measures.specs.Ranges.{In, times, units, premiums, offers}
-use Rattle.bits.specs.Locks.{withBit}
 use Rattle.rules.specs.Amounts.{numberOf}
 use Rattle.rules.specs.Rules.{levelOf, isRate, added, ceiling}
 use Rattle.rules.specs.Allowance.{allowance}
@@ -19,11 +18,12 @@ use Rattle.rules.specs.Valid.{isTotal, hasRate}
 use Rattle.machine.specs.Entries.{areOrdered, recent}
 use Rattle.machine.specs.State.{State, rulesIn}
 use Rattle.machine.specs.Offers.{counted, coversOffer, sameLevel, grantOf, levelTrips, credited, longest}
-use Rattle.machine.specs.Remaining.{noAccount}
 use Rattle.state.specs.State.{stored, decode}
-use Rattle.state.specs.Laid.{Laid, withAccounts}
+use Rattle.state.specs.Laid.{Laid, accountIn, withClock, withLocks, withAccounts}
+use Rattle.locks.specs.Locks.{tripping}
 use Rattle.machine.specs.declared.Offer.{Offer}
 use Rattle.machine.specs.Deeds.{granted, filling}
+use Rattle.machine.specs.Locks.{trippedBy}
 use Rattle.machine.specs.Step.{after}
 use Rattle.grant.specs.declared.Cuts.{Cuts}
 use Rattle.grant.specs.declared.Reached.{Reached}
@@ -55,11 +55,7 @@ fills o grant a =
 unfoldable pub reachedAt : Offer → ℕ → List Account → Level → Bool
 reachedAt o grant accounts level = anyOf (λ a. concerns o level a && fills o grant a) accounts
 
--- the account of rule i in a memory
-abbrev pub accountAt : List ℕ → ℕ → Account
-accountAt xs i = getD (decode xs .part .accounts) i noAccount
-
--- a memory in which a state is laid out, and an offer in range for it
+-- a memory in which a state is laid out, its log in order of time, and an offer in range for it that is no earlier than any entry
 pub record Asked (xs : List ℕ) (o : Offer) : Type 0 where
   pub laid : Laid xs
   pub root : o .root < length (decode xs .part .profile .roots)
@@ -67,6 +63,7 @@ pub record Asked (xs : List ℕ) (o : Offer) : Type 0 where
   pub premium : In premiums (o .premium)
   pub contracts : In offers (o .contracts)
   pub time : In times (o .time)
+  pub ordered : areOrdered 0 (o .time) (decode xs .log) ≡ true
 
 -- each total of a state is in its range
 abbrev pub areTotals : State → Bool
@@ -74,8 +71,8 @@ areTotals s = every (λ a. isTotal (a .rule) (a .total)) (s .part .accounts)
 
 -- what rule i leaves of the cuts
 pub record Lowered (xs : List ℕ) (o : Offer) (i : ℕ) (before after : Cuts) : Type 0 where
-  pub root : after .root ≡ lowered (decode xs .log) o (Root (o .root)) (accountAt xs i) (before .root)
-  pub firm : after .firm ≡ lowered (decode xs .log) o Firm (accountAt xs i) (before .firm)
+  pub root : after .root ≡ lowered (decode xs .log) o (Root (o .root)) (accountIn xs i) (before .root)
+  pub firm : after .firm ≡ lowered (decode xs .log) o Firm (accountIn xs i) (before .firm)
 
 -- the least that the rules of the offer's root allow, and of the firm
 pub record AreCuts (xs : List ℕ) (o : Offer) (cuts : Cuts) : Type 0 where
@@ -84,9 +81,9 @@ pub record AreCuts (xs : List ℕ) (o : Offer) (cuts : Cuts) : Type 0 where
 
 -- rule i of a memory is credited with a grant, and after tells whether it, or one before, stands at its limit
 pub record Credited (o : Offer) (grant i : ℕ) (xs ys : List ℕ) (before after : Reached) : Type 0 where
-  pub memory : ys ≡ stored (withAccounts (decode xs) (set (decode xs .part .accounts) i (credited o grant (accountAt xs i)))) xs
-  pub root : after .root ≡ (before .root || (concerns o (Root (o .root)) (accountAt xs i) && fills o grant (accountAt xs i)))
-  pub firm : after .firm ≡ (before .firm || (concerns o Firm (accountAt xs i) && fills o grant (accountAt xs i)))
+  pub memory : ys ≡ stored (withAccounts (decode xs) (set (decode xs .part .accounts) i (credited o grant (accountIn xs i)))) xs
+  pub root : after .root ≡ (before .root || (concerns o (Root (o .root)) (accountIn xs i) && fills o grant (accountIn xs i)))
+  pub firm : after .firm ≡ (before .firm || (concerns o Firm (accountIn xs i) && fills o grant (accountIn xs i)))
 
 -- every rule of a memory is credited with a grant, and after tells which levels have an absolute rule at its limit
 pub record AllCredited (o : Offer) (grant : ℕ) (xs ys : List ℕ) (after : Reached) : Type 0 where
@@ -99,30 +96,16 @@ abbrev pub HasRoom : State → Offer → ℕ → Type 0
 HasRoom s o grant = hasRate (rulesIn s) ≡ true → 0 < grant → length (recent (longest (rulesIn s)) (o .time) (s .log)) < 512
 
 -- a state at the offer's time, with the trips of its root and of the firm
-unfoldable pub marked : State → Offer → Trips → State
-marked s o trips = record {
-  part = record {
-    clock = o .time;
-    profile = s .part .profile;
-    accounts = s .part .accounts;
-    locks = record {
-      firmTripped = trips .firm || s .part .locks .firmTripped;
-      firmByUser = s .part .locks .firmByUser;
-      tripped = cond (trips .root) (withBit (s .part .locks .tripped) (o .root)) (s .part .locks .tripped);
-      byUser = s .part .locks .byUser;
-    };
-  };
-  log = s .log;
-}
+abbrev pub marked : State → Offer → Trips → State
+marked s o trips = withLocks (withClock s (o .time)) (trippedBy (tripping (trips .root) (trips .firm)) (o .root) (s .part .locks))
 
--- an offer with its cuts and its grant, for which the log, in order of time and with no entry later than the offer, has a place
+-- an offer with its cuts and its grant, for which the log has a place
 pub record Ready (xs : List ℕ) (o : Offer) (grant : ℕ) (cuts : Cuts) : Type 0 where
   pub asked : Asked xs o
   pub totals : areTotals (decode xs) ≡ true
   pub levels : AreCuts xs o cuts
   pub least : grant ≡ grantOf (decode xs .log) o (decode xs .part .accounts)
   pub room : HasRoom (decode xs) o grant
-  pub ordered : areOrdered 0 (o .time) (decode xs .log) ≡ true
 
 -- the memory after a grant, and the levels that it trips
 pub record Filled (xs : List ℕ) (o : Offer) (grant : ℕ) (ys : List ℕ) (trips : Trips) : Type 0 where

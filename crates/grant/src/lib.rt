@@ -1,26 +1,23 @@
 // An offer's grant: what the rules of each level allow of it, and what a fill leaves in memory.
 ghost use mathlib.Core.Path.{_≡_};
-ghost use mathlib.Core.Bool.{true, cond, not};
+ghost use mathlib.Core.Bool.{true, not};
 ghost use Prim.Native.Nat.{_≤_, _<_, min, max};
 ghost use lib.ListN.{length};
 ghost use Rattle.measures.specs.Ranges.{premiums, offers};
 ghost use Rattle.rules.specs.Rules.{levelOf, isRate};
-ghost use Rattle.rules.specs.declared.Level.the-variants.{Firm, Root};
-ghost use Rattle.machine.specs.Entries.{areOrdered};
-ghost use Rattle.machine.specs.Offers.{counted, sameLevel, windowOf, longest, joinedLog};
+ghost use Rattle.rules.specs.declared.Level.the-variants.{Firm};
+ghost use Rattle.machine.specs.Offers.{sameLevel, windowOf, longest, joinedLog};
 ghost use Rattle.log.specs.Memo.{RightTwo};
-ghost use Rattle.rules.specs.Amounts.{amountIn};
 ghost use Rattle.rules.specs.Valid.{isTotal};
 ghost use Rattle.machine.specs.State.{rulesIn};
 ghost use Rattle.state.specs.State.{stored, decode};
-ghost use Rattle.state.specs.Laid.{Laid, withLog};
-ghost use Rattle.grant.specs.Grant.{accountAt, Asked, areTotals, Lowered, AreCuts, Credited, AllCredited, HasRoom, marked, Ready, Filled};
+ghost use Rattle.state.specs.Laid.{Laid, accountIn, withLog};
+ghost use Rattle.grant.specs.Grant.{Asked, areTotals, Lowered, AreCuts, Credited, AllCredited, HasRoom, marked, Ready, Filled};
 use log::Two;
 use machine::Entry;
 use machine::Offer;
 use measures::Contracts;
 use measures::TenThousandths;
-use rules::Amount;
 use rules::Kind;
 use rules::Rule;
 use rules::Scope;
@@ -91,45 +88,6 @@ fn window(rule: Rule) -> u64
     }
 }
 
-// Rule i of a memory.
-fn rule_in(m: &[u64], i: usize) -> Rule
-    requires { ⌜ Laid (now m) × (i < length (decode (now m) .part .accounts)) ⌝ }
-    ensures { λ r. ⌜ r ≡ accountAt (now (m .entry)) i .rule ⌝ }
-{
-    let rules = &m[74..586];
-    let at = i * 2;
-    let first = rules[at];
-    let second = rules[at + 1];
-    tables::rule_of(first, second)
-}
-
-// What a rule has counted, and the memos after the log was asked for it.
-struct Told {
-    amount: Amount,
-    memos: Two,
-}
-
-// What rule i has counted at a time: its total, or what the log counts for it.
-fn counted_by(m: &[u64], i: usize, rule: Rule, time: u64, memos: Two) -> Told
-    requires { ⌜ Laid (now m) × (i < length (decode (now m) .part .accounts)) × (rule ≡ accountAt (now m) i .rule) × RightTwo (decode (now m) .log) memos ⌝ }
-    ensures { λ r. ⌜ (r .amount ≡ amountIn (rule .limit) (counted (decode (now (m .entry)) .log) time (accountAt (now (m .entry)) i))) × RightTwo (decode (now (m .entry)) .log) (r .memos) ⌝ }
-{
-    let limit = rule.limit;
-    if is_absolute(rule) {
-        let at = 586 + i;
-        let amount = limit.amount(m[at]);
-        return Told { amount, memos };
-    }
-    let k = m[5] as usize;
-    let next = log::recalled(&m[842..1866], k, rule, time, memos);
-    let last = next.last;
-    let amount = log::sum_in(limit, last);
-    Told {
-        amount,
-        memos: next,
-    }
-}
-
 // The cuts after some rules, and the memos after these.
 struct Lowering {
     cuts: Cuts,
@@ -141,11 +99,11 @@ fn lower(m: &[u64], o: Offer, i: usize, cuts: Cuts, memos: Two) -> Lowering
     requires { ⌜ Asked (now m) o × (i < length (decode (now m) .part .accounts)) × RightTwo (decode (now m) .log) memos ⌝ }
     ensures { λ r. ⌜ Lowered (now (m .entry)) o i cuts (r .cuts) × RightTwo (decode (now (m .entry)) .log) (r .memos) ⌝ }
 {
-    let rule = rule_in(m, i);
+    let rule = state::rule_in(m, i);
     if !rule.covers(o.root, o.unit) {
         return Lowering { cuts, memos };
     }
-    let told = counted_by(m, i, rule, o.time, memos);
+    let told = counting::counted_by(m, i, rule, o.time, memos);
     let next = told.memos;
     let counted = told.amount;
     let most = rule.allowance(counted, TenThousandths(o.premium), Contracts(o.contracts));
@@ -174,14 +132,14 @@ pub fn cuts_of(m: &[u64], o: Offer) -> Cuts
     requires { ⌜ Asked (now m) o ⌝ }
     ensures { λ r. ⌜ AreCuts (now (m .entry)) o r ⌝ }
 {
-    let rules = m[4] as usize;
+    let accounts = state::accounts_in(m);
     let mut cuts = Cuts {
         root: o.contracts,
         firm: o.contracts,
     };
     let mut memos = log::no_memos();
     let mut i: usize = 0;
-    while i < rules {
+    while i < accounts {
         let after = lower(m, o, i, cuts, memos);
         cuts = after.cuts;
         memos = after.memos;
@@ -195,39 +153,31 @@ pub fn longest_window(m: &[u64]) -> u64
     requires { ⌜ Laid (now m) ⌝ }
     ensures { λ r. ⌜ r ≡ longest (rulesIn (decode (now (m .entry)))) ⌝ }
 {
-    let rules = m[4] as usize;
+    let accounts = state::accounts_in(m);
     let mut longest: u64 = 0;
     let mut i: usize = 0;
-    while i < rules {
-        let rule = rule_in(m, i);
+    while i < accounts {
+        let rule = state::rule_in(m, i);
         longest = greatest(window(rule), longest);
         i += 1;
     }
     longest
 }
 
-// One of two numbers, by a test.
-fn pick(test: bool, a: u64, b: u64) -> u64
-    ensures { λ r. ⌜ r ≡ cond test a b ⌝ }
-{
-    if test { a } else { b }
-}
-
 // Rule i is credited with a grant: its total rises if it is absolute and covers the offer.
 fn credit_one(m: &mut [u64], o: Offer, grant: u64, i: usize, before: Reached) -> Reached
-    requires { ⌜ Laid (now m) × (i < length (decode (now m) .part .accounts)) × (isTotal (accountAt (now m) i .rule) (accountAt (now m) i .total) ≡ true) × (o .premium ≤ premiums .most) × (grant ≤ offers .most) ⌝ }
+    requires { ⌜ Laid (now m) × (i < length (decode (now m) .part .accounts)) × (isTotal (accountIn (now m) i .rule) (accountIn (now m) i .total) ≡ true) × (o .premium ≤ premiums .most) × (grant ≤ offers .most) ⌝ }
     ensures { λ r. ⌜ Credited o grant i (now (m .entry)) (now (m .exit)) before r ⌝ }
 {
-    let rule = rule_in(m, i);
+    let rule = state::rule_in(m, i);
     if !(is_absolute(rule) & rule.covers(o.root, o.unit)) {
         return before;
     }
     let limit = rule.limit;
-    let at = 586 + i;
-    let total = limit.amount(m[at]);
+    let total = state::total_in(m, i, limit);
     let account = rule.filled(total, TenThousandths(o.premium), Contracts(grant));
     let after = account.total;
-    m[at] = after.number();
+    state::put_total(m, i, after);
     let full = rule.reached(after);
     let firm = is_firm(rule);
     Reached {
@@ -241,13 +191,13 @@ fn credit(m: &mut [u64], o: Offer, grant: u64) -> Reached
     requires { ⌜ Asked (now m) o × (areTotals (decode (now m)) ≡ true) × (grant ≤ offers .most) ⌝ }
     ensures { λ r. ⌜ AllCredited o grant (now (m .entry)) (now (m .exit)) r ⌝ }
 {
-    let rules = m[4] as usize;
+    let accounts = state::accounts_in(m);
     let mut reached = Reached {
         root: false,
         firm: false,
     };
     let mut i: usize = 0;
-    while i < rules {
+    while i < accounts {
         reached = credit_one(m, o, grant, i, reached);
         i += 1;
     }
@@ -256,14 +206,13 @@ fn credit(m: &mut [u64], o: Offer, grant: u64) -> Reached
 
 // The fill joins the log, if the grant is above 0 and a rule is a rate rule.
 fn join_log(m: &mut [u64], o: Offer, grant: u64)
-    requires { ⌜ Asked (now m) o × (grant ≤ offers .most) × HasRoom (decode (now m)) o grant × (areOrdered 0 (o .time) (decode (now m) .log) ≡ true) ⌝ }
+    requires { ⌜ Asked (now m) o × (grant ≤ offers .most) × HasRoom (decode (now m)) o grant ⌝ }
     ensures { λ _. ⌜ now (m .exit) ≡ stored (withLog (decode (now (m .entry))) (joinedLog (rulesIn (decode (now (m .entry)))) (decode (now (m .entry)) .log) o grant)) (now (m .entry)) ⌝ }
 {
     let longest = longest_window(m);
     if !((0 < longest) & (0 < grant)) {
         return;
     }
-    let k = m[5] as usize;
     let e = Entry {
         time: o.time,
         root: o.root,
@@ -273,8 +222,7 @@ fn join_log(m: &mut [u64], o: Offer, grant: u64)
         forroot: true,
         forfirm: true,
     };
-    let n = log::join(&mut m[842..1866], k, longest, o.time, e);
-    m[5] = n as u64;
+    log::join(&mut m[state::LOG..state::SIZE], longest, o.time, e);
 }
 
 // The clock and the trips.
@@ -282,12 +230,13 @@ fn mark(m: &mut [u64], o: Offer, trips: Trips)
     requires { ⌜ Laid (now m) × (o .root < length (decode (now m) .part .profile .roots)) ⌝ }
     ensures { λ _. ⌜ now (m .exit) ≡ stored (marked (decode (now (m .entry))) o trips) (now (m .entry)) ⌝ }
 {
-    let firm = pick(trips.firm, 1, m[6]);
-    let tripped = m[8];
-    let roots = pick(trips.root, bits::mark(tripped, o.root), tripped);
-    m[1] = o.time;
-    m[6] = firm;
-    m[8] = roots;
+    state::put_clock(m, o.time);
+    locks::trip(
+        &mut m[state::LOCKS..state::LOG],
+        o.root,
+        trips.root,
+        trips.firm,
+    );
 }
 
 // Memory after a grant: totals, log, clock and trips. Returns the trips.

@@ -13,6 +13,9 @@ use profile::Reading as Arming;
 use records::Event;
 use records::Reading;
 
+// How many numbers the memory takes that a program lends.
+pub const SIZE: usize = calls::SIZE;
+
 // Whether the unit is armed, and how many bytes the line about it has.
 pub struct Opened {
     pub armed: bool,

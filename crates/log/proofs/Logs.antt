@@ -1,21 +1,25 @@
 -- A log that holds entries: each is in range, and its numbers are the table of them. Assumes nothing.
 use Prim.Native.Nat.{ℕ, _+_, _*_, _≤_, _<_}
-use mathlib.Core.Path.{_≡_, sym, ap, _∙_}
-use mathlib.Core.Bool.{true, _&&_}
-use mathlib.Core.List.{List, [], _∷_}
+use mathlib.Core.Path.{_≡_, sym, ap, _∙_, subst}
+use mathlib.Core.Bool.{Bool, true, false, _&&_}
+use mathlib.Core.List.{List, [], _∷_, _++_, map, append-nil}
 use native.Mathlib.Omega.{arith}
-use lib.ListN.{length, getD, take, drop}
+use lib.ListN.{length, getD, take, drop, set, length-map, drop-of-length-le}
+use lib.Seq.{take-all}
+use borrow.Author.Tests.{lt-leb, le-leb}
 use Rattle.laws.specs.Tests.{and-l, and-r}
 use Rattle.laws.specs.Lists.{same, same-eq}
 use Rattle.tables.specs.Tables.{allZero, places, isPlace, placesPass}
 use Rattle.laws.specs.Folds.{every}
 use Rattle.machine.specs.Entries.{isEntry, areOrdered}
 use Rattle.machine.specs.declared.Entry.{Entry}
+use Rattle.machine.specs.Order.{unflagged, unflaggedLog}
+use Rattle.rules.specs.declared.Level.{Level}
 use Rattle.tables.specs.EntryPlace.{entryAt, entryNumbers, isEntryPlace, logTable}
 use Rattle.tables.proofs.Parts.{two, and-i}
-use Rattle.tables.proofs.Tables.{Codec, pass-each, each-pass, is-table, valid-places, length-table, place-table, rest-table}
+use Rattle.tables.proofs.Tables.{Codec, pass-each, each-pass, is-table, valid-places, length-table, length-places, place-table, places-table, rest-table}
 use Rattle.tables.proofs.EntryPlace.{entry-codec, entry-wider}
-use Rattle.log.specs.Log.{logHolds, Held, entriesOf}
+use Rattle.log.specs.Log.{entriesHold, logHolds, Held, HeldIn, entriesOf, placesIn, entriesIn, logNumbers}
 
 -- an entry of at most 64 roots in its place
 pub codec : Codec 2 (isEntry 64) entryAt entryNumbers
@@ -51,8 +55,8 @@ module _ {k : ℕ} {xs : List ℕ} (h : Held k xs) where
   held-table = is-table codec 512 k xs (h .size) (pass-each 2 (isEntryPlace 64) k xs (h .entries)) (h .rest)
 
 -- a log that passes the test holds entries, and so does the table of entries in range
-pub log-held : (n clock k : ℕ) (xs : List ℕ) → n ≤ 64 → length xs ≡ 1024 → k ≤ 512 → logHolds n clock k xs ≡ true → Held k xs
-unfolding logHolds
+pub log-held : (n clock k : ℕ) (xs : List ℕ) → n ≤ 64 → length xs ≡ 1024 → k ≤ 512 → entriesHold n clock k xs ≡ true → Held k xs
+unfolding entriesHold
 log-held n clock k xs few size fits h =
     let pass = placesPass 2 (isEntryPlace n) k xs in
     let ordered = areOrdered 0 clock (places 2 entryAt k xs) in
@@ -72,3 +76,49 @@ table-held es fits v = record {
   entries = each-pass 2 (isEntryPlace 64) (length es) (logTable es) (λ i l. place-table codec 512 es i (entryAt []) v l);
   rest = rest-table codec 512 es;
 }
+
+-- a table of the log with its count in front: the places that take the place of others, and a count with them
+nothing-after : (xs : List ℕ) → length xs ≡ 1024 → drop 1024 xs ≡ []
+nothing-after xs l = drop-of-length-le xs {i = 1024} (omega arith)
+
+pub put-table : (xs ys : List ℕ) (es : List Entry) → length xs ≡ 1025 → getD xs 0 0 ≡ length es → ys ≡ logTable es
+    → take 1 xs ++ (ys ++ drop 1024 (drop 1 xs)) ≡ logNumbers es
+put-table [] ys es l k e = absurd (omega arith)
+put-table (x ∷ xs) ys es l k e = (λ i. k i ∷ (e i ++ nothing-after xs (omega arith) i)) ∙ ap (λ (q : List ℕ). length es ∷ q) (append-nil (logTable es))
+
+pub set-table : (xs ys : List ℕ) (n : ℕ) (es : List Entry) → length xs ≡ 1025 → n ≡ length es → ys ≡ logTable es
+    → set (take 1 xs ++ (ys ++ drop 1024 (drop 1 xs))) 0 n ≡ logNumbers es
+set-table [] ys n es l k e = absurd (omega arith)
+set-table (x ∷ xs) ys n es l k e = (λ i. k i ∷ (e i ++ nothing-after xs (omega arith) i)) ∙ ap (λ (q : List ℕ). length es ∷ q) (append-nil (logTable es))
+
+-- as many entries as the table says
+pub entries-many : (xs : List ℕ) → length (entriesIn xs) ≡ getD xs 0 0
+entries-many xs = length-places codec (getD xs 0 0) (placesIn xs)
+
+-- the test of a table, by its count
+module _ (n clock : ℕ) (xs : List ℕ) where
+  pub log-many : 512 < getD xs 0 0 → false ≡ logHolds n clock xs
+  unfolding logHolds
+  log-many h = rw (lt-leb _ _ h)
+
+  pub log-few : getD xs 0 0 ≤ 512 → (b : Bool) → b ≡ entriesHold n clock (getD xs 0 0) (placesIn xs) → b ≡ logHolds n clock xs
+  unfolding logHolds
+  log-few h b e = e ∙ sym (ap (λ (a : Bool). a && entriesHold n clock (getD xs 0 0) (placesIn xs)) (le-leb _ _ h))
+
+-- the table of entries in range holds them, and they are read from it again
+pub numbers-held : (es : List Entry) → length es ≤ 512 → every (isEntry 64) es ≡ true → HeldIn (logNumbers es)
+numbers-held es fits v =
+    let h = table-held es fits v in
+    record { long = omega (arith, h .size); held = subst (Held (length es)) (sym (take-all 1024 (logTable es) (omega (arith, h .size)))) h }
+
+pub numbers-entries : (es : List Entry) → length es ≤ 512 → every (isEntry 64) es ≡ true → entriesIn (logNumbers es) ≡ es
+numbers-entries es fits v =
+    let h = table-held es fits v in
+    ap (entriesOf (length es)) (take-all 1024 (logTable es) (omega (arith, h .size))) ∙ places-table codec 512 es v
+
+-- the table without the flags of some levels, its count as it was
+pub put-unflagged : (zeroes : Level → Bool) (xs ys : List ℕ) → length xs ≡ 1025 → ys ≡ logTable (unflaggedLog zeroes (entriesIn xs))
+    → take 1 xs ++ (ys ++ drop 1024 (drop 1 xs)) ≡ logNumbers (unflaggedLog zeroes (entriesIn xs))
+unfolding unflaggedLog
+put-unflagged zeroes xs ys l e =
+    put-table xs ys (map (unflagged zeroes) (entriesIn xs)) l (sym (length-map (entriesIn xs) (unflagged zeroes) ∙ entries-many xs)) e

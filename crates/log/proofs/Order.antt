@@ -14,7 +14,7 @@ use Rattle.tables.specs.Tables.{allZero, places, placesPass}
 use Rattle.tables.specs.EntryPlace.{entryAt, isEntryPlace}
 use Rattle.tables.proofs.Parts.{same-test, and-i}
 use Rattle.tables.proofs.Tables.{pass-on, places-on}
-use Rattle.log.specs.Log.{logHolds}
+use Rattle.log.specs.Log.{entriesHold}
 use Rattle.machine.specs.Entries.{areOrdered}
 
 -- the places from i on hold entries in order, none earlier than `from`
@@ -109,6 +109,6 @@ unfolding leftHolds placesPass places areOrdered
 left-end n clock k xs from i h = let z : k - i ≡ 0 = omega arith in rw z (and-true (leb from 86_399_999 && leb from clock))
 
 -- the whole test, from what is left at the start
-pub holds-is : (n clock k : ℕ) (xs : List ℕ) → logHolds n clock k xs ≡ (leftHolds n clock k xs 0 0 && allZero (drop (k * 2) xs))
-unfolding logHolds leftHolds
+pub holds-is : (n clock k : ℕ) (xs : List ℕ) → entriesHold n clock k xs ≡ (leftHolds n clock k xs 0 0 && allZero (drop (k * 2) xs))
+unfolding entriesHold leftHolds
 holds-is n clock k xs = rw (sub-zero k, zero-mul 2)

@@ -3,7 +3,7 @@ use Prim.Native.Nat.{ℕ, _+_, _*_, _≤_}
 use mathlib.Core.Path.{_≡_}
 use mathlib.Core.Bool.{Bool, true, not, cond, _&&_}
 use mathlib.Core.List.{List, [], _∷_, _++_}
-use lib.ListN.{length, drop}
+use lib.ListN.{length, getD, take, drop}
 use lib.Seq.{sets}
 use lib.Dec.{leb, ltb}
 use Rattle.rules.specs.Rules.{levelOf, share}
@@ -16,8 +16,8 @@ use Rattle.machine.specs.declared.Entry.{Entry}
 use Rattle.machine.specs.Entries.{areOrdered, isRecent, recent}
 
 -- the first k of the log's places hold entries of n roots, in order of time, none later than the clock, and the others 0
-unfoldable pub logHolds : ℕ → ℕ → ℕ → List ℕ → Bool
-logHolds n clock k xs = placesPass 2 (isEntryPlace n) k xs && areOrdered 0 clock (places 2 entryAt k xs) && allZero (drop (k * 2) xs)
+unfoldable pub entriesHold : ℕ → ℕ → ℕ → List ℕ → Bool
+entriesHold n clock k xs = placesPass 2 (isEntryPlace n) k xs && areOrdered 0 clock (places 2 entryAt k xs) && allZero (drop (k * 2) xs)
 
 -- the numbers of the log's 512 places: the first k places hold entries, of at most 64 roots, and the others 0
 pub record Held (k : ℕ) (xs : List ℕ) : Type 0 where
@@ -26,9 +26,30 @@ pub record Held (k : ℕ) (xs : List ℕ) : Type 0 where
   pub entries : placesPass 2 (isEntryPlace 64) k xs ≡ true
   pub rest : allZero (drop (k * 2) xs) ≡ true
 
+-- the places of the log's table, which has its count in front
+abbrev pub placesIn : List ℕ → List ℕ
+placesIn xs = take 1024 (drop 1 xs)
+
+-- the log's table holds as many entries as it says, so
+unfoldable pub logHolds : ℕ → ℕ → List ℕ → Bool
+logHolds n clock xs = leb (getD xs 0 0) 512 && entriesHold n clock (getD xs 0 0) (placesIn xs)
+
+-- a table of the log that holds as many entries as it says
+pub record HeldIn (xs : List ℕ) : Type 0 where
+  pub long : length xs ≡ 1025
+  pub held : Held (getD xs 0 0) (placesIn xs)
+
 -- the entries in the first k places
 abbrev pub entriesOf : ℕ → List ℕ → List Entry
 entriesOf k xs = places 2 entryAt k xs
+
+-- the entries of the log's table
+abbrev pub entriesIn : List ℕ → List Entry
+entriesIn xs = entriesOf (getD xs 0 0) (placesIn xs)
+
+-- the numbers of the log's table: how many entries there are, and their places
+abbrev pub logNumbers : List Entry → List ℕ
+logNumbers es = length es ∷ logTable es
 
 -- the entries after one joined: those inside a window at a time, and then the new one
 abbrev pub joined : ℕ → ℕ → Entry → List Entry → List Entry

@@ -14,7 +14,7 @@ ghost use lib.Seq.{sets};
 ghost use Rattle.rules.specs.Amounts.{amountIn};
 ghost use Rattle.tables.specs.Tables.{zeros};
 ghost use Rattle.tables.specs.EntryPlace.{flagNumber, entryNumbers, entryAt, isEntryPlace, logTable};
-ghost use Rattle.log.specs.Log.{logHolds, Held, entriesOf, Kept, Joined};
+ghost use Rattle.log.specs.Log.{entriesHold, logHolds, Held, HeldIn, entriesOf, entriesIn, logNumbers, joined, Kept, Joined};
 ghost use Rattle.log.specs.Memo.{sumIn, noMemo, memoFor, recalledOf, Right, RightTwo, isFor, sievedIn};
 ghost use Rattle.log.specs.Sieve.{firstTime, sieveOf, passes, sifted, withoutFlags};
 use machine::Effect;
@@ -29,10 +29,15 @@ use rules::Limit;
 use rules::Rule;
 use rules::Scope;
 
+// How many entries the log has room for, and how many numbers its table takes: a count, then two for each place.
+pub const PLACES: usize = 512;
+
+pub const SIZE: usize = 1 + 2 * PLACES;
+
 // Whether the first k places hold entries with so many roots, in order of time, none later than the clock, and the others 0.
-pub fn is_log(log: &[u64], k: usize, roots: u64, clock: u64) -> bool
+fn are_entries(log: &[u64], k: usize, roots: u64, clock: u64) -> bool
     requires { ⌜ (length (now log) ≡ 1024) × (k ≤ 512) ⌝ }
-    ensures { λ r. ⌜ r ≡ logHolds roots clock k (now (log .entry)) ⌝ }
+    ensures { λ r. ⌜ r ≡ entriesHold roots clock k (now (log .entry)) ⌝ }
 {
     let mut good = true;
     let mut from: u64 = 0;
@@ -49,6 +54,18 @@ pub fn is_log(log: &[u64], k: usize, roots: u64, clock: u64) -> bool
     }
     // No time is above the last one, and a time in range has nothing above it.
     good & (from <= Time::MOST) & (from <= clock) & tables::is_zero(&log[k * 2..])
+}
+
+// Whether the log's table holds as many entries as it says, with so many roots, in order of time, none later than the clock.
+pub fn is_log(log: &[u64], roots: u64, clock: u64) -> bool
+    requires { ⌜ length (now log) ≡ 1025 ⌝ }
+    ensures { λ r. ⌜ r ≡ logHolds roots clock (now (log .entry)) ⌝ }
+{
+    let k = log[0] as usize;
+    if PLACES < k {
+        return false;
+    }
+    are_entries(&log[1..SIZE], k, roots, clock)
 }
 
 // The entry at place i of a log.
@@ -227,13 +244,15 @@ fn memo_of(log: &[u64], k: usize, s: Sieve) -> Memo
     }
 }
 
-// What the k entries of the log count for a rule at a time.
-pub fn counted(log: &[u64], k: usize, rule: Rule, time: u64) -> Amount
-    requires { ⌜ Held k (now log) × (isRule 64 rule ≡ true) ⌝ }
-    ensures { λ r. ⌜ r ≡ amountIn (rule .limit) (sumOf (entryShare rule time) (entriesOf k (now (log .entry)))) ⌝ }
+// What the entries of the log count for a rule at a time.
+pub fn counted(log: &[u64], rule: Rule, time: u64) -> Amount
+    requires { ⌜ HeldIn (now log) × (isRule 64 rule ≡ true) ⌝ }
+    ensures { λ r. ⌜ r ≡ amountIn (rule .limit) (sumOf (entryShare rule time) (entriesIn (now (log .entry)))) ⌝ }
 {
     let limit = rule.limit;
-    sum_in(limit, memo_of(log, k, sieve_of(rule, time)))
+    let k = log[0] as usize;
+    let s = sieve_of(rule, time);
+    sum_in(limit, memo_of(&log[1..SIZE], k, s))
 }
 
 // Whether a memo is that of a sieve.
@@ -244,9 +263,9 @@ fn is_for(s: Sieve, m: Memo) -> bool
 }
 
 // Memos of which the last is that of a rule at a time: one of those before, or a new one.
-pub fn recalled(log: &[u64], k: usize, rule: Rule, time: u64, before: Two) -> Two
-    requires { ⌜ Held k (now log) × (isRule 64 rule ≡ true) × RightTwo (entriesOf k (now log)) before ⌝ }
-    ensures { λ r. ⌜ RightTwo (entriesOf k (now (log .entry))) r × (sumIn (rule .limit) (r .last) ≡ sumOf (entryShare rule time) (entriesOf k (now (log .entry)))) × (r ≡ recalledOf (sieveOf rule time) (entriesOf k (now (log .entry))) before) ⌝ }
+pub fn recalled(log: &[u64], rule: Rule, time: u64, before: Two) -> Two
+    requires { ⌜ HeldIn (now log) × (isRule 64 rule ≡ true) × RightTwo (entriesIn (now log)) before ⌝ }
+    ensures { λ r. ⌜ RightTwo (entriesIn (now (log .entry))) r × (sumIn (rule .limit) (r .last) ≡ sumOf (entryShare rule time) (entriesIn (now (log .entry)))) × (r ≡ recalledOf (sieveOf rule time) (entriesIn (now (log .entry))) before) ⌝ }
 {
     let s = sieve_of(rule, time);
     let last = before.last;
@@ -260,7 +279,8 @@ pub fn recalled(log: &[u64], k: usize, rule: Rule, time: u64, before: Two) -> Tw
             other: last,
         };
     }
-    let new = memo_of(log, k, s);
+    let k = log[0] as usize;
+    let new = memo_of(&log[1..SIZE], k, s);
     Two {
         last: new,
         other: last,
@@ -289,7 +309,7 @@ fn cleared(fill: u64, root: u64, effect: Effect) -> u64
 }
 
 // Clears the flags of the log's k entries that an effect for a root clears.
-pub fn unflag(log: &mut [u64], k: usize, root: u64, effect: Effect)
+fn unflag_places(log: &mut [u64], k: usize, root: u64, effect: Effect)
     requires { ⌜ Held k (now log) ⌝ }
     ensures { λ _. ⌜ now (log .exit) ≡ logTable (unflaggedLog (zeroing effect root) (entriesOf k (now (log .entry)))) ⌝ }
 {
@@ -300,6 +320,15 @@ pub fn unflag(log: &mut [u64], k: usize, root: u64, effect: Effect)
         log[at] = cleared(fill, root, effect);
         i += 1;
     }
+}
+
+// Clears the flags of the log's entries that an effect for a root clears.
+pub fn unflag(log: &mut [u64], root: u64, effect: Effect)
+    requires { ⌜ HeldIn (now log) ⌝ }
+    ensures { λ _. ⌜ now (log .exit) ≡ logNumbers (unflaggedLog (zeroing effect root) (entriesIn (now (log .entry)))) ⌝ }
+{
+    let k = log[0] as usize;
+    unflag_places(&mut log[1..SIZE], k, root, effect);
 }
 
 // Whether an entry is inside a window at a time.
@@ -327,12 +356,13 @@ fn gone(log: &[u64], k: usize, window: u64, time: u64) -> usize
     i
 }
 
-// How many of the log's k entries are inside a window at a time.
-pub fn recent_entries(log: &[u64], k: usize, window: u64, time: u64) -> usize
-    requires { ⌜ Held k (now log) × (window ≤ 86_400_000) × (areOrdered 0 time (entriesOf k (now log)) ≡ true) ⌝ }
-    ensures { λ r. ⌜ r ≡ length (recent window time (entriesOf k (now (log .entry)))) ⌝ }
+// How many of the log's entries are inside a window at a time.
+pub fn recent_entries(log: &[u64], window: u64, time: u64) -> usize
+    requires { ⌜ HeldIn (now log) × (window ≤ 86_400_000) × (areOrdered 0 time (entriesIn (now log)) ≡ true) ⌝ }
+    ensures { λ r. ⌜ r ≡ length (recent window time (entriesIn (now (log .entry)))) ⌝ }
 {
-    k - gone(log, k, window, time)
+    let k = log[0] as usize;
+    k - gone(&log[1..SIZE], k, window, time)
 }
 
 // The n numbers from place d on go to the front.
@@ -375,7 +405,7 @@ pub fn blank(s: &mut [u64])
 }
 
 // The entries that are no longer inside a window at a time leave, and e joins. Returns how many there are then.
-pub fn join(log: &mut [u64], k: usize, window: u64, time: u64, e: Entry) -> usize
+fn join_places(log: &mut [u64], k: usize, window: u64, time: u64, e: Entry) -> usize
     requires { ⌜ Held k (now log) × (window ≤ 86_400_000) × (areOrdered 0 time (entriesOf k (now log)) ≡ true) × (isEntry 64 e ≡ true) × (length (recent window time (entriesOf k (now log))) < 512) ⌝ }
     ensures { λ r. ⌜ Joined window time k e (now (log .entry)) (now (log .exit)) r ⌝ }
 {
@@ -385,4 +415,14 @@ pub fn join(log: &mut [u64], k: usize, window: u64, time: u64, e: Entry) -> usiz
     blank(&mut log[from..end]);
     put_entry(log, kept, e);
     kept + 1
+}
+
+// The entries that are no longer inside a window at a time leave the log, and e joins.
+pub fn join(log: &mut [u64], window: u64, time: u64, e: Entry)
+    requires { ⌜ HeldIn (now log) × (window ≤ 86_400_000) × (areOrdered 0 time (entriesIn (now log)) ≡ true) × (isEntry 64 e ≡ true) × (length (recent window time (entriesIn (now log))) < 512) ⌝ }
+    ensures { λ _. ⌜ now (log .exit) ≡ logNumbers (joined window time e (entriesIn (now (log .entry)))) ⌝ }
+{
+    let k = log[0] as usize;
+    let n = join_places(&mut log[1..SIZE], k, window, time, e);
+    log[0] = n as u64;
 }

@@ -6,3 +6,4 @@ pub mod Order
 pub mod Given
 pub mod Spread
 pub mod Marks
+pub mod Counts

@@ -13,7 +13,7 @@ use Rattle.laws.specs.Lists.{from}
 use Rattle.tables.specs.Tables.{allZero}
 use Rattle.made.specs.Names.{isNameNumber}
 use Rattle.made.specs.Made.{isFresh, areRoots}
-use Rattle.made.specs.Parts.{rootsHold}
+use Rattle.made.specs.Parts.{namesHold}
 use Rattle.made.proofs.Places.{namesFrom, roots-start, roots-end}
 
 pub record Marked (marks names : List ℕ) : Type 0 where
@@ -61,5 +61,5 @@ module _ (n : ℕ) (xs : List ℕ) (within : n ≤ length xs) where
   roots-late zero h e = e
   roots-late (suc i) h e = roots-late i (omega arith) (roots-back i (suc i) (sym (add-one i)) (omega arith) ∙ rw (e, and-false))
 
-  pub late : (i : ℕ) → i ≤ n → areRoots (namesFrom n xs i) ≡ false → false ≡ rootsHold n xs
+  pub late : (i : ℕ) → i ≤ n → areRoots (namesFrom n xs i) ≡ false → false ≡ namesHold n xs
   late i h e = sym (roots-start n xs ∙ ap (λ (b : Bool). b && allZero (drop n xs)) (roots-late i h e))

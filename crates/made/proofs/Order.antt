@@ -26,7 +26,7 @@ use Rattle.profile.specs.Held.{Counted, Names, unitsWith, isOver, mayCover, cou
 use Rattle.profile.proofs.Covering.{then-over, then-free, then-counts}
 use Rattle.profile.proofs.Counts.{counted-none, firm-stays, unit-stays, over-is, root-counted, firm-over, firm-counted}
 use Rattle.made.specs.Made.{seenAfter, isNext, areInOrder}
-use Rattle.made.specs.Parts.{rulesHold}
+use Rattle.made.specs.Parts.{placesHold}
 use Rattle.made.specs.Counting.{SoFar, mayFollow, Follows, spread}
 use Rattle.made.specs.declared.Step.the-variants.{With, Stop}
 use Rattle.made.specs.declared.Tally.{Tally}
@@ -169,8 +169,8 @@ left-end : (n k : ℕ) (xs : List ℕ) (seen i : ℕ) → k ≤ i → leftHolds 
 unfolding leftHolds placesPass areInOrder
 left-end n k xs seen i h = let z : k - i ≡ 0 = omega arith in rw (z, rules-end k xs i h)
 
-holds-is : (n k : ℕ) (xs : List ℕ) → rulesHold n k xs ≡ (leftHolds n k xs 0 0 && allZero (drop (k * 2) xs))
-unfolding rulesHold leftHolds places
+holds-is : (n k : ℕ) (xs : List ℕ) → placesHold n k xs ≡ (leftHolds n k xs 0 0 && allZero (drop (k * 2) xs))
+unfolding placesHold leftHolds places
 holds-is n k xs = rw (sub-zero, rules-start)
 
 -- the rules before place i are counted, and those from it on decide as all of them do
@@ -185,18 +185,18 @@ gone-start n k xs = record { reach = omega arith; held = none-so-far; rest = ref
 
 module _ {n k : ℕ} {xs : List ℕ} {i : ℕ} {tally : Tally} {counts : List ℕ} (gone : Gone n k xs i tally counts) where
   -- what the code answers where what is left does not hold, and at the end
-  stops : leftHolds n k xs (tally .seen) i ≡ false → false ≡ rulesHold n k xs
+  stops : leftHolds n k xs (tally .seen) i ≡ false → false ≡ placesHold n k xs
   stops e = sym (holds-is n k xs ∙ ap (λ (b : Bool). b && allZero (drop (k * 2) xs)) (gone .rest ∙ e))
 
-  pub gone-end : k ≤ i → {zero : Bool} → zero ≡ allZero (drop (k * 2) xs) → (eqb (tally .seen) n && zero) ≡ rulesHold n k xs
+  pub gone-end : k ≤ i → {zero : Bool} → zero ≡ allZero (drop (k * 2) xs) → (eqb (tally .seen) n && zero) ≡ placesHold n k xs
   gone-end h e = sym (holds-is n k xs ∙ ap₂ (λ (b z : Bool). b && z) (gone .rest ∙ left-end n k xs (tally .seen) i h) (sym e))
 
   module _ (more : i < k) where
-    pub gone-bad : isRulePlace n (drop (i * 2) xs) ≡ false → false ≡ rulesHold n k xs
+    pub gone-bad : isRulePlace n (drop (i * 2) xs) ≡ false → false ≡ placesHold n k xs
     gone-bad e = stops (left-bad n k xs (tally .seen) i more e)
 
     module _ {rule : Rule} (is : rule ≡ ruleAt (drop (i * 2) xs)) (counts-after : List ℕ) where
-      pub gone-stop : Follows (places 2 ruleAt i xs) (tally .seen) rule Stop counts-after → false ≡ rulesHold n k xs
+      pub gone-stop : Follows (places 2 ruleAt i xs) (tally .seen) rule Stop counts-after → false ≡ placesHold n k xs
       unfolding Follows
       gone-stop f = stops (left-stop n k xs (tally .seen) i more (rw is at f))
 

@@ -16,7 +16,7 @@ use Rattle.tables.specs.RulePlace.{ruleAt}
 use Rattle.tables.proofs.Tables.{places-on}
 use Rattle.made.specs.Names.{isNameNumber}
 use Rattle.made.specs.Made.{isFresh, areRoots}
-use Rattle.made.specs.Parts.{rootsHold, totalsHold}
+use Rattle.made.specs.Parts.{namesHold, totalsHold}
 use Rattle.rules.specs.Valid.{isTotalNumber, hasRate}
 
 -- the part of a slice from a place to its end
@@ -37,8 +37,8 @@ module _ (name : ℕ) (names : List ℕ) (fresh : Bool) (i : ℕ) where
 abbrev pub namesFrom : ℕ → List ℕ → ℕ → List ℕ
 namesFrom n xs i = take (n - i) (drop i xs)
 
-pub roots-start : (n : ℕ) (xs : List ℕ) → rootsHold n xs ≡ (areRoots (namesFrom n xs 0) && allZero (drop n xs))
-unfolding rootsHold
+pub roots-start : (n : ℕ) (xs : List ℕ) → namesHold n xs ≡ (areRoots (namesFrom n xs 0) && allZero (drop n xs))
+unfolding namesHold
 roots-start n xs = rw sub-zero
 
 pub roots-end : (n : ℕ) (xs : List ℕ) (i : ℕ) → n ≤ i → areRoots (namesFrom n xs i) ≡ true

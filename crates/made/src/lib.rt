@@ -13,12 +13,17 @@ ghost use Rattle.rules.specs.Valid.{isRule, isTotalNumber, hasRate};
 ghost use Rattle.profile.specs.Held.{Names, mayCover, countsWith};
 ghost use Rattle.made.specs.Names.{isNameNumber};
 ghost use Rattle.made.specs.Made.{isFresh};
-ghost use Rattle.made.specs.Parts.{rootsHold, rulesHold, totalsHold};
+ghost use Rattle.made.specs.Parts.{namesHold, placesHold, rootsHold, rulesOf, rulesHold, totalsHold};
 ghost use Rattle.made.specs.Counting.{SoFar, Holds, Follows, spread, overIn, coveredIn};
 use measures::Contracts;
 use rules::Kind;
 use rules::Rule;
 use rules::Scope;
+
+// How many numbers the tables of the roots and of the rules take: a count, then 64 names, or 256 places of two numbers.
+pub const ROOTS_SIZE: usize = 1 + 64;
+
+pub const RULES_SIZE: usize = 1 + 2 * 256;
 
 // Whether a byte is a digit or a capital letter.
 fn is_name_byte(x: u64) -> bool
@@ -69,9 +74,9 @@ fn is_new(name: u64, names: &[u64], mark: u8) -> bool
 
 // Whether the first n places hold the names of roots, no two the same, and the others 0. From the last name on; the names that were looked at are marked by
 // a remainder, and compared only where a name has the remainder of one of them.
-pub fn are_roots(names: &[u64], n: usize) -> bool
+fn names_hold(names: &[u64], n: usize) -> bool
     requires { ⌜ (length (now names) ≡ 64) × (n ≤ 64) ⌝ }
-    ensures { λ r. ⌜ r ≡ rootsHold n (now (names .entry)) ⌝ }
+    ensures { λ r. ⌜ r ≡ namesHold n (now (names .entry)) ⌝ }
 {
     let mut marks = [0u8; 256];
     let mut i: usize = n;
@@ -86,6 +91,18 @@ pub fn are_roots(names: &[u64], n: usize) -> bool
         marks[slot] = 1;
     }
     tables::is_zero(&names[n..])
+}
+
+// Whether the roots' table holds as many names as it says, no two the same.
+pub fn are_roots(roots: &[u64]) -> bool
+    requires { ⌜ length (now roots) ≡ 65 ⌝ }
+    ensures { λ r. ⌜ r ≡ rootsHold (now (roots .entry)) ⌝ }
+{
+    let n = roots[0] as usize;
+    if 64 < n {
+        return false;
+    }
+    names_hold(&roots[1..ROOTS_SIZE], n)
 }
 
 // How many roots have appeared in the rules so far, and how many firm rules there are.
@@ -197,9 +214,9 @@ fn with_rule(rule: Rule, tally: Tally, counts: &mut [u64]) -> Step
 }
 
 // Whether the first k places hold rules of n roots, in order, none too many, and the others 0.
-pub fn are_rules(rules: &[u64], k: usize, n: u64) -> bool
+fn rules_hold(rules: &[u64], k: usize, n: u64) -> bool
     requires { ⌜ (length (now rules) ≡ 512) × (k ≤ 256) × (n ≤ 64) ⌝ }
-    ensures { λ r. ⌜ r ≡ rulesHold n k (now (rules .entry)) ⌝ }
+    ensures { λ r. ⌜ r ≡ placesHold n k (now (rules .entry)) ⌝ }
 {
     let mut counts = [0u64; 64];
     let mut tally = Tally { seen: 0, firms: 0 };
@@ -218,6 +235,18 @@ pub fn are_rules(rules: &[u64], k: usize, n: u64) -> bool
         i += 1;
     }
     (tally.seen == n) & tables::is_zero(&rules[k * 2..])
+}
+
+// Whether the rules' table holds as many rules of n roots as it says, at least one, in order, none too many.
+pub fn are_rules(rules: &[u64], n: u64) -> bool
+    requires { ⌜ (length (now rules) ≡ 513) × (n ≤ 64) ⌝ }
+    ensures { λ r. ⌜ r ≡ rulesHold n (now (rules .entry)) ⌝ }
+{
+    let k = rules[0];
+    if !measures::is_in(k, 1, 256) {
+        return false;
+    }
+    rules_hold(&rules[1..RULES_SIZE], k as usize, n)
 }
 
 // The rule at place i of the rules.
@@ -253,7 +282,7 @@ fn is_total(rule: Rule, total: u64) -> bool
 }
 
 // Whether the rules in the first k places have totals, and the other places of the totals hold 0.
-pub fn are_totals(rules: &[u64], totals: &[u64], k: usize) -> bool
+fn totals_hold(rules: &[u64], totals: &[u64], k: usize) -> bool
     requires { ⌜ (length (now rules) ≡ 512) × (length (now totals) ≡ 256) × (k ≤ 256) ⌝ }
     ensures { λ r. ⌜ r ≡ totalsHold (places 2 ruleAt k (now (rules .entry))) (now (totals .entry)) ⌝ }
 {
@@ -269,7 +298,7 @@ pub fn are_totals(rules: &[u64], totals: &[u64], k: usize) -> bool
 }
 
 // Whether a rule in the first k places is a rate rule.
-pub fn has_rate(rules: &[u64], k: usize) -> bool
+fn any_rate(rules: &[u64], k: usize) -> bool
     requires { ⌜ (length (now rules) ≡ 512) × (k ≤ 256) ⌝ }
     ensures { λ r. ⌜ r ≡ hasRate (places 2 ruleAt k (now (rules .entry))) ⌝ }
 {
@@ -283,4 +312,22 @@ pub fn has_rate(rules: &[u64], k: usize) -> bool
         i += 1;
     }
     false
+}
+
+// Whether the rules of a table have totals, and the other places of the totals hold 0.
+pub fn are_totals(rules: &[u64], totals: &[u64]) -> bool
+    requires { ⌜ (length (now rules) ≡ 513) × (length (now totals) ≡ 256) × (getD (now rules) 0 0 ≤ 256) ⌝ }
+    ensures { λ r. ⌜ r ≡ totalsHold (rulesOf (now (rules .entry))) (now (totals .entry)) ⌝ }
+{
+    let k = rules[0] as usize;
+    totals_hold(&rules[1..RULES_SIZE], totals, k)
+}
+
+// Whether a rule of a table is a rate rule.
+pub fn has_rate(rules: &[u64]) -> bool
+    requires { ⌜ (length (now rules) ≡ 513) × (getD (now rules) 0 0 ≤ 256) ⌝ }
+    ensures { λ r. ⌜ r ≡ hasRate (rulesOf (now (rules .entry))) ⌝ }
+{
+    let k = rules[0] as usize;
+    any_rate(&rules[1..RULES_SIZE], k)
 }

@@ -10,13 +10,14 @@ use Rattle.profile.specs.Profile.{outcomeOf}
 use Rattle.profile.specs.declared.Reading.the-variants.{Accepted}
 use Rattle.machine.specs.State.{State, armed}
 use Rattle.state.specs.State.{size, decode}
-use Rattle.state.proofs.Restored.{taken-apart}
+use Rattle.state.proofs.Exactly.{taken-apart}
 use Rattle.state.proofs.Exactly.{exactly}
 use Rattle.machine.specs.Calls.{Call}
 use Rattle.calls.specs.Calls.{armAnswer}
 use Rattle.calls.proofs.Cases.{arm-marked, clear-done}
 use Rattle.demand.specs.Run.{Event, runOf}
 use Rattle.demand.specs.Demand.{Demand3}
+use Rattle.promises.proofs.Marked.{sound-marked}
 use Rattle.promises.specs.Day.{Day, callsOn, dayOf, NeverRefused, Promised, DayPromised}
 use Rattle.promises.specs.AnyDay.{AnyCall, anyDayOf, stateCalls, stateEvents, AnyPromised}
 use Rattle.demand.proofs.Theorem.{demand3}
@@ -51,7 +52,7 @@ follows-promised memory text calls day f =
       sound = exactly (day .memory) .1 (f .holds .sound);
       past = f .holds .rest;
       armedOnce =
-          λ other. let three = arm-marked (day .memory) other (t .long) (λ z. omega (arith, t .mark)) in (sym (three .0), sym (three .1));
+          λ other. let three = arm-marked (day .memory) other (t .long) (λ z. omega (arith, sound-marked (day .memory) (f .holds .sound))) in (sym (three .0), sym (three .1));
       clears = sym (done .0);
       zeroed = sym (done .1) ∙ ap (λ (past : List ℕ). zeros size ++ past) (f .holds .rest);
       ended = cleared-idle (day .memory) (t .long);

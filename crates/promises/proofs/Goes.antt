@@ -4,9 +4,10 @@ use native.Mathlib.Omega.{arith}
 use mathlib.Core.Path.{_≡_, refl, sym, subst}
 use mathlib.Core.List.{List, [], _∷_}
 use Rattle.rules.specs.Allowance.{All}
-use Rattle.state.proofs.Restored.{taken-apart}
+use Rattle.state.proofs.Exactly.{taken-apart}
 use Rattle.calls.proofs.Cases.{arm-marked}
 use Rattle.demand.specs.Run.{Run, afterCall, runFrom}
+use Rattle.promises.proofs.Marked.{sound-marked}
 use Rattle.promises.specs.AnyDay.{AnyCall, arm, text, state, AnyDay, afterAny, anyFrom, stateCalls, stateEvents, Usual}
 use Rattle.promises.proofs.Holds.{Holds, call-answers, call-holds}
 
@@ -23,7 +24,7 @@ unfolding runFrom anyFrom afterCall afterAny stateCalls stateEvents Usual
 goes-on g [] = g
 goes-on {past} {run} {day} g (arm words ∷ calls) =
     let t = taken-apart (day .memory) (g .holds .sound) in
-    let three = arm-marked (day .memory) words (t .long) (λ z. omega (arith, t .mark)) in
+    let three = arm-marked (day .memory) words (t .long) (λ z. omega (arith, sound-marked (day .memory) (g .holds .sound))) in
     goes-on (record { holds = subst (Holds (run .now) past) (three .1) (g .holds); same = g .same; usual = (sym (three .0), g .usual) }) calls
 goes-on g (text verdict room ∷ calls) = goes-on (record { holds = g .holds; same = g .same; usual = ((refl, refl), g .usual) }) calls
 goes-on g (state call ∷ calls) =

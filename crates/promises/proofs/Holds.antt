@@ -15,7 +15,7 @@ use Rattle.machine.specs.State.{State, armed}
 use Rattle.state.specs.State.{size, decode, stored}
 use Rattle.state.specs.Sound.{SoundState, isSound}
 use Rattle.state.specs.Laid.{Fits}
-use Rattle.state.proofs.Restored.{taken-apart}
+use Rattle.state.proofs.Exactly.{taken-apart}
 use Rattle.state.proofs.Stored.{stored-rest, decode-stored}
 use Rattle.state.proofs.Exactly.{made-parts, sound-fits, given-is-made, sound-stored}
 use Rattle.machine.specs.declared.Answer.the-variants.{Refused}
@@ -28,6 +28,7 @@ use Rattle.machine.proofs.Keeps.{nothing-same}
 use Rattle.calls.specs.Calls.{memoryRefusal, armRefusal, armAnswer, armMemory, callAnswer, callMemory}
 use Rattle.calls.proofs.Armed.{refusal-none, sound-memory, call-taken}
 use Rattle.calls.proofs.Steps.{done, refused, acts, after-sound}
+use Rattle.promises.proofs.Marked.{sound-marked}
 use Rattle.promises.proofs.Fresh.{fresh-sound, accepted-made}
 
 -- a sound memory that holds a state, with these numbers past it
@@ -45,7 +46,7 @@ stored-holds s xs k =
 sound-ready : (xs : List ℕ) → isSound xs ≡ true → memoryRefusal xs ≡ 0
 sound-ready xs h =
     let t = taken-apart xs h in
-    sym (refusal-none xs (t .long) (λ z. omega (arith, t .mark)) true (sym h) refl)
+    sym (refusal-none xs (t .long) (λ z. omega (arith, sound-marked xs h)) true (sym h) refl)
 
 -- memory that meets no refusal holds the state that it stands for; memory that holds a state meets none
 pub ready-holds : (xs : List ℕ) → memoryRefusal xs ≡ 0 → Holds (decode xs) (drop size xs) xs

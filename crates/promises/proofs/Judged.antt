@@ -19,7 +19,7 @@ use Rattle.machine.specs.Offers.{grantOf}
 use Rattle.machine.specs.Effects.{lastReset}
 use Rattle.machine.specs.Refusals.{firstOf, badTime, isRoot, used, logFull, refusalOf}
 use Rattle.machine.specs.Judge.{logPlaces}
-use Rattle.state.proofs.Stored.{map-length}
+use Rattle.state.proofs.Accounts.{map-length}
 use Rattle.promises.specs.Refusals.{BadTime, Untimely, Unknown, Unpriced, NoPlace, LogFull}
 use Rattle.promises.proofs.Tests.{Tells, not-tells, and-tells, or-tells, tells-as, leb-tells, ltb-tells, eqb-tells, above-tells, least-tells}
 

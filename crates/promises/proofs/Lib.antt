@@ -1,4 +1,5 @@
 pub mod Tests
+pub mod Marked
 pub mod Judged
 pub mod Answered
 pub mod Refusals

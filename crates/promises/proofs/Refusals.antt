@@ -14,10 +14,11 @@ use Rattle.machine.specs.Refusals.{firstOf}
 use Rattle.machine.specs.Judge.{numbers}
 use Rattle.state.specs.State.{size, decode}
 use Rattle.state.specs.Sound.{Sound, isSound}
-use Rattle.state.proofs.Restored.{taken-apart, restored}
+use Rattle.state.proofs.Exactly.{taken-apart, restored}
 use Rattle.state.proofs.Stored.{is-stored, decode-stored}
 use Rattle.state.proofs.Exactly.{made-parts, sound-fits, given-is-made, sound-decode, exactly}
 use Rattle.calls.specs.Calls.{isShort, markOf, memoryRefusal, callAnswer}
+use Rattle.promises.proofs.Marked.{sound-marked}
 use Rattle.promises.specs.Refusals.{refusalRow, Short, Held, Holding, Untimely, Unknown, Unpriced, LogFull, CallRefusals, refusalBy}
 use Rattle.promises.proofs.Tests.{Tells, tells-not, not-tells, NonePass, first-at, first-none}
 use Rattle.promises.proofs.Judged.{late, strange, unpriced, full, machineTests, machine-tests, late-tells, strange-tells, unpriced-tells, full-tells}
@@ -34,7 +35,7 @@ module _ (xs : List ℕ) where
   on-held : (P : State → Type 0) → ((isSound xs ≡ true) × P (decode xs)) ↔ Holding xs P
   unfolding Sound
   on-held P = (
-    λ h. (decode xs, ((sound-decode xs (h .0), restored xs (taken-apart xs (h .0))), h .1)),
+    λ h. (decode xs, ((sound-decode xs (h .0), restored xs (h .0)), h .1)),
     λ h. (exactly xs .0 (h .0, h .1 .0), subst⁻¹ P (held-is (h .0) xs (h .1 .0)) (h .1 .1)),
   )
 
@@ -61,7 +62,7 @@ module _ (xs : List ℕ) where
   -- no memory refusal: the memory is sound
   sound-passes : isSound xs ≡ true → NonePass memoryTests
   sound-passes h =
-      let t = taken-apart xs h in (long-tells .1 (t .long), (ne-eqb (markOf xs) 0 (λ z. omega (arith, t .mark)), (ap not h, tt)))
+      let t = taken-apart xs h in (long-tells .1 (t .long), (ne-eqb (markOf xs) 0 (λ z. omega (arith, sound-marked xs h)), (ap not h, tt)))
 
   module _ (call : Call) where
     abbrev now : State

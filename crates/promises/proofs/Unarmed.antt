@@ -14,7 +14,6 @@ use Rattle.profile.specs.declared.Reading.the-variants.{Accepted, Refused as No
 use Rattle.profile.proofs.Laws.{accepted-some, reading-accepted, reading-refused}
 use Rattle.machine.specs.State.{armed}
 use Rattle.state.specs.State.{size, decode, stored}
-use Rattle.state.proofs.Restored.{taken-apart}
 use Rattle.state.proofs.Exactly.{made-parts, decode-made}
 use Rattle.machine.specs.Calls.{Call}
 use Rattle.machine.specs.Refusals.{firstOf}
@@ -48,7 +47,7 @@ pub armed-has-rules : (memory : List ℕ) (call : Call) → isRefusal (callAnswe
 armed-has-rules memory call answered = go (memoryRefusal memory) refl
   where
     go : (n : ℕ) → memoryRefusal memory ≡ n → 0 < length (decode memory .part .profile .rules)
-    go zero e = made-parts (decode memory .part .profile) (decode-made memory (taken-apart memory (sound-memory memory e))) .some
+    go zero e = made-parts (decode memory .part .profile) (decode-made memory (sound-memory memory e)) .some
     go (suc n) e =
         absurd (false≢true (sym answered ∙ refusal-answered memory call (suc n) (sym e) (λ z. omega arith) .0))
 

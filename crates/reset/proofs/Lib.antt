@@ -1,4 +1,3 @@
-pub mod Laid
 pub mod Wipes
 pub mod Resets
 pub mod None

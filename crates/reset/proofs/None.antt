@@ -4,7 +4,6 @@ use mathlib.Core.Path.{_≡_, refl, sym, ap, _∙_}
 use mathlib.Core.Bool.{false, not, cond, _&&_, and-false}
 use mathlib.Core.List.{List, [], _∷_, map}
 use lib.Dec.{eqb}
-use lib.ListN.{set}
 use Rattle.bits.specs.Locks.{withoutBit}
 use Rattle.rules.specs.Amounts.{amountIn}
 use Rattle.rules.specs.Rules.{levelOf}
@@ -14,12 +13,11 @@ use Rattle.rules.specs.declared.Account.{Account}
 use Rattle.machine.specs.declared.Entry.{Entry}
 use Rattle.machine.specs.State.{State, Locks}
 use Rattle.machine.specs.Effects.{effectOf, zeroing, lifting}
-use Rattle.machine.specs.Deeds.{passing, resetting, clockAfter}
+use Rattle.machine.specs.Deeds.{resetting, clockAfter}
 use Rattle.machine.specs.Locks.{lifted}
 use Rattle.machine.specs.Order.{unflagged, unflaggedLog, wiped}
 use Rattle.machine.specs.Step.{accountsAfter, locksAfter, logAfter, partAfter, after}
-use Rattle.state.specs.State.{encode, stored, decode}
-use Rattle.state.specs.Laid.{Laid}
+use Rattle.state.specs.Laid.{withClock}
 
 map-same : {A : Type 0} (f : A → A) → ((x : A) → f x ≡ x) → (xs : List A) → map f xs ≡ xs
 map-same f same [] = refl
@@ -62,9 +60,9 @@ module _ (root : ℕ) where
     byUser = cond (lifts-none (Root root) i) (withoutBit (l .byUser) root) (l .byUser);
   }
 
-  none-ticks : (s : State) (time : ℕ) → after (resetting time root (effectOf 0)) s ≡ after (passing time) s
+  none-ticks : (s : State) (time : ℕ) → withClock s time ≡ after (resetting time root (effectOf 0)) s
   unfolding after partAfter clockAfter accountsAfter locksAfter logAfter unflaggedLog
-  none-ticks s time = λ i. record {
+  none-ticks s time = sym (λ i. record {
     part = record {
       clock = time;
       profile = s .part .profile;
@@ -72,14 +70,7 @@ module _ (root : ℕ) where
       locks = locks-stay (s .part .locks) i;
     };
     log = map-same (unflagged (zeroing (effectOf 0) root)) flags-stay (s .log) i;
-  }
+  })
 
--- the clock's number alone is stored
-pub ticked-stored : {xs : List ℕ} → Laid xs → (time : ℕ) → set xs 1 time ≡ stored (after (passing time) (decode xs)) xs
-unfolding stored encode after partAfter clockAfter accountsAfter locksAfter logAfter
-ticked-stored l time = ap (λ (q : List ℕ). set q 1 time) (l .is)
-
-pub clock-moved : {xs : List ℕ} → Laid xs → (time root : ℕ) {reset : ℕ} → reset ≡ 0
-    → set xs 1 time ≡ stored (after (resetting time root (effectOf reset)) (decode xs)) xs
-clock-moved {xs = xs} l time root none =
-    ticked-stored l time ∙ (ap (λ (s : State). stored s xs) (sym (none-ticks root (decode xs) time)) ∙ rw none)
+  pub clock-moved : (s : State) (time : ℕ) {reset : ℕ} → reset ≡ 0 → withClock s time ≡ after (resetting time root (effectOf reset)) s
+  clock-moved s time none = none-ticks s time ∙ ap (λ (n : ℕ). after (resetting time root (effectOf n)) s) (sym none)

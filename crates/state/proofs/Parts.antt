@@ -1,181 +1,91 @@
--- Where the numbers of a state stand in memory: a memory that is long enough, part by part, and the parts of a stored state. Assumes nothing.
-use Prim.Native.Nat.{ℕ, zero, suc, _+_, _-_, _≤_, _<_}
-use native.Mathlib.Nat.{not-suc-le-zero, le-of-suc-le-suc, mul-one, zero-add, suc-add}
+-- The tests of the parts, as they are lent, are those of the parts where they stand in memory. Assumes nothing.
+use Prim.Native.Nat.{ℕ, _+_, _^_, _≤_}
 use native.Mathlib.Omega.{arith}
-use mathlib.Core.Path.{_≡_, refl, sym, ap, ap₂, _∙_}
-use mathlib.Core.Bool.{true}
-use mathlib.Core.List.{List, [], _∷_, _++_, map, append-assoc}
-use lib.ListN.{length, getD, take, drop, set, length-append, length-drop, take-append-drop}
-use lib.Seq.{take-add, take-at, drop-at, drop-drop, length-take-le, set-append-left}
-use Rattle.rules.specs.declared.Rule.{Rule}
-use Rattle.rules.specs.declared.Account.{Account}
-use Rattle.tables.specs.Tables.{zeros, allZero, flat, table}
-use Rattle.tables.proofs.Tables.{length-zeros, zeros-all, all-zeros}
-use Rattle.laws.specs.Tests.{and-l, and-r}
+use mathlib.Core.Path.{_≡_, refl, sym, ap, _∙_}
+use mathlib.Core.Bool.{Bool, true, false, _&&_}
+use mathlib.Core.List.{List, []}
+use lib.ListN.{length, getD, take, drop, length-drop}
+use lib.Seq.{getD-drop, length-take-le, take-all}
+use lib.Dec.{leb, ltb}
 use Rattle.laws.specs.Folds.{every}
-use Rattle.rules.specs.Amounts.{isOf}
-use Rattle.rules.proofs.Amounts.{number-in, of-in, in-number}
-use Rattle.machine.specs.State.{ruleOf}
-use Rattle.state.specs.State.{size, totalsIn, rootsPart, rulesPart, totalsPart, logPart, accountsOf}
+use Rattle.shapes.specs.Shape.{Shape, Exact, table}
+use Rattle.shapes.proofs.Exact.{table-exact, table-many, test-part, read-part}
+use Rattle.rules.specs.declared.Rule.{Rule}
+use Rattle.tables.specs.Tables.{places}
+use Rattle.tables.specs.RulePlace.{ruleAt, rulesShape}
+use Rattle.tables.specs.EntryPlace.{logShape}
+use Rattle.tables.proofs.Shapes.{rules-exact, rules-read, log-exact}
+use Rattle.machine.specs.State.{cellsOf, Locks}
+use Rattle.machine.specs.Entries.{areOrdered}
+use Rattle.machine.proofs.Totals.{isPaid}
+use Rattle.made.specs.Made.{areRoots, areInOrder}
+use Rattle.made.specs.Parts.{rootsHold, rulesOf, rulesHold, totalsHold}
+use Rattle.log.specs.Log.{logHolds}
+use Rattle.state.specs.State.{size, number, locksShape, totalsShape, accountsOf}
+use Rattle.state.specs.Tests.{rootsPart, rulesPart, totalsPart, locksPart, logPart, locksHold}
+use Rattle.state.proofs.Exact.{number-exact, totals-exact, locks-exact}
+use Rattle.state.proofs.Lent.{roots-lent, rules-lent, totals-lent, locks-lent, log-lent}
+use Rattle.state.proofs.Map.{rootsTold}
 
--- the first n numbers, one by one
-unfoldable pub upTo : ℕ → (ℕ → ℕ) → List ℕ
-upTo zero f = []
-upTo (suc n) f = f 0 ∷ upTo n (λ i. f (suc i))
+-- a second test may use that the first passed
+pub and-on : (a : Bool) {b c : Bool} → (a ≡ true → b ≡ c) → (a && b) ≡ (a && c)
+and-on true h = h refl
+and-on false h = refl
 
-pub take-up : (n : ℕ) (xs : List ℕ) → n ≤ length xs → take n xs ≡ upTo n (λ i. getD xs i 0)
-unfolding upTo
-take-up zero xs h = refl
-take-up (suc n) [] h = absurd (not-suc-le-zero h)
-take-up (suc n) (x ∷ xs) h = ap (λ (l : List ℕ). x ∷ l) (take-up n xs (le-of-suc-le-suc h))
+-- numbers of an exact shape, and a test of the value that they stand for: the first numbers decide
+first-decide : {n : ℕ} {A : Type 0} (s : Shape n A) → Exact s → (p : A → Bool) (ws : List ℕ) → n ≤ length ws
+    → (s .test (take n ws) && p (s .read (take n ws))) ≡ (s .test ws && p (s .read ws))
+first-decide {n} s e p ws l = ap (λ (b : Bool). b && p (s .read (take n ws))) (test-part s e ws l) ∙ and-on (s .test ws) (λ h. ap p (read-part s e ws l h))
 
--- a memory that is long enough: the ten numbers in front, then the four parts
-pub parts : (xs : List ℕ) → size ≤ length xs
-    → take size xs ≡ upTo 10 (λ i. getD xs i 0) ++ (rootsPart xs ++ (rulesPart xs ++ (totalsPart xs ++ logPart xs)))
-parts xs h =
-    take-add 10 1856 xs
-    ∙ ap₂ (λ (p q : List ℕ). p ++ q) (take-up 10 xs (omega arith))
-    (take-add 64 1792 (drop 10 xs)
-    ∙ ap (λ (q : List ℕ). rootsPart xs ++ q)
-    (ap (take 1792) (drop-drop 64 10 xs) ∙ take-add 512 1280 (drop 74 xs)
-    ∙ ap (λ (q : List ℕ). rulesPart xs ++ q)
-    (ap (take 1280) (drop-drop 512 74 xs) ∙ take-add 256 1024 (drop 586 xs)
-    ∙ ap (λ (q : List ℕ). totalsPart xs ++ q) (ap (take 1024) (drop-drop 256 586 xs)))))
+module _ (xs : List ℕ) (long : size ≤ length xs) where
+  room : (at n : ℕ) → at + n ≤ size → n ≤ length (drop at xs)
+  room at n h = omega (arith, length-drop at xs)
 
--- a table of single numbers is the numbers themselves, and zeros after them
-ones-flat : (ys : List ℕ) → flat (λ x. x ∷ []) ys ≡ ys
-unfolding flat
-ones-flat [] = refl
-ones-flat (y ∷ ys) = ap (λ (l : List ℕ). y ∷ l) (ones-flat ys)
+  pub part-long : (at n : ℕ) → at + n ≤ size → length (take n (drop at xs)) ≡ n
+  part-long at n h = length-take-le n (drop at xs) (room at n h)
 
-pub ones-table : (n : ℕ) (ys : List ℕ) → table 1 n (λ x. x ∷ []) ys ≡ ys ++ zeros (n - length ys)
-unfolding table
-ones-table n ys = ap₂ (λ (p : List ℕ) (k : ℕ). p ++ zeros k) (ones-flat ys) (ap₂ (λ (a b : ℕ). a - b) (mul-one n) (mul-one (length ys)))
+  pub roots-held : rootsHold (rootsPart xs) ≡ (table 64 number .test (drop 3 xs) && areRoots (rootsTold xs))
+  roots-held =
+      roots-lent (rootsPart xs) (part-long 3 65 (omega arith))
+      ∙ first-decide (table 64 number) (table-exact 64 number number-exact) areRoots (drop 3 xs) (room 3 65 (omega arith))
 
-pub ones-length : (n : ℕ) (ys : List ℕ) → length ys ≤ n → length (table 1 n (λ x. x ∷ []) ys) ≡ n
-ones-length n ys h = ap length (ones-table n ys) ∙ omega (arith, length-append ys (zeros (n - length ys)), length-zeros (n - length ys))
+  pub totals-held : (rules : List Rule) → length rules ≤ 256
+      → totalsHold rules (totalsPart xs)
+      ≡ (totalsShape rules .test (drop 581 xs) && every isPaid (accountsOf (cellsOf rules) (totalsShape rules .read (drop 581 xs))))
+  totals-held rules few =
+      totals-lent rules (totalsPart xs) few (part-long 581 256 (omega arith))
+      ∙ first-decide (totalsShape rules) (totals-exact rules) (λ totals. every isPaid (accountsOf (cellsOf rules) totals)) (drop 581 xs) (room 581 256 (omega arith))
 
--- numbers with zeros after the first k are the table of the first k
-pub ones-are : (n k : ℕ) (xs : List ℕ) → length xs ≡ n → k ≤ n → allZero (drop k xs) ≡ true → xs ≡ table 1 n (λ x. x ∷ []) (take k xs)
-ones-are n k xs l h z =
-    let t : length (take k xs) ≡ k = length-take-le k xs (omega arith) in
-    let d : length (drop k xs) ≡ n - length (take k xs) = omega (arith, length-drop k xs, t) in
-    sym (take-append-drop k xs) ∙ ap (λ (q : List ℕ). take k xs ++ q) (zeros-all (drop k xs) z ∙ ap zeros d) ∙ sym (ones-table n (take k xs))
+  pub locks-held : (n : ℕ)
+      → locksHold n (locksPart xs)
+      ≡ (locksShape .test (drop 837 xs) && (ltb (locksShape .read (drop 837 xs) .tripped) (2 ^ n) && ltb (locksShape .read (drop 837 xs) .byUser) (2 ^ n)))
+  locks-held n =
+      locks-lent n (locksPart xs)
+      ∙ first-decide locksShape locks-exact (λ (l : Locks). ltb (l .tripped) (2 ^ n) && ltb (l .byUser) (2 ^ n)) (drop 837 xs) (room 837 4 (omega arith))
 
--- reading them back
-pub ones-take : (n : ℕ) (ys : List ℕ) → take (length ys) (table 1 n (λ x. x ∷ []) ys) ≡ ys
-ones-take n ys = ap (take (length ys)) (ones-table n ys) ∙ take-at ys (zeros (n - length ys)) (length ys) refl
+  -- the parts whose tests know how many roots there are
+  module _ (n : ℕ) (few : n ≤ 64) where
+    pub rules-held : rulesHold n (rulesPart xs)
+        ≡ (rulesShape n .test (drop 68 xs) && (leb 1 (length (rulesShape n .read (drop 68 xs))) && areInOrder n [] 0 (rulesShape n .read (drop 68 xs))))
+    unfolding rulesShape
+    rules-held =
+        rules-lent n (rulesPart xs) (part-long 68 513 (omega arith))
+        ∙ ap (λ (k : ℕ). rulesShape n .test (rulesPart xs) && (leb 1 k && areInOrder n [] 0 (rulesShape n .read (rulesPart xs)))) (sym (table-many 256 _ (rulesPart xs)))
+        ∙ first-decide (rulesShape n) (rules-exact n few) (λ (rules : List Rule). leb 1 (length rules) && areInOrder n [] 0 rules) (drop 68 xs) (room 68 513 (omega arith))
 
-pub ones-rest : (n : ℕ) (ys : List ℕ) → allZero (drop (length ys) (table 1 n (λ x. x ∷ []) ys)) ≡ true
-ones-rest n ys = ap (λ (l : List ℕ). allZero (drop (length ys) l)) (ones-table n ys) ∙ ap allZero (drop-at ys (zeros (n - length ys)) (length ys) refl) ∙ all-zeros (n - length ys)
+    -- the rules that the tests of the totals and of the rate read
+    pub rules-are : rulesShape n .test (drop 68 xs) ≡ true → rulesOf (rulesPart xs) ≡ rulesShape n .read (drop 68 xs)
+    rules-are t =
+        ap (places 2 ruleAt (getD (rulesPart xs) 0 0)) (take-all 512 (drop 1 (rulesPart xs)) (omega (arith, length-drop 1 (rulesPart xs), part-long 68 513 (omega arith))))
+        ∙ sym (rules-read n (rulesPart xs))
+        ∙ read-part (rulesShape n) (rules-exact n few) (drop 68 xs) (room 68 513 (omega arith)) t
 
--- the parts of a memory that begins with ten numbers and four parts of the right lengths
-module _ (head r u t g rest : List ℕ) (ten : length head ≡ 10) (roots : length r ≡ 64) (rules : length u ≡ 512) (totals : length t ≡ 256)
-    (log : length g ≡ 1024) where
-  laid : (head ++ (r ++ (u ++ (t ++ g)))) ++ rest ≡ head ++ (r ++ (u ++ (t ++ (g ++ rest))))
-  laid = simp append-assoc
+    pub log-held : (clock : ℕ) → logHolds n clock (logPart xs) ≡ (logShape n .test (drop 841 xs) && areOrdered 0 clock (logShape n .read (drop 841 xs)))
+    log-held clock =
+        log-lent n clock (logPart xs) (part-long 841 1025 (omega arith))
+        ∙ first-decide (logShape n) (log-exact n few) (areOrdered 0 clock) (drop 841 xs) (room 841 1025 (omega arith))
 
-  after-head : drop 10 ((head ++ (r ++ (u ++ (t ++ g)))) ++ rest) ≡ r ++ (u ++ (t ++ (g ++ rest)))
-  after-head = ap (drop 10) laid ∙ drop-at head _ 10 ten
-
-  after-roots : drop 74 ((head ++ (r ++ (u ++ (t ++ g)))) ++ rest) ≡ u ++ (t ++ (g ++ rest))
-  after-roots = sym (drop-drop 64 10 ((head ++ (r ++ (u ++ (t ++ g)))) ++ rest)) ∙ ap (drop 64) after-head ∙ drop-at r _ 64 roots
-
-  after-rules : drop 586 ((head ++ (r ++ (u ++ (t ++ g)))) ++ rest) ≡ t ++ (g ++ rest)
-  after-rules = sym (drop-drop 512 74 ((head ++ (r ++ (u ++ (t ++ g)))) ++ rest)) ∙ ap (drop 512) after-roots ∙ drop-at u _ 512 rules
-
-  after-totals : drop 842 ((head ++ (r ++ (u ++ (t ++ g)))) ++ rest) ≡ g ++ rest
-  after-totals = sym (drop-drop 256 586 ((head ++ (r ++ (u ++ (t ++ g)))) ++ rest)) ∙ ap (drop 256) after-rules ∙ drop-at t _ 256 totals
-
-  pub roots-part : rootsPart ((head ++ (r ++ (u ++ (t ++ g)))) ++ rest) ≡ r
-  roots-part = ap (take 64) after-head ∙ take-at r _ 64 roots
-
-  pub rules-part : rulesPart ((head ++ (r ++ (u ++ (t ++ g)))) ++ rest) ≡ u
-  rules-part = ap (take 512) after-roots ∙ take-at u _ 512 rules
-
-  pub totals-part : totalsPart ((head ++ (r ++ (u ++ (t ++ g)))) ++ rest) ≡ t
-  totals-part = ap (take 256) after-rules ∙ take-at t _ 256 totals
-
-  pub log-part : logPart ((head ++ (r ++ (u ++ (t ++ g)))) ++ rest) ≡ g
-  log-part = ap (take 1024) after-totals ∙ take-at g _ 1024 log
-
-  pub laid-length : length (head ++ (r ++ (u ++ (t ++ g)))) ≡ size
-  laid-length =
-      omega (
-        arith,
-        length-append head (r ++ (u ++ (t ++ g))),
-        length-append r (u ++ (t ++ g)),
-        length-append u (t ++ g),
-        length-append t g,
-      )
-
--- rules with their totals, and the two apart again
-pub accounts-rules : (rules : List Rule) (totals : List ℕ) → length rules ≤ length totals → map ruleOf (accountsOf rules totals) ≡ rules
-unfolding accountsOf
-accounts-rules [] totals h = refl
-accounts-rules (rule ∷ rules) [] h = absurd (not-suc-le-zero h)
-accounts-rules (rule ∷ rules) (t ∷ totals) h = ap (λ (l : List Rule). rule ∷ l) (accounts-rules rules totals (le-of-suc-le-suc h))
-
-pub accounts-totals : (rules : List Rule) (totals : List ℕ) → length rules ≤ length totals → totalsIn (accountsOf rules totals) ≡ take (length rules) totals
-unfolding accountsOf
-accounts-totals [] totals h = refl
-accounts-totals (rule ∷ rules) [] h = absurd (not-suc-le-zero h)
-accounts-totals (rule ∷ rules) (t ∷ totals) h =
-    ap₂ (λ (x : ℕ) (l : List ℕ). x ∷ l) (number-in (rule .limit) t) (accounts-totals rules totals (le-of-suc-le-suc h))
-
-pub accounts-measured : (rules : List Rule) (totals : List ℕ) → every (λ a. isOf (a .rule .limit) (a .total)) (accountsOf rules totals) ≡ true
-unfolding accountsOf every
-accounts-measured [] totals = refl
-accounts-measured (rule ∷ rules) [] = refl
-accounts-measured (rule ∷ rules) (t ∷ totals) = rw (of-in (rule .limit) t) (accounts-measured rules totals)
-
-pub accounts-again : (accounts : List Account) (more : List ℕ) → every (λ a. isOf (a .rule .limit) (a .total)) accounts ≡ true
-    → accountsOf (map ruleOf accounts) (totalsIn accounts ++ more) ≡ accounts
-unfolding accountsOf every
-accounts-again [] more h = refl
-accounts-again (a ∷ rest) more h =
-    let others = every (λ (b : Account). isOf (b .rule .limit) (b .total)) rest in
-    (λ k. record { rule = a .rule; total = in-number (a .rule .limit) (a .total) (and-l (isOf (a .rule .limit) (a .total)) others h) k }
-    ∷ accounts-again rest more (and-r (isOf (a .rule .limit) (a .total)) others h) k)
-
--- a store past the front of a list
-set-after : (p q : List ℕ) (i v : ℕ) → set (p ++ q) (length p + i) v ≡ p ++ set q i v
-set-after [] q i v = ap (λ (n : ℕ). set q n v) (zero-add i)
-set-after (x ∷ p) q i v = rw (suc-add (length p) i) (ap (λ (l : List ℕ). x ∷ l) (set-after p q i v))
-
--- a part of a memory that takes the place of another of its length
-put-mid : (p q rest ys : List ℕ) (a k : ℕ) → length p ≡ a → length q ≡ k → take a (p ++ (q ++ rest)) ++ (ys ++ drop k (drop a (p ++ (q ++ rest)))) ≡ p ++ (ys ++ rest)
-put-mid p q rest ys a k l m =
-    ap₂ (λ (x y : List ℕ). x ++ (ys ++ y)) (take-at p (q ++ rest) a l) (ap (drop k) (drop-at p (q ++ rest) a l) ∙ drop-at q rest k m)
-
--- another log, and another total, in a memory that begins with ten numbers and four parts
-module _ (head r u t g rest : List ℕ) (ten : length head ≡ 10) (roots : length r ≡ 64) (rules : length u ≡ 512) (totals : length t ≡ 256)
-    (log : length g ≡ 1024) where
-  front : List ℕ
-  front = head ++ (r ++ (u ++ t))
-
-  front-length : length front ≡ 842
-  unfolding front
-  front-length =
-      omega (
-        arith,
-        length-append head (r ++ (u ++ t)),
-        length-append r (u ++ t),
-        length-append u t,
-      )
-
-  pub put-log : (ys : List ℕ)
-      → take 842 ((head ++ (r ++ (u ++ (t ++ g)))) ++ rest) ++ (ys ++ drop 1024 (drop 842 ((head ++ (r ++ (u ++ (t ++ g)))) ++ rest)))
-      ≡ (head ++ (r ++ (u ++ (t ++ ys)))) ++ rest
-  unfolding front
-  put-log ys =
-      let e : (l : List ℕ) → (head ++ (r ++ (u ++ (t ++ l)))) ++ rest ≡ front ++ (l ++ rest) = λ l. simp append-assoc in
-      ap (λ (l : List ℕ). take 842 l ++ (ys ++ drop 1024 (drop 842 l))) (e g) ∙ put-mid front g rest ys 842 1024 front-length log ∙ sym (e ys)
-
-  pub put-total : (i v : ℕ) → i < 256 → set ((head ++ (r ++ (u ++ (t ++ g)))) ++ rest) (586 + i) v ≡ (head ++ (r ++ (u ++ (set t i v ++ g)))) ++ rest
-  put-total i v h =
-      let p = head ++ (r ++ u) in
-      let e : (l : List ℕ) → (head ++ (r ++ (u ++ (l ++ g)))) ++ rest ≡ p ++ (l ++ (g ++ rest)) = λ l. simp append-assoc in
-      let n : length p ≡ 586 = omega (arith, length-append head (r ++ u), length-append r u) in
-      ap₂ (λ (l : List ℕ) (k : ℕ). set l (k + i) v) (e t) (sym n) ∙ set-after p (t ++ (g ++ rest)) i v
-      ∙ ap (λ (l : List ℕ). p ++ l) (set-append-left t (g ++ rest) i v (omega arith)) ∙ sym (e (set t i v))
+-- how many entries the log says that it has
+pub log-many : (n : ℕ) (xs : List ℕ) → length (logShape n .read (drop 841 xs)) ≡ getD xs 841 0
+unfolding logShape
+log-many n xs = table-many 512 _ (drop 841 xs) ∙ getD-drop 841 xs 0 0

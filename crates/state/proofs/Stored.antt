@@ -1,163 +1,173 @@
--- A state that is stored is read again, and passes the test where it is sound. Assumes nothing.
-use Prim.Native.Nat.{ℕ, suc, _-_, _≤_}
+-- A state that fits is just its numbers: it is read again where it is stored, and memory that is as the map says holds one. Assumes nothing.
+use Prim.Native.Nat.{ℕ, _≤_}
 use native.Mathlib.Omega.{arith}
-use mathlib.Core.Path.{_≡_, refl, sym, ap, ap₂, _∙_}
-use mathlib.Core.Bool.{Bool, true, false}
-use mathlib.Core.List.{List, [], _∷_, _++_, map, append-assoc}
-use lib.ListN.{length, take, drop, take-append-drop}
-use lib.Seq.{drop-at, take-at}
+use mathlib.Core.Path.{_≡_, refl, sym, ap, ap₂, _∙_, subst}
+use mathlib.Core.Bool.{true, _&&_}
+use mathlib.Core.List.{List, [], _++_, append-nil}
+use lib.ListN.{length, take, drop, length-append, take-append-drop}
+use lib.Seq.{drop-at, take-all}
 use lib.Dec.{eqb}
-use Rattle.measures.specs.Ranges.{_to_}
-use Rattle.rules.specs.declared.Rule.{Rule}
-use Rattle.rules.specs.declared.Account.{Account}
-use Rattle.tables.specs.Tables.{zeros, flat, table, places}
-use Rattle.tables.specs.RulePlace.{ruleAt, rulesTable}
-use Rattle.tables.specs.EntryPlace.{entryAt, logTable, flagNumber}
-use Rattle.tables.proofs.Tables.{length-zeros, zeros-add, length-table, places-table}
-use Rattle.tables.proofs.RulePlace.{rule-codec}
-use Rattle.tables.proofs.EntryPlace.{entry-codec}
-use Rattle.rules.specs.Amounts.{numberOf}
-use Rattle.rules.proofs.Amounts.{number-in}
-use Rattle.machine.specs.State.{Profile, State, cellsOf, rootsIn, rulesIn, ruleOf, Fitting, noLocks, fresh, armed}
-use Rattle.profile.specs.Profile.{rootsTable}
-use Rattle.state.specs.State.{size, totalsTable, totalsIn, encode, stored, rootsPart, rulesPart, totalsPart, logPart, accountsOf, decode}
-use Rattle.state.specs.Laid.{Fits}
-use Rattle.state.proofs.Parts.{ones-table, ones-length, ones-take, roots-part, rules-part, totals-part, log-part, laid-length, accounts-again}
+use borrow.Author.Tests.{eqb-true}
+use Rattle.laws.specs.Tests.{and-l, and-r}
+use Rattle.shapes.specs.Shape.{one, both, named, coded, word, flag, table}
+use Rattle.shapes.proofs.Exact.{and-i, rows-many}
+use Rattle.shapes.proofs.Valid.{every-any, rows-ok, table-ok, table-few, table-all}
+use Rattle.machine.specs.State.{Profile, Locks, State, cellsOf, rootsIn, rulesIn, ruleOf, Fitting}
+use Rattle.tables.specs.RulePlace.{ruleShape, rulesShape}
+use Rattle.tables.specs.EntryPlace.{entryShape, logShape}
+use Rattle.state.specs.State.{size, number, marksOf, locksShape, linesOf, profileShape, totalsShape, partShape, Numbers, numbersShape, totalsIn, accountsOf, numbersOf, stateOf, encode, stored, decode}
+use Rattle.state.specs.Laid.{Fits, Laid}
+use Rattle.state.proofs.Accounts.{accounts-rules, accounts-totals, accounts-measured, accounts-again, map-length}
+use Rattle.state.proofs.Exact.{numbers-exact}
 
--- as many rules and totals as accounts
-pub map-length : {A : Type 0} (f : Account → A) (l : List Account) → length (map f l) ≡ length l
-map-length f [] = refl
-map-length f (a ∷ l) = ap suc (map-length f l)
+-- what the validity of numbers says, part by part
+pub record Valid (n : Numbers) : Type 0 where
+  pub mark : n .0 ≡ 1
+  pub roots : table 64 number .ok (n .1 .0 .1 .0 .roots) ≡ true
+  pub rules : rulesShape (length (n .1 .0 .1 .0 .roots)) .ok (n .1 .0 .1 .0 .rules) ≡ true
+  pub totals : totalsShape (n .1 .0 .1 .0 .rules) .ok (n .1 .0 .1 .1 .0) ≡ true
+  pub log : logShape (length (n .1 .0 .1 .0 .roots)) .ok (n .1 .1) ≡ true
 
-abbrev pub headOf : State → List ℕ
-headOf s =
-    1 ∷ s .part .clock ∷ s .part .profile .firm ∷ length (s .part .profile .roots) ∷ length (s .part .profile .rules) ∷ length (s .log)
-    ∷ flagNumber (s .part .locks .firmTripped) ∷ flagNumber (s .part .locks .firmByUser) ∷ s .part .locks .tripped ∷ s .part .locks .byUser ∷ []
+locks-ok : (l : Locks) → locksShape .ok l ≡ true
+unfolding locksShape marksOf named both word flag number one
+locks-ok l = refl
+
+profile-ok : (p : Profile) → table 64 number .ok (p .roots) ≡ true → rulesShape (length (p .roots)) .ok (p .rules) ≡ true → profileShape .ok p ≡ true
+unfolding profileShape named both linesOf number one
+profile-ok p a b = and-i a b
+
+pub valid-ok : (n : Numbers) → Valid n → numbersShape .ok n ≡ true
+unfolding numbersShape partShape both number one
+valid-ok n v =
+    let p = n .1 .0 in
+    and-i (ap (λ (x : ℕ). one (λ y. eqb y 1) .ok x) (v .mark)) (and-i (and-i (profile-ok (p .1 .0) (v .roots) (v .rules)) (and-i (v .totals) (locks-ok (p .1 .1 .1)))) (v .log))
+
+pub ok-valid : (n : Numbers) → numbersShape .ok n ≡ true → Valid n
+unfolding numbersShape partShape profileShape named both linesOf number one
+ok-valid n h =
+    let p = n .1 .0 in
+    let here = and-r (one (λ y. eqb y 1) .ok (n .0)) _ h in
+    let part = and-l (profileShape .ok (p .1 .0) && (totalsShape (p .1 .0 .rules) .ok (p .1 .1 .0) && locksShape .ok (p .1 .1 .1))) _ here in
+    let profile = and-l (profileShape .ok (p .1 .0)) _ part in
+    record {
+      mark = eqb-true _ _ (and-l (one (λ y. eqb y 1) .ok (n .0)) _ h);
+      roots = and-l (table 64 number .ok (p .1 .0 .roots)) _ profile;
+      rules = and-r (table 64 number .ok (p .1 .0 .roots)) _ profile;
+      totals = and-l (totalsShape (p .1 .0 .rules) .ok (p .1 .1 .0)) _ (and-r (profileShape .ok (p .1 .0)) _ part);
+      log = and-r (profileShape .ok (p .1 .0) && (totalsShape (p .1 .0 .rules) .ok (p .1 .1 .0) && locksShape .ok (p .1 .1 .1))) _ here;
+    }
+
+-- the numbers of a state that fits are valid, and stand for it
+module _ (s : State) (f : Fits s) where
+  many-accounts : length (totalsIn (s .part .accounts)) ≡ length (cellsOf (s .part .profile .rules))
+  unfolding Fitting
+  many-accounts = map-length _ (s .part .accounts) ∙ sym (map-length ruleOf (s .part .accounts)) ∙ ap length (f .fitting)
+
+  pub fits-ok : numbersShape .ok (numbersOf s) ≡ true
+  unfolding numbersOf totalsShape rulesShape ruleShape logShape entryShape coded cellsOf number one rootsIn rulesIn
+  fits-ok = valid-ok (numbersOf s) (record {
+    mark = refl;
+    roots = table-ok 64 _ _ (f .roots) (every-any _);
+    rules = table-ok 256 _ _ (f .rules) (f .valid);
+    totals = rows-ok 256 _ _ _ many-accounts (f .rules) (every-any _);
+    log = table-ok 512 _ _ (f .log) (f .entries);
+  })
+
+  pub fits-again : stateOf (numbersOf s) ≡ s
+  unfolding stateOf numbersOf Fitting
+  fits-again = λ i. record {
+    part = record {
+      clock = s .part .clock;
+      profile = s .part .profile;
+      accounts = accounts i;
+      locks = s .part .locks;
+    };
+    log = s .log;
+  }
+    where
+      accounts : accountsOf (cellsOf (s .part .profile .rules)) (totalsIn (s .part .accounts)) ≡ s .part .accounts
+      accounts =
+          ap₂ accountsOf (sym (f .fitting)) (sym (append-nil (totalsIn (s .part .accounts)))) ∙ accounts-again (s .part .accounts) [] (f .measured)
+
+-- valid numbers stand for a state that fits, and are its numbers
+module _ (n : Numbers) (v : Valid n) where
+  totals-many : length (n .1 .0 .1 .1 .0) ≡ length (cellsOf (n .1 .0 .1 .0 .rules))
+  unfolding totalsShape
+  totals-many = rows-many 256 number _ (n .1 .0 .1 .1 .0) (v .totals)
+
+  pub valid-fits : Fits (stateOf n)
+  unfolding stateOf rulesShape ruleShape logShape entryShape coded rootsIn rulesIn Fitting cellsOf
+  valid-fits = record {
+    roots = table-few 64 number _ (v .roots);
+    rules = table-few 256 _ _ (v .rules);
+    log = table-few 512 _ _ (v .log);
+    fitting = accounts-rules _ (n .1 .0 .1 .1 .0) (omega (arith, totals-many));
+    measured = accounts-measured _ (n .1 .0 .1 .1 .0);
+    valid = table-all 256 _ _ (v .rules);
+    entries = table-all 512 _ _ (v .log);
+  }
+
+  pub numbers-again : numbersOf (stateOf n) ≡ n
+  unfolding stateOf numbersOf cellsOf
+  numbers-again = λ i. (sym (v .mark) i, ((n .1 .0 .0, (n .1 .0 .1 .0, (totals i, n .1 .0 .1 .1 .1))), n .1 .1))
+    where
+      totals : totalsIn (accountsOf (n .1 .0 .1 .0 .rules) (n .1 .0 .1 .1 .0)) ≡ n .1 .0 .1 .1 .0
+      totals =
+          accounts-totals (n .1 .0 .1 .0 .rules) (n .1 .0 .1 .1 .0) (omega (arith, totals-many))
+          ∙ take-all (length (n .1 .0 .1 .0 .rules)) (n .1 .0 .1 .1 .0) (omega (arith, totals-many))
 
 module _ (s : State) (f : Fits s) (xs : List ℕ) where
-  abbrev rules : List Rule
-  rules = s .part .profile .rules
-
-  abbrev totals : List ℕ
-  totals = totalsIn (s .part .accounts)
-
-  -- as many accounts as rules
-  pub many-accounts : length totals ≡ length rules
-  unfolding cellsOf Fitting
-  many-accounts = map-length (λ a. numberOf (a .total)) (s .part .accounts) ∙ sym (map-length ruleOf (s .part .accounts)) ∙ ap length (f .fitting)
-
-  pub roots-long : length (rootsTable (s .part .profile .roots)) ≡ 64
-  unfolding rootsTable rootsIn
-  roots-long = ones-length 64 (s .part .profile .roots) (f .roots)
-
-  pub rules-long : length (rulesTable rules) ≡ 512
-  unfolding rootsIn rulesIn
-  rules-long = length-table (rule-codec (length (s .part .profile .roots)) (f .roots)) 256 rules (f .rules)
-
-  pub totals-long : length (totalsTable totals) ≡ 256
-  unfolding totalsTable rulesIn
-  totals-long = ones-length 256 totals (omega (arith, many-accounts, f .rules))
-
-  pub log-long : length (logTable (s .log)) ≡ 1024
-  unfolding rootsIn
-  log-long = length-table (entry-codec (length (s .part .profile .roots)) (f .roots)) 512 (s .log) (f .log)
-
-  pub stored-roots : rootsPart (stored s xs) ≡ rootsTable (s .part .profile .roots)
-  unfolding stored encode
-  stored-roots = roots-part (headOf s) (rootsTable (s .part .profile .roots)) (rulesTable rules) (totalsTable totals) (logTable (s .log)) (drop size xs) refl roots-long rules-long totals-long log-long
-
-  pub stored-rules : rulesPart (stored s xs) ≡ rulesTable (s .part .profile .rules)
-  unfolding stored encode
-  stored-rules = rules-part (headOf s) (rootsTable (s .part .profile .roots)) (rulesTable rules) (totalsTable totals) (logTable (s .log)) (drop size xs) refl roots-long rules-long totals-long log-long
-
-  pub stored-totals : totalsPart (stored s xs) ≡ totalsTable (totalsIn (s .part .accounts))
-  unfolding stored encode
-  stored-totals = totals-part (headOf s) (rootsTable (s .part .profile .roots)) (rulesTable rules) (totalsTable totals) (logTable (s .log)) (drop size xs) refl roots-long rules-long totals-long log-long
-
-  pub stored-log : logPart (stored s xs) ≡ logTable (s .log)
-  unfolding stored encode
-  stored-log = log-part (headOf s) (rootsTable (s .part .profile .roots)) (rulesTable rules) (totalsTable totals) (logTable (s .log)) (drop size xs) refl roots-long rules-long totals-long log-long
+  pub decode-stored : decode (stored s xs) ≡ s
+  unfolding decode stored encode
+  decode-stored = ap stateOf (numbers-exact .back (numbersOf s) (drop size xs) (fits-ok s f)) ∙ fits-again s f
 
   pub encode-long : length (encode s) ≡ size
   unfolding encode
-  encode-long = laid-length (headOf s) (rootsTable (s .part .profile .roots)) (rulesTable rules) (totalsTable totals) (logTable (s .log)) [] refl roots-long rules-long totals-long log-long
+  encode-long = numbers-exact .long (numbersOf s) (fits-ok s f)
 
   pub stored-rest : drop size (stored s xs) ≡ drop size xs
   unfolding stored
   stored-rest = drop-at (encode s) (drop size xs) size encode-long
 
-  pub stored-front : take size (stored s xs) ≡ encode s
+  pub stored-test : numbersShape .test (stored s xs) ≡ true
+  unfolding stored encode
+  stored-test = numbers-exact .pass (numbersOf s) (drop size xs) (fits-ok s f)
+
+  pub stored-long : size ≤ length (stored s xs)
   unfolding stored
-  stored-front = take-at (encode s) (drop size xs) size encode-long
+  stored-long = omega (arith, length-append (encode s) (drop size xs), encode-long)
 
-flag-back : (b : Bool) → eqb (flagNumber b) 1 ≡ b
-flag-back true = refl
-flag-back false = refl
-
--- what is stored is read again
-module _ (s : State) (f : Fits s) (xs : List ℕ) where
-  pub roots-back : take (length (s .part .profile .roots)) (rootsPart (stored s xs)) ≡ s .part .profile .roots
-  unfolding rootsTable
-  roots-back = ap (take (length (s .part .profile .roots))) (stored-roots s f xs) ∙ ones-take 64 (s .part .profile .roots)
-
-  pub rules-back : places 2 ruleAt (length (s .part .profile .rules)) (rulesPart (stored s xs)) ≡ s .part .profile .rules
-  unfolding rootsIn rulesIn
-  rules-back =
-      ap (places 2 ruleAt (length (s .part .profile .rules))) (stored-rules s f xs)
-      ∙ places-table (rule-codec (length (s .part .profile .roots)) (f .roots)) 256 (s .part .profile .rules) (f .valid)
-
-  pub log-back : places 2 entryAt (length (s .log)) (logPart (stored s xs)) ≡ s .log
-  unfolding rootsIn
-  log-back =
-      ap (places 2 entryAt (length (s .log))) (stored-log s f xs) ∙ places-table (entry-codec (length (s .part .profile .roots)) (f .roots)) 512 (s .log) (f .entries)
-
-  accounts-back : accountsOf (cellsOf (places 2 ruleAt (length (s .part .profile .rules)) (rulesPart (stored s xs)))) (totalsPart (stored s xs)) ≡ s .part .accounts
-  unfolding totalsTable cellsOf Fitting
-  accounts-back =
-      ap₂ accountsOf (rules-back ∙ sym (f .fitting)) (stored-totals s f xs ∙ ones-table 256 (totalsIn (s .part .accounts))) ∙ accounts-again (s .part .accounts) _ (f .measured)
-
-  pub decode-stored : decode (stored s xs) ≡ s
-  unfolding decode stored encode
-  decode-stored = λ i. record {
-    part = record {
-      clock = s .part .clock;
-      profile = record { firm = s .part .profile .firm; roots = roots-back i; rules = rules-back i };
-      accounts = accounts-back i;
-      locks = record {
-        firmTripped = flag-back (s .part .locks .firmTripped) i;
-        firmByUser = flag-back (s .part .locks .firmByUser) i;
-        tripped = s .part .locks .tripped;
-        byUser = s .part .locks .byUser;
-      };
-    };
-    log = log-back i;
+  -- where a state that fits is stored, it is laid out
+  pub stored-laid : Laid (stored s xs)
+  unfolding stored
+  stored-laid = record {
+    long = stored-long;
+    is = ap (λ (l : List ℕ). encode s ++ l) (sym stored-rest) ∙ ap (λ (t : State). stored t (stored s xs)) (sym decode-stored);
+    fits = subst Fits (sym decode-stored) f;
   }
+
+  -- storing another state over it is storing that one
+  pub stored-again : (t : State) → stored t (stored s xs) ≡ stored t xs
+  unfolding stored
+  stored-again t = ap (λ (l : List ℕ). encode t ++ l) stored-rest
 
 -- a memory whose front is a state's numbers is that state stored in it
 pub is-stored : (s : State) (xs : List ℕ) → take size xs ≡ encode s → xs ≡ stored s xs
 unfolding stored
 is-stored s xs h = sym (take-append-drop size xs) ∙ ap (λ (l : List ℕ). l ++ drop size xs) h
 
--- a freshly armed state: its roots and rules in their places, and zeros after them
-fresh-totals : (rules : List Rule) → totalsIn (map fresh rules) ≡ zeros (length rules)
-unfolding zeros fresh
-fresh-totals [] = refl
-fresh-totals (rule ∷ rules) = ap₂ (λ (x : ℕ) (l : List ℕ). x ∷ l) (number-in (rule .limit) 0) (fresh-totals rules)
+-- memory that is as the map says has a state laid out
+module _ (xs : List ℕ) (long : size ≤ length xs) (test : numbersShape .test xs ≡ true) where
+  valid : Valid (numbersShape .read xs)
+  valid = ok-valid (numbersShape .read xs) (numbers-exact .valid xs long test)
 
-joined-parts : (h r u t d : List ℕ) → (h ++ (r ++ (u ++ t))) ++ d ≡ h ++ (r ++ (u ++ (t ++ d)))
-joined-parts h r u t d = simp append-assoc
+  pub test-restored : take size xs ≡ encode (decode xs)
+  unfolding encode decode
+  test-restored = sym (ap (numbersShape .write) (numbers-again (numbersShape .read xs) valid) ∙ numbers-exact .same xs long test)
 
-pub armed-stored : (p : Profile) (xs : List ℕ) → length (p .rules) ≤ 256
-    → (1 ∷ 0 ∷ p .firm ∷ length (p .roots) ∷ length (p .rules) ∷ 0 ∷ 0 ∷ 0 ∷ 0 ∷ 0 ∷ [])
-    ++ (rootsTable (p .roots) ++ (rulesTable (p .rules) ++ (zeros 1280 ++ drop size xs)))
-    ≡ stored (armed p) xs
-unfolding stored encode armed cellsOf noLocks totalsTable table flat
-armed-stored p xs h =
-    let ts = totalsIn (map fresh (p .rules)) in
-    let t : zeros 256 ≡ table 1 256 (λ total. total ∷ []) ts =
-    sym (ones-table 256 ts ∙ ap (λ (l : List ℕ). l ++ zeros (256 - length l)) (fresh-totals (p .rules))
-    ∙ ap (λ (n : ℕ). zeros (length (p .rules)) ++ zeros (256 - n)) (length-zeros (length (p .rules)))
-    ∙ zeros-add (length (p .rules)) (256 - length (p .rules)) ∙ ap zeros (omega arith)) in
-    ap (λ (l : List ℕ). (1 ∷ 0 ∷ p .firm ∷ length (p .roots) ∷ length (p .rules) ∷ 0 ∷ 0 ∷ 0 ∷ 0 ∷ 0 ∷ []) ++ (rootsTable (p .roots) ++ (rulesTable (p .rules) ++ (l ++ drop size xs))))
-    (sym (zeros-add 256 1024) ∙ ap (λ (l : List ℕ). l ++ zeros 1024) t)
-    ∙ sym (joined-parts (1 ∷ 0 ∷ p .firm ∷ length (p .roots) ∷ length (p .rules) ∷ 0 ∷ 0 ∷ 0 ∷ 0 ∷ 0 ∷ []) (rootsTable (p .roots)) (rulesTable (p .rules)) (table 1 256 (λ total. total ∷ []) ts ++ zeros 1024) (drop size xs))
+  pub test-fits : Fits (decode xs)
+  unfolding decode
+  test-fits = valid-fits (numbersShape .read xs) valid
+
+  pub test-laid : Laid xs
+  test-laid = record { long = long; is = is-stored (decode xs) xs test-restored; fits = test-fits }

@@ -1,92 +1,118 @@
--- Stores into a memory in which a state is laid out: the state that it then holds. Assumes nothing.
-use Prim.Native.Nat.{ℕ, zero, suc, _+_, _-_, _≤_, _<_}
+-- What stands in memory in which a state is laid out, part by part, and the state that a store into one part leaves. Assumes nothing.
+use Prim.Native.Nat.{ℕ, _+_, _*_, _-_, _<_}
+use native.Mathlib.Nat.{mul-one}
 use native.Mathlib.Omega.{arith}
-use mathlib.Core.Path.{_≡_, refl, sym, ap, ap₂, _∙_, subst}
-use mathlib.Core.List.{List, [], _∷_, _++_, map}
-use lib.ListN.{length, getD, take, drop, set, length-append, length-set}
-use lib.Seq.{set-append-left}
-use Rattle.rules.specs.declared.Account.{Account}
-use Rattle.tables.specs.Tables.{table, zeros}
-use Rattle.tables.specs.RulePlace.{rulesTable}
-use Rattle.tables.specs.EntryPlace.{logTable, flagNumber}
+use mathlib.Core.Path.{_≡_, refl, sym, ap, _∙_}
+use mathlib.Core.Bool.{true}
+use mathlib.Core.List.{List, [], _∷_, _++_}
+use lib.ListN.{length, getD, take, drop, set, List·getD-map}
+use lib.Seq.{getD-take, getD-drop}
+use Rattle.shapes.specs.Shape.{Exact, one, both, named, word, flag, rows, table}
+use Rattle.shapes.proofs.Exact.{table-exact}
+use Rattle.shapes.proofs.Parts.{Part, part-of, put-part, put-one, seen, narrow}
 use Rattle.rules.specs.Amounts.{numberOf}
+use Rattle.rules.specs.declared.Account.{Account}
+use Rattle.tables.specs.Tables.{zeros, flat}
+use Rattle.tables.specs.RulePlace.{rulesTable}
+use Rattle.tables.specs.EntryPlace.{logShape}
+use Rattle.tables.proofs.Shapes.{rules-exact, log-exact, rules-written, log-written}
 use Rattle.machine.specs.declared.Entry.{Entry}
-use Rattle.machine.specs.State.{State, rulesIn}
-use Rattle.profile.specs.Profile.{rootsTable}
-use Rattle.state.specs.State.{size, totalsTable, totalsIn, encode, stored}
-use Rattle.state.specs.Laid.{Fits, Laid, withLog, withAccounts}
-use Rattle.state.proofs.Parts.{ones-table, put-log, put-total}
-use Rattle.state.proofs.Stored.{headOf, map-length, many-accounts, roots-long, rules-long, totals-long, log-long, encode-long, stored-rest, decode-stored}
+use Rattle.machine.specs.State.{State, Locks, rootsIn, ruleOf, Fitting}
+use Rattle.machine.specs.Remaining.{noAccount}
+use Rattle.log.specs.Log.{logNumbers}
+use Rattle.state.specs.State.{size, number, marksOf, locksShape, locksNumbers, numbersShape, numbersOf, encode, stored}
+use Rattle.state.specs.Laid.{Fits, withClock, withLocks, withLog, withAccounts}
+use Rattle.state.proofs.Accounts.{map-length, map-set}
+use Rattle.state.proofs.Exact.{number-exact, locks-exact}
+use Rattle.state.proofs.Stored.{fits-ok}
+use Rattle.state.proofs.Places.{clock-in, roots-in, rules-in, HasTotal, total-in, locks-in, log-in}
 
--- where a state that fits is stored, it is laid out
-pub stored-laid : (s : State) (xs : List ℕ) → Fits s → Laid (stored s xs)
-unfolding stored
-stored-laid s xs f = record {
-  long = omega (arith, stored-length);
-  is = ap (λ (l : List ℕ). encode s ++ l) (sym (stored-rest s f xs)) ∙ ap (λ (t : State). stored t (stored s xs)) (sym (decode-stored s f xs));
-  fits = subst Fits (sym (decode-stored s f xs)) f;
-}
-  where
-    stored-length : size ≤ length (stored s xs)
-    stored-length = omega (arith, length-append (encode s) (drop size xs), encode-long s f xs)
+-- the parts of a state that fits
+clock-of : Part Fits encode (λ s. number) 1 (λ s. s .part .clock) withClock
+unfolding encode numbersOf
+clock-of = narrow (seen clock-in numbersOf withClock (λ s t. refl)) Fits (λ s f. fits-ok s f)
 
--- storing twice is storing the second
-pub stored-again : (s t : State) (xs : List ℕ) → Fits t → stored s (stored t xs) ≡ stored s xs
-unfolding stored
-stored-again s t xs f = ap (λ (l : List ℕ). encode s ++ l) (stored-rest t f xs)
+locks-of : Part Fits encode (λ s. locksShape) 837 (λ s. s .part .locks) withLocks
+unfolding encode numbersOf
+locks-of = narrow (seen locks-in numbersOf withLocks (λ s l. refl)) Fits (λ s f. fits-ok s f)
 
-map-set : {A B : Type 0} (g : A → B) (l : List A) (i : ℕ) (y : A) → map g (set l i y) ≡ set (map g l) i (g y)
-map-set g [] i y = refl
-map-set g (x ∷ l) zero y = refl
-map-set g (x ∷ l) (suc i) y = ap (λ m. g x ∷ m) (map-set g l i y)
+log-of : Part Fits encode (λ s. logShape (length (s .part .profile .roots))) 841 (λ s. s .log) withLog
+unfolding encode numbersOf
+log-of = narrow (seen log-in numbersOf withLog (λ s l. refl)) Fits (λ s f. fits-ok s f)
 
--- another log of valid entries, with its number in front
+locks-written : (l : Locks) → locksShape .write l ≡ locksNumbers l
+unfolding locksShape named both word flag number one marksOf
+locks-written l = refl
+
+roots-written : (roots : List ℕ) → table 64 number .write roots ≡ length roots ∷ (flat (number .write) roots ++ zeros (64 * 1 - length roots * 1))
+unfolding table named both one rows
+roots-written roots = refl
+
 module _ (s : State) (f : Fits s) (xs : List ℕ) where
-  pub put-entries : (log : List Entry)
-      → take 842 (stored s xs) ++ (logTable log ++ drop 1024 (drop 842 (stored s xs)))
-      ≡ (headOf s ++ (rootsTable (s .part .profile .roots) ++ (rulesTable (s .part .profile .rules) ++ (totalsTable (totalsIn (s .part .accounts)) ++ logTable log))))
-      ++ drop size xs
-  unfolding stored encode
-  put-entries log =
-      put-log (headOf s) (rootsTable (s .part .profile .roots)) (rulesTable (s .part .profile .rules)) (totalsTable (totalsIn (s .part .accounts)))
-      (logTable (s .log)) (drop size xs) refl (roots-long s f xs) (rules-long s f xs) (totals-long s f xs) (log-long s f xs) (logTable log)
+  log-fits : Exact (logShape (length (s .part .profile .roots)))
+  unfolding rootsIn
+  log-fits = log-exact (length (s .part .profile .roots)) (f .roots)
 
-  -- as many entries as before
-  pub put-same : (log : List Entry) → length log ≡ length (s .log)
-      → take 842 (stored s xs) ++ (logTable log ++ drop 1024 (drop 842 (stored s xs))) ≡ stored (withLog s log) xs
-  unfolding stored encode
-  put-same log e =
-      put-entries log
-      ∙ (λ i. (1 ∷ s .part .clock ∷ s .part .profile .firm ∷ length (s .part .profile .roots) ∷ length (s .part .profile .rules) ∷ sym e i ∷ flagNumber (s .part .locks .firmTripped) ∷ flagNumber (s .part .locks .firmByUser)
-      ∷ s .part .locks .tripped ∷ s .part .locks .byUser
-      ∷ (rootsTable (s .part .profile .roots) ++ (rulesTable (s .part .profile .rules) ++ (totalsTable (totalsIn (s .part .accounts)) ++ logTable log))))
-      ++ drop size xs)
+  -- what stands in the parts
+  pub stored-clock : take 1 (drop 1 (stored s xs)) ≡ s .part .clock ∷ []
+  unfolding stored number one
+  stored-clock = part-of clock-of s f number-exact (drop size xs)
 
-  -- another number of entries
-  pub put-other : (log : List Entry)
-      → set (take 842 (stored s xs) ++ (logTable log ++ drop 1024 (drop 842 (stored s xs)))) 5 (length log) ≡ stored (withLog s log) xs
-  unfolding stored encode
-  put-other log = ap (λ (l : List ℕ). set l 5 (length log)) (put-entries log)
+  pub stored-locks : take 4 (drop 837 (stored s xs)) ≡ locksNumbers (s .part .locks)
+  unfolding stored
+  stored-locks = part-of locks-of s f locks-exact (drop size xs) ∙ locks-written (s .part .locks)
 
-  -- another total of account i
-  pub put-account : (i : ℕ) (a d : Account) → i < length (s .part .accounts) → a .rule ≡ getD (s .part .accounts) i d .rule
-      → set (stored s xs) (586 + i) (numberOf (a .total)) ≡ stored (withAccounts s (set (s .part .accounts) i a)) xs
-  unfolding stored encode totalsTable rulesIn
-  put-account i a d h e =
-      put-total (headOf s) (rootsTable (s .part .profile .roots)) (rulesTable (s .part .profile .rules)) (totalsTable (totalsIn (s .part .accounts)))
-      (logTable (s .log)) (drop size xs) refl (roots-long s f xs) (rules-long s f xs) (totals-long s f xs) (log-long s f xs) i (numberOf (a .total))
-      (omega (arith, f .rules, many-accounts s f xs, many))
-      ∙ ap (λ (l : List ℕ). (headOf s ++ (rootsTable (s .part .profile .roots) ++ (rulesTable (s .part .profile .rules) ++ (l ++ logTable (s .log))))) ++ drop size xs) totals-set
-    where
-      many : length (totalsIn (s .part .accounts)) ≡ length (s .part .accounts)
-      many = map-length (λ b. numberOf (b .total)) (s .part .accounts)
+  pub stored-log : take 1025 (drop 841 (stored s xs)) ≡ logNumbers (s .log)
+  unfolding stored
+  stored-log = part-of log-of s f log-fits (drop size xs) ∙ log-written _ (s .log)
 
-      totals-set : set (table 1 256 (λ total. total ∷ []) (totalsIn (s .part .accounts))) i (numberOf (a .total))
-          ≡ table 1 256 (λ total. total ∷ []) (totalsIn (set (s .part .accounts) i a))
-      totals-set =
-          let ts = totalsIn (s .part .accounts) in
-          let e : totalsIn (set (s .part .accounts) i a) ≡ set ts i (numberOf (a .total)) = map-set (λ (b : Account). numberOf (b .total)) (s .part .accounts) i a in
-          ap (λ (l : List ℕ). set l i (numberOf (a .total))) (ones-table 256 ts)
-          ∙ set-append-left ts (zeros (256 - length ts)) i (numberOf (a .total)) (omega (arith, many))
-          ∙ ap₂ (λ (l : List ℕ) (n : ℕ). l ++ zeros (256 - n)) (sym e) (sym (ap length e ∙ length-set ts i (numberOf (a .total))))
-          ∙ sym (ones-table 256 (totalsIn (set (s .part .accounts) i a)))
+  pub stored-rules : take 513 (drop 68 (stored s xs)) ≡ length (s .part .profile .rules) ∷ rulesTable (s .part .profile .rules)
+  unfolding stored encode numbersOf rootsIn
+  stored-rules =
+      part-of rules-in (numbersOf s) (fits-ok s f) (rules-exact (length (s .part .profile .roots)) (f .roots)) (drop size xs)
+      ∙ rules-written _ (s .part .profile .rules)
+
+  pub stored-roots : getD (stored s xs) 3 0 ≡ length (s .part .profile .roots)
+  unfolding stored encode numbersOf
+  stored-roots =
+      sym (getD-take 65 (drop 3 (stored s xs)) 0 0 (omega arith) ∙ getD-drop 3 (stored s xs) 0 0)
+      ∙ ap (λ (l : List ℕ). getD l 0 0) (part-of roots-in (numbersOf s) (fits-ok s f) (table-exact 64 number number-exact) (drop size xs) ∙ roots-written (s .part .profile .roots))
+
+  has-total : (i : ℕ) → i < length (s .part .accounts) → HasTotal i (numbersOf s)
+  unfolding numbersOf Fitting
+  has-total i h =
+      (fits-ok s f, omega (arith, map-length ruleOf (s .part .accounts), ap length (f .fitting)))
+
+  pub stored-total : (i : ℕ) → i < length (s .part .accounts) → getD (stored s xs) (581 + i) 0 ≡ numberOf (getD (s .part .accounts) i noAccount .total)
+  unfolding stored encode numbersOf number one noAccount numberOf
+  stored-total i h =
+      let at : 581 + i * 1 ≡ 581 + i = ap (λ (j : ℕ). 581 + j) (mul-one i) in
+      let here : 581 + i ≡ 581 + i + 0 = omega arith in
+      ap (λ (j : ℕ). getD (stored s xs) j 0) here ∙ sym (getD-take 1 (drop (581 + i) (stored s xs)) 0 0 (omega arith) ∙ getD-drop (581 + i) (stored s xs) 0 0)
+      ∙ ap (λ (j : ℕ). getD (take 1 (drop j (stored s xs))) 0 0) (sym at)
+      ∙ ap (λ (l : List ℕ). getD l 0 0) (part-of (total-in i) (numbersOf s) (has-total i h) number-exact (drop size xs))
+      ∙ List·getD-map (λ (a : Account). numberOf (a .total)) (s .part .accounts) i noAccount
+
+  -- another clock, other locks, another log, another total
+  pub put-clock : (t : ℕ) → set (stored s xs) 1 t ≡ stored (withClock s t) xs
+  unfolding stored number
+  put-clock t = put-one (λ x. true) clock-of s f (drop size xs) t
+
+  pub put-locks : (l : Locks) → take 837 (stored s xs) ++ (locksNumbers l ++ drop 4 (drop 837 (stored s xs))) ≡ stored (withLocks s l) xs
+  unfolding stored
+  put-locks l =
+      ap (λ (q : List ℕ). take 837 (stored s xs) ++ (q ++ drop 4 (drop 837 (stored s xs)))) (sym (locks-written l)) ∙ put-part locks-of s f locks-exact (drop size xs) l
+
+  pub put-log : (log : List Entry) → take 841 (stored s xs) ++ (logNumbers log ++ drop 1025 (drop 841 (stored s xs))) ≡ stored (withLog s log) xs
+  unfolding stored
+  put-log log =
+      ap (λ (q : List ℕ). take 841 (stored s xs) ++ (q ++ drop 1025 (drop 841 (stored s xs)))) (sym (log-written _ log)) ∙ put-part log-of s f log-fits (drop size xs) log
+
+  pub put-account : (i : ℕ) (a : Account) → i < length (s .part .accounts)
+      → set (stored s xs) (581 + i) (numberOf (a .total)) ≡ stored (withAccounts s (set (s .part .accounts) i a)) xs
+  unfolding stored encode numbersOf number
+  put-account i a h =
+      ap (λ (j : ℕ). set (stored s xs) (581 + j) (numberOf (a .total))) (sym (mul-one i))
+      ∙ put-one (λ x. true) (total-in i) (numbersOf s) (has-total i h) (drop size xs) (numberOf (a .total))
+      ∙ ap (λ (t : List ℕ). numbersShape .write (1, ((s .part .clock, (s .part .profile, (t, s .part .locks))), s .log)) ++ drop size xs)
+      (sym (map-set (λ (b : Account). numberOf (b .total)) (s .part .accounts) i a))

@@ -48,25 +48,33 @@ over-tail xs p rest new y a e l w =
     ap₂ (λ (u v : List ℕ). u ++ v) (ap (take a) e ∙ take-at p rest a l)
     (ap₂ (λ (u v : List ℕ). u ++ v) (w ∙ ap (λ (t : List ℕ). new ++ drop (length new) t) whole) none ∙ append-nil (new ++ drop (length new) rest))
 
--- the four writes of a freshly armed state
-module _ (m head names table zs : List ℕ) (long : 1866 ≤ length m) (ten : length head ≡ 10) (roots : length names ≡ 64) (rules : length table ≡ 512) where
-  pub writes : (m1 p2 m2 p3 m3 : List ℕ) → m1 ≡ head ++ drop (length head) m
-      → p2 ≡ names ++ drop (length names) (take (length m1 - 10) (drop 10 m1)) → m2 ≡ take 10 m1 ++ (p2 ++ drop (length m1 - 10) (drop 10 m1))
-      → p3 ≡ table ++ drop (length table) (take (length m2 - 74) (drop 74 m2)) → m3 ≡ take 74 m2 ++ (p3 ++ drop (length m2 - 74) (drop 74 m2))
-      → (1280 ≤ length (drop 586 m3)) × (take 586 m3 ++ (zs ++ drop 1280 (drop 586 m3)) ≡ head ++ (names ++ (table ++ (zs ++ drop 1866 m))))
-  writes m1 p2 m2 p3 m3 e1 f2 e2 f3 e3 =
-      let n10 : length (head ++ names) ≡ 74 = omega (arith, length-append head names) in
-      let n74 : length ((head ++ names) ++ table) ≡ 586 = omega (arith, length-append (head ++ names) table, n10) in
-      let a1 : m1 ≡ head ++ drop 10 m = e1 ∙ ap (λ (k : ℕ). head ++ drop k m) ten in
-      let a2 : m2 ≡ (head ++ names) ++ drop 74 m =
-      e2 ∙ over-tail m1 head (drop 10 m) names p2 10 a1 ten f2
-      ∙ ap (λ (t : List ℕ). head ++ (names ++ t)) (ap (λ (k : ℕ). drop k (drop 10 m)) roots ∙ drop-drop 64 10 m) ∙ sym (append-assoc head names (drop 74 m)) in
-      let a3 : m3 ≡ ((head ++ names) ++ table) ++ drop 586 m =
-      e3 ∙ over-tail m2 (head ++ names) (drop 74 m) table p3 74 a2 n10 f3
-      ∙ ap (λ (t : List ℕ). (head ++ names) ++ (table ++ t)) (ap (λ (k : ℕ). drop k (drop 74 m)) rules ∙ drop-drop 512 74 m)
-      ∙ sym (append-assoc (head ++ names) table (drop 586 m)) in
-      let rest : drop 586 m3 ≡ drop 586 m = ap (drop 586) a3 ∙ drop-at ((head ++ names) ++ table) (drop 586 m) 586 n74 in (
-        omega (arith, ap length rest, length-drop 586 m),
-        ap₂ (λ (u v : List ℕ). u ++ (zs ++ v)) (ap (take 586) a3 ∙ take-at ((head ++ names) ++ table) (drop 586 m) 586 n74) (ap (drop 1280) rest ∙ drop-drop 1280 586 m)
-            ∙ append-assoc (head ++ names) table (zs ++ drop 1866 m) ∙ append-assoc head names (table ++ (zs ++ drop 1866 m)),
+-- numbers written after those that were written before
+pub write-on : (m before m1 new p m2 : List ℕ) (a k b : ℕ) → length before ≡ a → length new ≡ k → a + k ≡ b → m1 ≡ before ++ drop a m
+    → p ≡ new ++ drop (length new) (take (length m1 - a) (drop a m1)) → m2 ≡ take a m1 ++ (p ++ drop (length m1 - a) (drop a m1))
+    → m2 ≡ (before ++ new) ++ drop b m
+write-on m before m1 new p m2 a k b l n s e f g =
+    g ∙ over-tail m1 before (drop a m) new p a e l f
+    ∙ ap (λ (t : List ℕ). before ++ (new ++ t)) (ap (λ (j : ℕ). drop j (drop a m)) n ∙ drop-drop k a m ∙ ap (λ (j : ℕ). drop j m) s)
+    ∙ sym (append-assoc before new (drop b m))
+
+-- the writes of a freshly armed state: the front, the names, how many rules, and their places; then zeros up to the end
+module _ (m head names count table zs : List ℕ) (long : 1866 ≤ length m) (four : length head ≡ 4) (roots : length names ≡ 64) (one : length count ≡ 1)
+    (rules : length table ≡ 512) where
+  pub writes : (m1 p2 m2 p3 m3 p4 m4 : List ℕ) → m1 ≡ head ++ drop (length head) m
+      → p2 ≡ names ++ drop (length names) (take (length m1 - 4) (drop 4 m1)) → m2 ≡ take 4 m1 ++ (p2 ++ drop (length m1 - 4) (drop 4 m1))
+      → p3 ≡ count ++ drop (length count) (take (length m2 - 68) (drop 68 m2)) → m3 ≡ take 68 m2 ++ (p3 ++ drop (length m2 - 68) (drop 68 m2))
+      → p4 ≡ table ++ drop (length table) (take (length m3 - 69) (drop 69 m3)) → m4 ≡ take 69 m3 ++ (p4 ++ drop (length m3 - 69) (drop 69 m3))
+      → (1285 ≤ length (drop 581 m4)) × (take 581 m4 ++ (zs ++ drop 1285 (drop 581 m4)) ≡ head ++ (names ++ (count ++ (table ++ (zs ++ drop 1866 m)))))
+  writes m1 p2 m2 p3 m3 p4 m4 e1 f2 e2 f3 e3 f4 e4 =
+      let n2 : length (head ++ names) ≡ 68 = omega (arith, length-append head names) in
+      let n3 : length ((head ++ names) ++ count) ≡ 69 = omega (arith, length-append (head ++ names) count, n2) in
+      let n4 : length (((head ++ names) ++ count) ++ table) ≡ 581 = omega (arith, length-append ((head ++ names) ++ count) table, n3) in
+      let a1 : m1 ≡ head ++ drop 4 m = e1 ∙ ap (λ (k : ℕ). head ++ drop k m) four in
+      let a2 : m2 ≡ (head ++ names) ++ drop 68 m = write-on m head m1 names p2 m2 4 64 68 four roots refl a1 f2 e2 in
+      let a3 : m3 ≡ ((head ++ names) ++ count) ++ drop 69 m = write-on m (head ++ names) m2 count p3 m3 68 1 69 n2 one refl a2 f3 e3 in
+      let a4 : m4 ≡ (((head ++ names) ++ count) ++ table) ++ drop 581 m = write-on m ((head ++ names) ++ count) m3 table p4 m4 69 512 581 n3 rules refl a3 f4 e4 in
+      let rest : drop 581 m4 ≡ drop 581 m = ap (drop 581) a4 ∙ drop-at (((head ++ names) ++ count) ++ table) (drop 581 m) 581 n4 in (
+        omega (arith, ap length rest, length-drop 581 m),
+        ap₂ (λ (u v : List ℕ). u ++ (zs ++ v)) (ap (take 581) a4 ∙ take-at (((head ++ names) ++ count) ++ table) (drop 581 m) 581 n4) (ap (drop 1285) rest ∙ drop-drop 1285 581 m)
+            ∙ simp append-assoc,
       )

@@ -3,14 +3,16 @@ use Prim.Native.Nat.{ℕ, _≤_}
 use mathlib.Core.Path.{_≡_}
 use mathlib.Core.Bool.{true}
 use mathlib.Core.List.{List}
-use lib.ListN.{length}
+use lib.ListN.{length, getD, set}
 use Rattle.laws.specs.Folds.{every}
 use Rattle.rules.specs.Amounts.{isOf}
 use Rattle.rules.specs.Valid.{isRule}
+use Rattle.rules.specs.declared.Amount.{Amount}
 use Rattle.rules.specs.declared.Account.{Account}
 use Rattle.machine.specs.declared.Entry.{Entry}
-use Rattle.machine.specs.State.{State, rulesIn, rootsIn, Fitting}
+use Rattle.machine.specs.State.{State, Locks, rulesIn, rootsIn, Fitting}
 use Rattle.machine.specs.Entries.{isEntry}
+use Rattle.machine.specs.Remaining.{noAccount}
 use Rattle.state.specs.State.{size, stored, decode}
 
 -- a state whose tables have room, whose accounts are those of its rules, and whose rules, totals' measures and entries are valid
@@ -29,7 +31,23 @@ pub record Laid (xs : List ℕ) : Type 0 where
   pub is : xs ≡ stored (decode xs) xs
   pub fits : Fits (decode xs)
 
--- a state with another log, and with other accounts
+-- the account at place i of the state in a memory
+abbrev pub accountIn : List ℕ → ℕ → Account
+accountIn xs i = getD (decode xs .part .accounts) i noAccount
+
+-- a state with another clock, other locks, another log, and other accounts
+abbrev pub withClock : State → ℕ → State
+withClock s clock = record {
+  part = record { clock = clock; profile = s .part .profile; accounts = s .part .accounts; locks = s .part .locks };
+  log = s .log;
+}
+
+abbrev pub withLocks : State → Locks → State
+withLocks s locks = record {
+  part = record { clock = s .part .clock; profile = s .part .profile; accounts = s .part .accounts; locks = locks };
+  log = s .log;
+}
+
 abbrev pub withLog : State → List Entry → State
 withLog s log = record { part = s .part; log = log }
 
@@ -38,3 +56,7 @@ withAccounts s accounts = record {
   part = record { clock = s .part .clock; profile = s .part .profile; accounts = accounts; locks = s .part .locks };
   log = s .log;
 }
+
+-- the account at place i with another total
+abbrev pub withTotal : State → ℕ → Amount → State
+withTotal s i total = withAccounts s (set (s .part .accounts) i (record { rule = getD (s .part .accounts) i noAccount .rule; total = total }))

@@ -5,15 +5,15 @@ use mathlib.Core.Bool.{Bool, _&&_, _||_}
 use mathlib.Core.List.{List}
 use lib.ListN.{length, getD, take}
 use lib.Dec.{eqb, leb, ltb}
-use Rattle.measures.specs.Ranges.{_to_, isIn, times}
-use Rattle.rules.specs.Valid.{hasRate}
-use Rattle.machine.specs.State.{Profile, State}
+use Rattle.laws.specs.Folds.{every}
+use Rattle.measures.specs.Ranges.{isIn, times}
+use Rattle.rules.specs.Valid.{hasRate, isTotal}
+use Rattle.machine.specs.State.{Profile, State, rulesIn, rootsIn}
+use Rattle.machine.specs.Entries.{areOrdered}
 use Rattle.machine.specs.Sound.{SoundIn}
 use Rattle.profile.specs.Profile.{outcomeOf}
-use Rattle.made.specs.Names.{isNameNumber}
-use Rattle.made.specs.Parts.{rootsHold, rulesHold, totalsHold}
-use Rattle.log.specs.Log.{logHolds}
-use Rattle.state.specs.State.{size, encode, rootsPart, rulesPart, totalsPart, logPart, rulesAt}
+use Rattle.made.specs.Made.{isMade}
+use Rattle.state.specs.State.{size, numbersShape, encode, decode}
 
 -- some accepted profile gives this firm, these roots and these rules
 unfoldable pub Given : Profile → Type 0
@@ -27,17 +27,15 @@ SoundState s = SoundIn Given s
 unfoldable pub Sound : List ℕ → Type 0
 Sound xs = (s : State) × (SoundState s × (take size xs ≡ encode s))
 
--- the ten numbers in front, as a test
-unfoldable pub headHolds : List ℕ → Bool
-headHolds xs =
-    eqb (getD xs 0 0) 1 && isIn times (getD xs 1 0) && isNameNumber 1 4 (getD xs 2 0) && isIn (0 to 64) (getD xs 3 0) && isIn (1 to 256) (getD xs 4 0)
-    && isIn (0 to 512) (getD xs 5 0) && isIn (0 to 1) (getD xs 6 0) && isIn (0 to 1) (getD xs 7 0) && ltb (getD xs 8 0) (2 ^ getD xs 3 0)
-    && ltb (getD xs 9 0) (2 ^ getD xs 3 0)
+-- what soundness asks of a state whose numbers stand in the map
+unfoldable pub isSoundState : State → Bool
+isSoundState s =
+    isIn times (s .part .clock) && isMade (s .part .profile) && every (λ a. isTotal (a .rule) (a .total)) (s .part .accounts)
+    && ltb (s .part .locks .tripped) (2 ^ rootsIn s)
+    && ltb (s .part .locks .byUser) (2 ^ rootsIn s)
+    && (hasRate (rulesIn s) || eqb (length (s .log)) 0)
+    && areOrdered 0 (s .part .clock) (s .log)
 
--- the test that the code runs
+-- the test that the code runs: the memory is as the map says, and the state is sound
 unfoldable pub isSound : List ℕ → Bool
-isSound xs =
-    leb size (length xs) && headHolds xs && rootsHold (getD xs 3 0) (rootsPart xs) && rulesHold (getD xs 3 0) (getD xs 4 0) (rulesPart xs)
-    && totalsHold (rulesAt xs) (totalsPart xs)
-    && (hasRate (rulesAt xs) || eqb (getD xs 5 0) 0)
-    && logHolds (getD xs 3 0) (getD xs 1 0) (getD xs 5 0) (logPart xs)
+isSound xs = leb size (length xs) && numbersShape .test xs && isSoundState (decode xs)

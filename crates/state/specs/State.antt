@@ -1,53 +1,82 @@
--- The numbers of lent memory that hold a state. Assumes nothing.
+-- The map of lent memory as one shape, put together of parts, and the numbers of a state. Assumes nothing.
 use Prim.Native.Nat.{ℕ}
+use mathlib.Core.Bool.{Bool, true}
 use mathlib.Core.List.{List, [], _∷_, _++_, map}
-use lib.ListN.{length, getD, take, drop}
+use lib.ListN.{length, drop}
 use lib.Dec.{eqb}
+use Rattle.shapes.specs.Shape.{Shape, one, both, named, rows, table, flag, word}
 use Rattle.rules.specs.Amounts.{numberOf, amountIn}
 use Rattle.rules.specs.declared.Rule.{Rule}
 use Rattle.rules.specs.declared.Account.{Account}
-use Rattle.tables.specs.Tables.{table, places}
-use Rattle.tables.specs.RulePlace.{ruleAt, rulesTable}
-use Rattle.tables.specs.EntryPlace.{entryAt, logTable, flagNumber}
-use Rattle.machine.specs.State.{State, cellsOf}
-use Rattle.profile.specs.Profile.{rootsTable}
+use Rattle.tables.specs.RulePlace.{rulesShape}
+use Rattle.tables.specs.EntryPlace.{flagNumber, logShape}
+use Rattle.machine.specs.declared.Entry.{Entry}
+use Rattle.machine.specs.State.{Profile, Locks, State, cellsOf}
 
--- how many numbers the state takes
+-- how many numbers a profile, a firm's part and the whole state take
+abbrev pub profileSize : ℕ
+profileSize = 579
+
+abbrev pub partSize : ℕ
+partSize = 840
+
 abbrev pub size : ℕ
 size = 1866
 
--- the totals in 256 places
-unfoldable pub totalsTable : List ℕ → List ℕ
-totalsTable totals = table 1 256 (λ total. total ∷ []) totals
+-- a number that may be any
+unfoldable pub number : Shape 1 ℕ
+number = one (λ x. true)
+
+-- the marks: the firm's trip and lockout, the word of tripped roots, and that of roots which the user locked out
+abbrev pub Marks : Type 0
+Marks = Bool × (Bool × (ℕ × ℕ))
+
+unfoldable pub locksOf : Marks → Locks
+locksOf p = record { firmTripped = p .0; firmByUser = p .1 .0; tripped = p .1 .1 .0; byUser = p .1 .1 .1 }
+
+unfoldable pub marksOf : Locks → Marks
+marksOf l = (l .firmTripped, (l .firmByUser, (l .tripped, l .byUser)))
+
+unfoldable pub locksShape : Shape 4 Locks
+locksShape = named locksOf marksOf (both (word flag) (λ _. both (word flag) (λ _. both number (λ _. number))))
+
+-- the numbers of the locks
+abbrev pub locksNumbers : Locks → List ℕ
+locksNumbers l = flagNumber (l .firmTripped) ∷ flagNumber (l .firmByUser) ∷ l .tripped ∷ l .byUser ∷ []
+
+-- a profile: the firm, the table of the roots, and that of the rules
+abbrev pub Lines : Type 0
+Lines = ℕ × (List ℕ × List Rule)
+
+unfoldable pub profileOf : Lines → Profile
+profileOf p = record { firm = p .0; roots = p .1 .0; rules = p .1 .1 }
+
+unfoldable pub linesOf : Profile → Lines
+linesOf p = (p .firm, (p .roots, p .rules))
+
+unfoldable pub profileShape : Shape profileSize Profile
+profileShape = named profileOf linesOf (both number (λ _. both (table 64 number) (λ roots. rulesShape (length roots))))
+
+-- a firm's part: clock, profile, the totals of the accounts that its rules have, and locks
+abbrev pub PartNumbers : Type 0
+PartNumbers = ℕ × (Profile × (List ℕ × Locks))
+
+unfoldable pub totalsShape : List Rule → Shape 256 (List ℕ)
+totalsShape rules = rows 256 number (length (cellsOf rules))
+
+unfoldable pub partShape : Shape partSize PartNumbers
+partShape = both number (λ _. both profileShape (λ p. both (totalsShape (p .rules)) (λ _. locksShape)))
+
+-- the whole: the mark of armed memory, the firm's part, and the log
+abbrev pub Numbers : Type 0
+Numbers = ℕ × (PartNumbers × List Entry)
+
+unfoldable pub numbersShape : Shape size Numbers
+numbersShape = both (one (λ x. eqb x 1)) (λ _. both partShape (λ p. logShape (length (p .1 .0 .roots))))
 
 -- the numbers of the totals
 abbrev pub totalsIn : List Account → List ℕ
 totalsIn accounts = map (λ a. numberOf (a .total)) accounts
-
--- the numbers of an armed state: mark, clock, firm, how many roots, rules and entries, the firm's two marks, the two words; then the places of
--- the roots, the rules, the totals and the log
-unfoldable pub encode : State → List ℕ
-encode s =
-    1 ∷ s .part .clock ∷ s .part .profile .firm ∷ length (s .part .profile .roots) ∷ length (s .part .profile .rules) ∷ length (s .log)
-    ∷ flagNumber (s .part .locks .firmTripped) ∷ flagNumber (s .part .locks .firmByUser) ∷ s .part .locks .tripped ∷ s .part .locks .byUser
-    ∷ (rootsTable (s .part .profile .roots) ++ (rulesTable (s .part .profile .rules) ++ (totalsTable (totalsIn (s .part .accounts)) ++ logTable (s .log))))
-
--- memory that holds a state, with what it held past the state
-unfoldable pub stored : State → List ℕ → List ℕ
-stored s xs = encode s ++ drop size xs
-
--- the places of the roots, the rules, the totals and the log in a memory
-abbrev pub rootsPart : List ℕ → List ℕ
-rootsPart xs = take 64 (drop 10 xs)
-
-abbrev pub rulesPart : List ℕ → List ℕ
-rulesPart xs = take 512 (drop 74 xs)
-
-abbrev pub totalsPart : List ℕ → List ℕ
-totalsPart xs = take 256 (drop 586 xs)
-
-abbrev pub logPart : List ℕ → List ℕ
-logPart xs = take 1024 (drop 842 xs)
 
 -- rules with their totals, each in its rule's measure
 unfoldable pub accountsOf : List Rule → List ℕ → List Account
@@ -55,18 +84,29 @@ accountsOf [] totals = []
 accountsOf (rule ∷ rules) [] = []
 accountsOf (rule ∷ rules) (total ∷ totals) = record { rule = rule; total = amountIn (rule .limit) total } ∷ accountsOf rules totals
 
--- the rules that a memory's numbers stand for
-abbrev pub rulesAt : List ℕ → List Rule
-rulesAt xs = places 2 ruleAt (getD xs 4 0) (rulesPart xs)
+-- a state as these numbers, and the state that they stand for
+unfoldable pub numbersOf : State → Numbers
+numbersOf s = (1, ((s .part .clock, (s .part .profile, (totalsIn (s .part .accounts), s .part .locks))), s .log))
+
+unfoldable pub stateOf : Numbers → State
+stateOf n = record {
+  part = record {
+    clock = n .1 .0 .0;
+    profile = n .1 .0 .1 .0;
+    accounts = accountsOf (cellsOf (n .1 .0 .1 .0 .rules)) (n .1 .0 .1 .1 .0);
+    locks = n .1 .0 .1 .1 .1;
+  };
+  log = n .1 .1;
+}
+
+-- the numbers of an armed state in memory
+unfoldable pub encode : State → List ℕ
+encode s = numbersShape .write (numbersOf s)
+
+-- memory that holds a state, with what it held past the state
+unfoldable pub stored : State → List ℕ → List ℕ
+stored s xs = encode s ++ drop size xs
 
 -- the state that a memory's numbers stand for
 unfoldable pub decode : List ℕ → State
-decode xs = record {
-  part = record {
-    clock = getD xs 1 0;
-    profile = record { firm = getD xs 2 0; roots = take (getD xs 3 0) (rootsPart xs); rules = rulesAt xs };
-    accounts = accountsOf (cellsOf (rulesAt xs)) (totalsPart xs);
-    locks = record { firmTripped = eqb (getD xs 6 0) 1; firmByUser = eqb (getD xs 7 0) 1; tripped = getD xs 8 0; byUser = getD xs 9 0 };
-  };
-  log = places 2 entryAt (getD xs 5 0) (logPart xs);
-}
+decode xs = stateOf (numbersShape .read xs)

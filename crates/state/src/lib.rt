@@ -1,10 +1,40 @@
 // The state in lent memory: where each number stands, and whether what stands there is sound.
 ghost use mathlib.Core.Path.{_≡_};
 ghost use mathlib.Core.List.{[], _∷_, _++_};
-ghost use Prim.Native.Nat.{_≤_};
-ghost use lib.ListN.{length, drop};
+ghost use Prim.Native.Nat.{_≤_, _<_};
+ghost use lib.ListN.{length, getD, drop};
 ghost use Rattle.tables.specs.Tables.{zeros};
-ghost use Rattle.state.specs.Sound.{headHolds, isSound};
+ghost use Rattle.machine.specs.State.{rootsIn};
+ghost use Rattle.state.specs.State.{size, stored, decode};
+ghost use Rattle.state.specs.Sound.{isSound};
+ghost use Rattle.state.specs.Laid.{Laid, accountIn, withClock, withTotal};
+ghost use Rattle.state.specs.Tests.{frontHolds, locksHold};
+use rules::Amount;
+use rules::Limit;
+use rules::Rule;
+
+// The map: the mark of armed memory; the firm's part, which is its clock, its name, the tables of its roots and rules, the totals of the rules, and the
+// locks; and the log. A table has its count in front.
+pub const MARK: usize = 0;
+
+pub const CLOCK: usize = MARK + 1;
+
+pub const FIRM: usize = CLOCK + 1;
+
+pub const ROOTS: usize = FIRM + 1;
+
+// The first of the roots' names, past their count.
+pub const NAMES: usize = ROOTS + 1;
+
+pub const RULES: usize = ROOTS + made::ROOTS_SIZE;
+
+pub const TOTALS: usize = RULES + made::RULES_SIZE;
+
+pub const LOCKS: usize = TOTALS + 256;
+
+pub const LOG: usize = LOCKS + 4;
+
+pub const SIZE: usize = LOG + log::SIZE;
 
 // Writes numbers over the front of others.
 fn copy(from: &[u64], to: &mut [u64])
@@ -20,51 +50,137 @@ fn copy(from: &[u64], to: &mut [u64])
 
 // Writes a freshly armed state: its firm, how many roots and rules it has, and these in their places.
 pub fn write_armed(m: &mut [u64], firm: u64, roots: u64, rules: u64, names: &[u64], table: &[u64])
-    requires { ⌜ (1866 ≤ length (now m)) × (length (now names) ≡ 64) × (length (now table) ≡ 512) ⌝ }
-    ensures { λ _. ⌜ now (m .exit) ≡ (1 ∷ 0 ∷ firm ∷ roots ∷ rules ∷ 0 ∷ 0 ∷ 0 ∷ 0 ∷ 0 ∷ []) ++ (now (names .entry) ++ (now (table .entry) ++ (zeros 1280 ++ drop 1866 (now (m .entry))))) ⌝ }
+    requires { ⌜ (size ≤ length (now m)) × (length (now names) ≡ 64) × (length (now table) ≡ 512) ⌝ }
+    ensures { λ _. ⌜ now (m .exit) ≡ (1 ∷ 0 ∷ firm ∷ roots ∷ []) ++ (now (names .entry) ++ ((rules ∷ []) ++ (now (table .entry) ++ (zeros 1285 ++ drop size (now (m .entry)))))) ⌝ }
 {
-    let head = [1, 0, firm, roots, rules, 0, 0, 0, 0, 0];
+    let head = [1, 0, firm, roots];
     copy(&head, m);
-    copy(names, &mut m[10..]);
-    copy(table, &mut m[74..]);
-    log::blank(&mut m[586..1866]);
+    copy(names, &mut m[ROOTS + 1..]);
+    let count = [rules];
+    copy(&count, &mut m[RULES..]);
+    copy(table, &mut m[RULES + 1..]);
+    log::blank(&mut m[TOTALS..SIZE]);
 }
 
-// Whether the ten numbers in front are sound.
-fn is_head(m: &[u64]) -> bool
-    requires { ⌜ 1866 ≤ length (now m) ⌝ }
-    ensures { λ r. ⌜ r ≡ headHolds (now (m .entry)) ⌝ }
+// Whether the mark, the clock, the firm and the roots are sound.
+fn is_front(m: &[u64]) -> bool
+    requires { ⌜ size ≤ length (now m) ⌝ }
+    ensures { λ r. ⌜ r ≡ frontHolds (now (m .entry)) ⌝ }
 {
-    let roots = m[3];
-    (m[0] == 1)
-        & measures::is_in(m[1], 0, measures::Time::MOST)
-        & made::is_name_number(m[2], 1, 4)
-        & measures::is_in(roots, 0, 64)
-        & measures::is_in(m[4], 1, 256)
-        & measures::is_in(m[5], 0, 512)
-        & measures::is_in(m[6], 0, 1)
-        & measures::is_in(m[7], 0, 1)
-        & bits::within(m[8], roots)
-        & bits::within(m[9], roots)
+    (m[MARK] == 1)
+        & measures::is_in(m[CLOCK], 0, measures::Time::MOST)
+        & made::is_name_number(m[FIRM], 1, 4)
+        & made::are_roots(&m[ROOTS..RULES])
+}
+
+// Whether the locks are sound with so many roots: marks are 0 or 1, and no bit stands for a root beyond the last.
+fn are_locks(locks: &[u64], roots: u64) -> bool
+    requires { ⌜ length (now locks) ≡ 4 ⌝ }
+    ensures { λ r. ⌜ r ≡ locksHold roots (now (locks .entry)) ⌝ }
+{
+    measures::is_in(locks[0], 0, 1)
+        & measures::is_in(locks[1], 0, 1)
+        & bits::within(locks[2], roots)
+        & bits::within(locks[3], roots)
 }
 
 // Whether the memory holds a sound state.
 pub fn is_sound(m: &[u64]) -> bool
     ensures { λ r. ⌜ r ≡ isSound (now (m .entry)) ⌝ }
 {
-    if m.len() < 1866 {
+    if m.len() < SIZE {
         return false;
     }
-    if !is_head(m) {
+    if !is_front(m) {
         return false;
     }
-    let clock = m[1];
-    let roots = m[3];
-    let rules = m[4] as usize;
-    let entries = m[5] as usize;
-    made::are_roots(&m[10..74], roots as usize)
-        & made::are_rules(&m[74..586], rules, roots)
-        & made::are_totals(&m[74..586], &m[586..842], rules)
-        & (made::has_rate(&m[74..586], rules) | (entries == 0))
-        & log::is_log(&m[842..1866], entries, roots, clock)
+    let clock = m[CLOCK];
+    let roots = m[ROOTS];
+    let entries = m[LOG];
+    if !made::are_rules(&m[RULES..TOTALS], roots) {
+        return false;
+    }
+    made::are_totals(&m[RULES..TOTALS], &m[TOTALS..LOCKS])
+        & are_locks(&m[LOCKS..LOG], roots)
+        & (made::has_rate(&m[RULES..TOTALS]) | (entries == 0))
+        & log::is_log(&m[LOG..SIZE], roots, clock)
+}
+
+// The clock of the state of a memory.
+pub fn clock_in(m: &[u64]) -> u64
+    requires { ⌜ Laid (now m) ⌝ }
+    ensures { λ r. ⌜ r ≡ decode (now (m .entry)) .part .clock ⌝ }
+{
+    m[CLOCK]
+}
+
+// How many roots it has.
+pub fn roots_in(m: &[u64]) -> u64
+    requires { ⌜ Laid (now m) ⌝ }
+    ensures { λ r. ⌜ r ≡ rootsIn (decode (now (m .entry))) ⌝ }
+{
+    m[ROOTS]
+}
+
+// The name of root i.
+pub fn name_in(m: &[u64], i: usize) -> u64
+    requires { ⌜ Laid (now m) × (i < rootsIn (decode (now m))) ⌝ }
+    ensures { λ r. ⌜ r ≡ getD (decode (now (m .entry)) .part .profile .roots) i 0 ⌝ }
+{
+    let at = NAMES + i;
+    m[at]
+}
+
+// How many entries its log has.
+pub fn entries_in(m: &[u64]) -> usize
+    requires { ⌜ Laid (now m) ⌝ }
+    ensures { λ r. ⌜ r ≡ length (decode (now (m .entry)) .log) ⌝ }
+{
+    m[LOG] as usize
+}
+
+// How many accounts it has.
+pub fn accounts_in(m: &[u64]) -> usize
+    requires { ⌜ Laid (now m) ⌝ }
+    ensures { λ r. ⌜ r ≡ length (decode (now (m .entry)) .part .accounts) ⌝ }
+{
+    m[RULES] as usize
+}
+
+// The rule of account i.
+pub fn rule_in(m: &[u64], i: usize) -> Rule
+    requires { ⌜ Laid (now m) × (i < length (decode (now m) .part .accounts)) ⌝ }
+    ensures { λ r. ⌜ r ≡ accountIn (now (m .entry)) i .rule ⌝ }
+{
+    let table = &m[RULES..TOTALS];
+    let at = i * 2 + 1;
+    let first = table[at];
+    let second = table[at + 1];
+    tables::rule_of(first, second)
+}
+
+// The total of account i, in the measure of its rule's limit.
+pub fn total_in(m: &[u64], i: usize, limit: Limit) -> Amount
+    requires { ⌜ Laid (now m) × (i < length (decode (now m) .part .accounts)) × (limit ≡ accountIn (now m) i .rule .limit) ⌝ }
+    ensures { λ r. ⌜ r ≡ accountIn (now (m .entry)) i .total ⌝ }
+{
+    let at = TOTALS + i;
+    limit.amount(m[at])
+}
+
+// Another total for account i.
+pub fn put_total(m: &mut [u64], i: usize, total: Amount)
+    requires { ⌜ Laid (now m) × (i < length (decode (now m) .part .accounts)) ⌝ }
+    ensures { λ _. ⌜ now (m .exit) ≡ stored (withTotal (decode (now (m .entry))) i total) (now (m .entry)) ⌝ }
+{
+    let at = TOTALS + i;
+    m[at] = total.number();
+}
+
+// Another clock.
+pub fn put_clock(m: &mut [u64], time: u64)
+    requires { ⌜ Laid (now m) ⌝ }
+    ensures { λ _. ⌜ now (m .exit) ≡ stored (withClock (decode (now (m .entry))) time) (now (m .entry)) ⌝ }
+{
+    m[CLOCK] = time;
 }

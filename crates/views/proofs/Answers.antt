@@ -1,5 +1,5 @@
 -- What each call answers, case by case. Assumes nothing.
-use Prim.Native.Nat.{ℕ, _+_, _*_, _-_, _≤_, _<_}
+use Prim.Native.Nat.{ℕ, _+_, _-_, _≤_, _<_}
 use native.Mathlib.Omega.{arith}
 use mathlib.Core.Path.{_≡_, ap, _∙_}
 use mathlib.Core.List.{List, _++_}
@@ -9,18 +9,20 @@ use lib.Dec.{lit<}
 use borrow.Author.Tests.{ne-eqb, le-ltb, lt-ltb, le-leb, lt-leb}
 use Rattle.text.specs.Text.{indexOf, made, nameOf}
 use Rattle.text.specs.declared.Number.the-variants.{Is}
-use Rattle.tables.specs.RulePlace.{ruleAt}
-use Rattle.machine.specs.Remaining.{noAccount}
+use Rattle.rules.specs.declared.Rule.{Rule}
+use Rattle.machine.specs.State.{rootsIn}
 use Rattle.made.specs.Names.{nameBytes}
 use Rattle.made.proofs.Names.{name-read}
 use Rattle.output.proofs.Roots.{root-name, root-index}
-use Rattle.state.specs.State.{decode, rulesPart}
+use Rattle.state.specs.State.{decode}
+use Rattle.state.specs.Laid.{accountIn}
+use Rattle.state.proofs.Laid.{laid-roots, laid-names}
 use Rattle.calls.specs.Calls.{memoryRefusal}
 use Rattle.calls.specs.declared.Wording.the-variants.{Written, Refused as NotSaid}
 use Rattle.views.specs.declared.Found.the-variants.{Root, Refused as NotFound}
 use Rattle.views.specs.declared.Told.the-variants.{Refused as NotTold}
 use Rattle.views.specs.Views.{asked, placeOf, rootNamed, nameAnswer, nameRoom, rootName, rootNameRoom, termsOf, ruleTold}
-use Rattle.views.proofs.Profile.{roots-are, rules-are, roots-named, names-are, name-is, rule-is}
+use Rattle.views.proofs.Profile.{laid, rules-are, roots-named, rule-is}
 
 -- the memory meets a refusal
 module _ (xs : List ℕ) (n : ℕ) (e : n ≡ memoryRefusal xs) (h : n ≡ 0 → ⊥) where
@@ -47,50 +49,48 @@ module _ (xs : List ℕ) (ready : memoryRefusal xs ≡ 0) where
     unfolding rootNamed asked nameOf made
     named-is h = rw (ready, le-leb 1 (length name) h, le-leb 0 (length name) (omega arith))
 
-  module _ (name root : ℕ) (is : root ≡ indexOf name (take (10 + getD xs 3 0 - 10) (drop 10 xs))) where
-    place-is : indexOf name (decode xs .part .profile .roots) ≡ root
-    place-is =
-        let all : 10 + getD xs 3 0 - 10 ≡ getD xs 3 0 = omega arith in
-        rw (is, all, names-are xs ready)
+  module _ (roots : ℕ) (roots-are : roots ≡ rootsIn (decode xs)) where
+    module _ (name root : ℕ) (is : root ≡ indexOf name (take (4 + roots - 4) (drop 4 xs))) where
+      place-is : indexOf name (decode xs .part .profile .roots) ≡ root
+      place-is =
+          let all : 4 + roots - 4 ≡ getD xs 3 0 = omega (arith, roots-are, laid-roots (laid xs ready)) in
+          rw (is, all, laid-names (laid xs ready))
 
-    pub place-known : root < getD xs 3 0 → Root root ≡ placeOf (decode xs .part .profile .roots) (Is name)
-    unfolding placeOf
-    place-known h = rw (place-is, roots-are xs ready, lt-ltb _ _ h)
+      pub place-known : root < roots → Root root ≡ placeOf (decode xs .part .profile .roots) (Is name)
+      unfolding placeOf rootsIn
+      place-known h = rw (place-is, ← roots-are, lt-ltb _ _ h)
 
-    pub place-unknown : getD xs 3 0 ≤ root → NotFound 13 ≡ placeOf (decode xs .part .profile .roots) (Is name)
-    unfolding placeOf
-    place-unknown h = rw (place-is, roots-are xs ready, le-ltb _ _ h)
+      pub place-unknown : roots ≤ root → NotFound 13 ≡ placeOf (decode xs .part .profile .roots) (Is name)
+      unfolding placeOf rootsIn
+      place-unknown h = rw (place-is, ← roots-are, le-ltb _ _ h)
 
-  -- a root's name
-  module _ (root : ℕ) (room : List ℕ) where
-    pub name-unknown : getD xs 3 0 ≤ root → (NotSaid 13 ≡ rootName xs root room) × (room ≡ rootNameRoom xs root room)
-    unfolding rootName rootNameRoom asked nameAnswer nameRoom
-    name-unknown h = (rw (ready, roots-are xs ready, le-ltb _ _ h), rw (ready, roots-are xs ready, le-ltb _ _ h))
+    -- a root's name
+    module _ (root : ℕ) (room : List ℕ) where
+      pub name-unknown : roots ≤ root → (NotSaid 13 ≡ rootName xs root room) × (room ≡ rootNameRoom xs root room)
+      unfolding rootName rootNameRoom asked nameAnswer nameRoom rootsIn
+      name-unknown h = (rw (ready, ← roots-are, le-ltb _ _ h), rw (ready, ← roots-are, le-ltb _ _ h))
 
-    module _ (known : root < getD xs 3 0) where
-      pub name-unsaid : length room < 6 → (NotSaid 1 ≡ rootName xs root room) × (room ≡ rootNameRoom xs root room)
-      unfolding rootName rootNameRoom asked nameAnswer nameRoom
-      name-unsaid h =
-          (rw (ready, roots-are xs ready, lt-ltb _ _ known, lt-ltb _ _ h), rw (ready, roots-are xs ready, lt-ltb _ _ known, lt-ltb _ _ h))
+      module _ (known : root < roots) where
+        pub name-unsaid : length room < 6 → (NotSaid 1 ≡ rootName xs root room) × (room ≡ rootNameRoom xs root room)
+        unfolding rootName rootNameRoom asked nameAnswer nameRoom rootsIn
+        name-unsaid h =
+            (rw (ready, ← roots-are, lt-ltb _ _ known, lt-ltb _ _ h), rw (ready, ← roots-are, lt-ltb _ _ known, lt-ltb _ _ h))
 
-      pub name-said : 6 ≤ length room
-          → (Written (length (nameBytes (getD xs (10 + root) 0))) ≡ rootName xs root room)
-          × (nameBytes (getD xs (10 + root) 0) ++ drop (length (nameBytes (getD xs (10 + root) 0))) room ≡ rootNameRoom xs root room)
-      unfolding rootName rootNameRoom asked nameAnswer nameRoom
-      name-said h = (
-        rw (ready, roots-are xs ready, lt-ltb _ _ known, le-ltb _ _ h, name-is xs ready root known),
-        rw (ready, roots-are xs ready, lt-ltb _ _ known, le-ltb _ _ h, name-is xs ready root known),
-      )
+        pub name-said : 6 ≤ length room → (name : ℕ) → name ≡ getD (decode xs .part .profile .roots) root 0
+            → (Written (length (nameBytes name)) ≡ rootName xs root room) × (nameBytes name ++ drop (length (nameBytes name)) room ≡ rootNameRoom xs root room)
+        unfolding rootName rootNameRoom asked nameAnswer nameRoom rootsIn
+        name-said h name is =
+            (rw (ready, ← roots-are, lt-ltb _ _ known, le-ltb _ _ h, is), rw (ready, ← roots-are, lt-ltb _ _ known, le-ltb _ _ h, is))
 
   -- a rule
-  module _ (rule : ℕ) where
-    pub rule-unknown : getD xs 4 0 ≤ rule → NotTold 13 ≡ ruleTold xs rule
+  module _ (accounts : ℕ) (are : accounts ≡ length (decode xs .part .accounts)) (rule : ℕ) where
+    pub rule-unknown : accounts ≤ rule → NotTold 13 ≡ ruleTold xs rule
     unfolding ruleTold asked
-    rule-unknown h = rw (ready, rules-are xs ready, le-ltb _ _ h)
+    rule-unknown h = rw (ready, ← rules-are xs ready, ← are, le-ltb _ _ h)
 
-    pub rule-told : rule < getD xs 4 0 → termsOf (ruleAt (drop (rule * 2) (rulesPart xs))) ≡ ruleTold xs rule
+    pub rule-told : rule < accounts → (r : Rule) → r ≡ accountIn xs rule .rule → termsOf r ≡ ruleTold xs rule
     unfolding ruleTold asked
-    rule-told h = rw (ready, rules-are xs ready, lt-ltb _ _ h, rule-is xs ready rule h (noAccount .rule))
+    rule-told h r is = rw (ready, ← rules-are xs ready, ← are, lt-ltb _ _ h, is ∙ rule-is xs ready rule)
 
   -- the name that a root has is that of this root alone
   pub named-back : (root : ℕ) → root < length (decode xs .part .profile .roots)

@@ -55,9 +55,9 @@ fn root_of(m: &[u64], name: u64) -> Found
     requires { ⌜ memoryRefusal (now m) ≡ 0 ⌝ }
     ensures { λ r. ⌜ r ≡ placeOf (decode (now (m .entry)) .part .profile .roots) (Is name) ⌝ }
 {
-    let roots = m[3] as usize;
-    let end = 10 + roots;
-    let root = place(&m[10..end], name);
+    let roots = state::roots_in(m) as usize;
+    let end = state::NAMES + roots;
+    let root = place(&m[state::NAMES..end], name);
     if root < roots {
         return Found::Root(root as u64);
     }
@@ -121,14 +121,13 @@ pub fn root_name(m: &[u64], root: u64, room: &mut [u8]) -> Wording
     if refusal != 0 {
         return Wording::Refused(refusal);
     }
-    if m[3] <= root {
+    if state::roots_in(m) <= root {
         return Wording::Refused(13);
     }
     if room.len() < 6 {
         return Wording::Refused(1);
     }
-    let at = 10 + root as usize;
-    let bytes = put_name(m[at], room);
+    let bytes = put_name(state::name_in(m, root as usize), room);
     Wording::Written(bytes as u64)
 }
 
@@ -194,12 +193,8 @@ pub fn rule(m: &[u64], rule: u64) -> Told
     if refusal != 0 {
         return Told::Refused(refusal);
     }
-    if m[4] <= rule {
+    if state::accounts_in(m) as u64 <= rule {
         return Told::Refused(13);
     }
-    let rules = &m[74..586];
-    let at = rule as usize * 2;
-    let first = rules[at];
-    let second = rules[at + 1];
-    terms(tables::rule_of(first, second))
+    terms(state::rule_in(m, rule as usize))
 }

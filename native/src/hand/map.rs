@@ -1,27 +1,13 @@
-//! Where each number stands, by docs/MEMORY.md.
+//! The numbers of a state: where they stand, and how a rule and an entry are packed, by docs/MEMORY.md.
 
-use crate::SIZE;
+pub use second::place::*;
+pub use second::profile::{MOST_ROOTS, MOST_RULES};
 
 /// The numbers of a state.
-pub type State = [u64; SIZE];
-
-pub const MARK: usize = 0;
-pub const CLOCK: usize = 1;
-pub const FIRM: usize = 2;
-pub const ROOT_COUNT: usize = 3;
-pub const RULE_COUNT: usize = 4;
-pub const ENTRY_COUNT: usize = 5;
-pub const FIRM_TRIPPED: usize = 6;
-pub const FIRM_LOCKED: usize = 7;
-pub const TRIPPED: usize = 8;
-pub const LOCKED: usize = 9;
-pub const ROOTS: usize = 10;
-pub const RULES: usize = 74;
-pub const TOTALS: usize = 586;
-pub const LOG: usize = 842;
+pub type State = [u64; NUMBERS];
 
 /// The places of the log.
-pub const PLACES: u64 = 512;
+pub const PLACES: u64 = second::unit::LOG_PLACES as u64;
 pub const LAST_TIME: u64 = 86_399_999;
 pub const MOST_PREMIUM: u64 = 100_000_000;
 pub const MOST_CONTRACTS: u64 = 1_000_000;

@@ -8,9 +8,9 @@ pub struct Profile {
     pub rules: usize,
     pub roots: usize,
     firms: usize,
-    names: [u64; 64],
-    table: [u64; 512],
-    units: [[u8; 4]; 64],
+    names: [u64; MOST_ROOTS],
+    table: [u64; 2 * MOST_RULES],
+    units: [[u8; 4]; MOST_ROOTS],
 }
 
 /// A line that is well formed.
@@ -202,12 +202,13 @@ impl Line {
 
 impl Profile {
     fn new() -> Profile {
-        Profile { firm: 0, rules: 0, roots: 0, firms: 0, names: [0; 64], table: [0; 512], units: [[0; 4]; 64] }
+        let (names, table, units) = ([0; MOST_ROOTS], [0; 2 * MOST_RULES], [[0; 4]; MOST_ROOTS]);
+        Profile { firm: 0, rules: 0, roots: 0, firms: 0, names, table, units }
     }
 
     /// Takes the rule of a line in, unless there is one too many.
     fn admit(&mut self, line: &Line) -> Result<(), u64> {
-        if self.rules == 256 {
+        if self.rules == MOST_RULES {
             return Err(11);
         }
         let root = if line.asks_firm { self.admit_firm() } else { self.admit_root(line) }.ok_or(11u64)?;
@@ -246,8 +247,12 @@ impl Profile {
 
     /// Writes a freshly armed state.
     pub fn write(&self, m: &mut State) {
-        m[..ROOTS].copy_from_slice(&[1, 0, self.firm, self.roots as u64, self.rules as u64, 0, 0, 0, 0, 0]);
-        m[ROOTS..RULES].copy_from_slice(&self.names);
+        m[MARK] = 1;
+        m[CLOCK] = 0;
+        m[FIRM] = self.firm;
+        m[ROOT_COUNT] = self.roots as u64;
+        m[ROOTS..RULE_COUNT].copy_from_slice(&self.names);
+        m[RULE_COUNT] = self.rules as u64;
         m[RULES..TOTALS].copy_from_slice(&self.table);
         m[TOTALS..].fill(0);
     }

@@ -7,28 +7,28 @@ pub type Longest = u64;
 
 /// The longest window, if the state is sound.
 pub fn longest_if_sound(m: &State) -> Option<Longest> {
-    if !is_head(m) {
+    if !are_singles(m) {
         return None;
     }
     let entries = m[ENTRY_COUNT] as usize;
     let longest = longest_of_rules(m)?;
-    let is_sound = are_roots(&m[ROOTS..RULES], m[ROOT_COUNT] as usize)
+    let is_sound = are_roots(&m[ROOTS..RULE_COUNT], m[ROOT_COUNT] as usize)
         && (entries == 0 || longest > 0)
         && is_log(&m[LOG..], entries, m[ROOT_COUNT], m[CLOCK]);
     is_sound.then_some(longest)
 }
 
-/// Are the ten numbers in front sound?
-fn is_head(m: &State) -> bool {
+/// Are mark, clock, firm, counts and locks sound?
+fn are_singles(m: &State) -> bool {
     let beyond = |word: u64| word.checked_shr(m[ROOT_COUNT] as u32).unwrap_or(0);
     m[MARK] == 1
         && m[CLOCK] <= LAST_TIME
         && is_name(m[FIRM], 4)
-        && m[ROOT_COUNT] <= 64
-        && m[RULE_COUNT].wrapping_sub(1) < 256
+        && m[ROOT_COUNT] <= MOST_ROOTS as u64
+        && m[RULE_COUNT].wrapping_sub(1) < MOST_RULES as u64
         && m[ENTRY_COUNT] <= PLACES
         && m[FIRM_TRIPPED] | m[FIRM_LOCKED] <= 1
-        && beyond(m[TRIPPED] | m[LOCKED]) == 0
+        && beyond(m[ROOTS_TRIPPED] | m[ROOTS_LOCKED]) == 0
 }
 
 /// Is every number 0? Sixteen of them at a time.
@@ -162,7 +162,7 @@ impl Tally {
 fn longest_of_rules(m: &State) -> Option<Longest> {
     let rules = m[RULE_COUNT] as usize;
     let (used, unused) = m[RULES..TOTALS].split_at(2 * rules);
-    let (totals, beside) = m[TOTALS..LOG].split_at(rules);
+    let (totals, beside) = m[TOTALS..FIRM_TRIPPED].split_at(rules);
     let mut tally = Tally { bad: 0, seen: 0, firms: 0, longest: 0, over: 0, units: [0; 64] };
     for (rule, total) in used.chunks_exact(2).zip(totals) {
         tally.add(rule[0], rule[1], *total, BOUNDS.get((rule[1] >> 10) as usize)?);

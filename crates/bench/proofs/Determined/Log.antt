@@ -37,7 +37,7 @@ pub blank : Determines 1 blank-kinds.ps blank-kinds.r blank-reads.Asked blank-re
 blank κs args asked x y u v p q = (refl, λ i. (one p q i, v .1))
 
 pub join : Determines 1 join-kinds.ps join-kinds.r join-reads.Asked join-reads.Learnt
-join κs args asked x y u v p q = (one (p .count) (q .count), λ i. (one (p .log) (q .log) i, v .1))
+join κs args asked x y u v p q = (refl, λ i. (one p q i, v .1))
 
 pub no-memos : Determines 0 no-memos-kinds.ps no-memos-kinds.r no-memos-reads.Asked no-memos-reads.Learnt
 no-memos κs args asked x y u v p q = (one (p .1) (q .1), refl)

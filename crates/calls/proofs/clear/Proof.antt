@@ -5,6 +5,7 @@ use mathlib.Core.List.{List, _++_}
 use lib.ListN.{drop}
 use lib.Seq.{length-take-le}
 use Rattle.tables.specs.Tables.{zeros}
+use Rattle.state.specs.State.{size}
 use Rattle.calls.proofs.Cases.{clear-short, clear-done}
 use borrow.Author.Needs.{needs}
 use Rattle.calls.proofs.clear.Statement.{statement}
@@ -17,7 +18,7 @@ slice-relend-prefix-blank : tie.Need-slice-relend-prefix-blank
 slice-relend-prefix-blank c = search needs
 
 slice-aggregate-blank : tie.Need-slice-aggregate-blank
-slice-aggregate-blank c = sym (length-take-le 1866 (c .before .before .before .args .m .now) (c .before .if1 .left))
+slice-aggregate-blank c = sym (length-take-le size (c .before .before .before .args .m .now) (c .before .if1 .left))
 
 blank-requires : tie.Need-blank-requires
 blank-requires c κs = search needs
@@ -29,7 +30,7 @@ returns-2 : tie.Need-returns-2
 returns-2 c =
     let m = c .before .before .before .before .before .before .args .m .now in
     let d = clear-done m (c .before .before .before .before .if1 .left) in
-    (d .0, ap (λ (l : List ℕ). l ++ drop 1866 m) (c .before .before .blank .ensures ∙ ap zeros (length-take-le 1866 m (c .before .before .before .before .if1 .left))) ∙ d .1)
+    (d .0, ap (λ (l : List ℕ). l ++ drop size m) (c .before .before .blank .ensures ∙ ap zeros (length-take-le size m (c .before .before .before .before .if1 .left))) ∙ d .1)
 
 pub clear-spec : {M : Type 1} → statement M
 clear-spec =

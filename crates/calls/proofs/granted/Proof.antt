@@ -4,7 +4,7 @@ use mathlib.Core.Bool.{true, _&&_}
 use lib.Dec.{ltb}
 use Rattle.machine.specs.Calls.{Call}
 use Rattle.calls.proofs.Steps.{refused}
-use Rattle.calls.proofs.Offers.{in-order, least-is, refusal-is, granted-is, ready-is}
+use Rattle.calls.proofs.Offers.{least-is, refusal-is, granted-is, ready-is}
 use borrow.Author.Needs.{needs}
 use Rattle.calls.proofs.granted.Statement.{statement}
 use Rattle.calls.proofs.granted.Tie as tie
@@ -16,7 +16,7 @@ least-requires : tie.Need-least-requires
 least-requires c κs = search needs
 
 is-full-requires : tie.Need-is-full-requires
-is-full-requires c κs = let g = c .before .before .before .before .before .pre in (g .asked .laid, in-order _ _ g)
+is-full-requires c κs = let g = c .before .before .before .before .before .pre in (g .asked .laid, g .asked .ordered)
 
 same-length : tie.Need-same-length
 same-length c = search needs

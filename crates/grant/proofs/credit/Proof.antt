@@ -8,71 +8,63 @@ use lib.ListN.{length}
 use Rattle.rules.specs.declared.Account.{Account}
 use Rattle.machine.proofs.Totals.{isPaid}
 use Rattle.state.specs.State.{decode}
-use Rattle.grant.proofs.Memory.{laid-rules, laid-few}
-use Rattle.grant.proofs.After.{held-laid, held-length}
-use Rattle.grant.proofs.Accounts.{Crediting, crediting-none, crediting-holds, crediting-number, crediting-account, crediting-more, crediting-done, laid-totals}
+use Rattle.state.proofs.Laid.{laid-few}
+use Rattle.state.proofs.After.{held-laid, held-length}
+use Rattle.state.proofs.Done.{doing-length, doing-at}
+use Rattle.grant.proofs.Credits.{credit-fair, laid-totals}
+use Rattle.grant.proofs.Accounts.{Crediting, crediting-none, crediting-more, crediting-done}
 use Rattle.grant.proofs.credit.Statement.{statement}
 use Rattle.grant.proofs.credit.Tie as tie
 
 abbrev Inv-loop : tie.InvT-loop
-Inv-loop m₀ o grant rules reached₀ i₀ m reached i = (rules ≡ length (decode m₀ .part .accounts)) × (length m ≡ length m₀) × Crediting o grant m₀ i m reached
+Inv-loop m₀ o grant accounts reached₀ i₀ m reached i = (length m ≡ length m₀) × Crediting o grant m₀ i m reached
 
 abbrev μ-loop : tie.MeasureT-loop
-μ-loop m₀ o grant rules reached₀ i₀ m reached i = rules - i
+μ-loop m₀ o grant accounts reached₀ i₀ m reached i = accounts - i
 
-slice-read-rules : tie.Need-slice-read-rules Inv-loop μ-loop
-slice-read-rules c = omega (arith, c .before .before .pre .0 .laid .long)
+accounts-in-requires : tie.Need-accounts-in-requires Inv-loop μ-loop
+accounts-in-requires c κs = c .before .before .pre .0 .laid
 
 loop-holds : tie.Need-loop-holds Inv-loop μ-loop
-loop-holds c =
-    let start = c .before .before in
-    let laid = start .pre .0 .laid in
-    (laid-rules laid, refl, crediting-none (start .args .o) (start .args .grant) laid)
+loop-holds c = (refl, crediting-none (c .before .before .before .args .o) (c .before .before .before .args .grant) (c .before .before .before .pre .0 .laid))
 
 credit-one-requires : tie.Need-credit-one-requires Inv-loop μ-loop
 credit-one-requires c κs =
-    let at-loop = c .before .before in
-    let start = at-loop .before .before .before in
+    let start = c .before .before .before .before .before .before in
     let o = start .args .o in
     let grant = start .args .grant in
     let p = start .pre in
-    let inv = at-loop .loop .inv in
+    let inv = c .before .before .loop .inv in
     let laid = p .0 .laid in
-    let l : at-loop .loop .i < length (decode (start .args .m .now) .part .accounts) = omega (arith, inv .0, c .before .loop-test .taken) in (
-      held-laid (crediting-holds o grant laid (inv .2)),
-      omega (arith, l, crediting-number o grant laid (inv .2)),
-      subst (λ (a : Account). isPaid a ≡ true) (sym (crediting-account o grant laid (inv .2))) (laid-totals (start .args .m .now) (at-loop .loop .i) (p .1) l),
+    let l : c .before .before .loop .i < length (decode (start .args .m .now) .part .accounts) = omega (arith, c .before .before .before .accounts-in .ensures, c .before .loop-test .taken) in (
+      held-laid (inv .1 .doing .holds),
+      omega (arith, l, doing-length (credit-fair o grant) laid (inv .1 .doing)),
+      subst (λ (a : Account). isPaid a ≡ true) (sym (doing-at (credit-fair o grant) laid (inv .1 .doing))) (laid-totals (start .args .m .now) (c .before .before .loop .i) (p .1) l),
       p .0 .premium .1,
       p .2,
     )
 
 add-i : tie.Need-add-i Inv-loop μ-loop
-add-i c =
-    let at-test = c .before .before .before .before in
-    omega (arith, at-test .before .loop .inv .0, at-test .loop-test .taken, laid-few (at-test .before .before .before .before .pre .0 .laid))
+add-i c = omega (arith, c .before .before .before .before .before .before .accounts-in .ensures, c .before .before .before .before .loop-test .taken, laid-few (c .before .before .before .before .before .before .before .before .before .pre .0 .laid))
 
 loop-less : tie.Need-loop-less Inv-loop μ-loop
 loop-less c = omega arith
 
 loop-again : tie.Need-loop-again Inv-loop μ-loop
 loop-again c =
-    let at-one = c .before .before in
-    let at-loop = at-one .before .before .before in
-    let start = at-loop .before .before .before in
-    let inv = at-loop .loop .inv in
-    let l : at-loop .loop .i < length (decode (start .args .m .now) .part .accounts) = omega (arith, inv .0, at-one .before .before .loop-test .taken) in
-    let next = crediting-more (start .args .o) (start .args .grant) (start .pre .0 .laid) (inv .2) l (at-one .credit-one .ensures) in
-    (inv .0, held-length (crediting-holds (start .args .o) (start .args .grant) (start .pre .0 .laid) next) (start .pre .0 .laid .long), next)
+    let start = c .before .before .before .before .before .before .before .before .before in
+    let o = start .args .o in
+    let grant = start .args .grant in
+    let laid = start .pre .0 .laid in
+    let l : c .before .before .before .before .before .loop .i < length (decode (start .args .m .now) .part .accounts) = omega (arith, c .before .before .before .before .before .before .accounts-in .ensures, c .before .before .before .before .loop-test .taken) in
+    let next = crediting-more o grant laid (c .before .before .before .before .before .loop .inv .1) l (c .before .before .credit-one .ensures) in
+    (held-length (next .doing .holds) (laid .long), next)
 
 same-length : tie.Need-same-length Inv-loop μ-loop
 same-length c = search needs
 
 returns : tie.Need-returns Inv-loop μ-loop
-returns c =
-    let at-loop = c .before in
-    let start = at-loop .before .before .before in
-    let inv = at-loop .loop .inv in
-    crediting-done (start .args .o) (start .args .grant) (inv .2) (omega (arith, inv .0, c .loop-test .left))
+returns c = crediting-done (c .before .before .before .before .before .args .o) (c .before .before .before .before .before .args .grant) (c .before .before .before .before .before .pre .0 .laid) (c .before .loop .inv .1) (omega (arith, c .before .before .accounts-in .ensures, c .loop-test .left))
 
 pub credit-spec : {M : Type 1} → statement M
 credit-spec =
@@ -80,7 +72,7 @@ credit-spec =
     (tie.spec
     Inv-loop
     μ-loop
-    slice-read-rules
+    accounts-in-requires
     loop-holds
     credit-one-requires
     add-i

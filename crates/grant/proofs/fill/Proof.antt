@@ -1,6 +1,6 @@
 -- `grant::fill` meets its contract: after the totals, the log, and the clock with the trips, memory holds the state that the machine gives. Assumes nothing.
-use Rattle.grant.proofs.After.{held-laid}
-use Rattle.grant.proofs.Steps.{grant-in, paid-holds, paid-asked, paid-has-room, paid-ordered, logged-holds, logged-root, trips-root, trips-firm, filled-memory}
+use Rattle.state.proofs.After.{held-laid}
+use Rattle.grant.proofs.Steps.{grant-in, paid-holds, paid-asked, paid-has-room, logged-holds, logged-root, trips-root, trips-firm, filled-memory}
 use borrow.Author.Needs.{needs}
 use Rattle.grant.proofs.fill.Statement.{statement}
 use Rattle.grant.proofs.fill.Tie as tie
@@ -15,7 +15,7 @@ join-log-requires c κs =
     let at-credit = c .before .before .before in
     let r = at-credit .before .before .before .pre in
     let h = paid-holds r (at-credit .credit .ensures) in
-    (paid-asked r h, grant-in r, paid-has-room r h, paid-ordered r h)
+    (paid-asked r h, grant-in r, paid-has-room r h)
 
 mark-requires : tie.Need-mark-requires
 mark-requires c κs =

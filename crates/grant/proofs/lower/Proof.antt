@@ -6,18 +6,12 @@ use Rattle.rules.specs.declared.Level.the-variants.{Firm, Root}
 use Rattle.rules.specs.declared.Rule.{Rule}
 use Rattle.rules.proofs.Amounts.{of-in}
 use Rattle.state.specs.State.{decode}
-use Rattle.grant.specs.Grant.{accountAt}
-use Rattle.grant.proofs.Memory.{laid-in-range}
+use Rattle.state.specs.Laid.{accountIn}
+use Rattle.state.proofs.Laid.{laid-in-range}
 use Rattle.grant.proofs.Cut.{lowered-off, lowered-firm, lowered-root, allows-is}
 use borrow.Author.Needs.{needs}
 use Rattle.grant.proofs.lower.Statement.{statement}
 use Rattle.grant.proofs.lower.Tie as tie
-use Rattle.grant.proofs.counted_by.Reads as counted-by-reads
-use Rattle.grant.proofs.is_firm.Reads as is-firm-reads
-use Rattle.grant.proofs.least.Reads as least-reads
-use Rattle.grant.proofs.rule_in.Reads as rule-in-reads
-use Rattle.rules.proofs.Rule.allowance.Reads as allowance-reads
-use Rattle.rules.proofs.Rule.covers.Reads as covers-reads
 
 rule-in-requires : tie.Need-rule-in-requires
 rule-in-requires c κs = search needs
@@ -31,7 +25,7 @@ returns c =
     let start = at-rule .before .before in
     let args = start .args in
     let xs = args .m .now in
-    let a = accountAt xs (args .i) in
+    let a = accountIn xs (args .i) in
     let test = c .before .covers .ensures in (
       record {
         root = lowered-off (args .o) a (at-rule .rule-in .ensures) test (decode xs .log) (Root (args .o .root)) (args .cuts .root) (c .if1 .taken);
@@ -65,7 +59,7 @@ returns-2 c =
     let start = at-rule .before .before in
     let args = start .args in
     let xs = args .m .now in
-    let a = accountAt xs (args .i) in
+    let a = accountIn xs (args .i) in
     let at-most = c .before .before .before in
     let told = at-most .before .before in
     let at-covers = told .before .before in
@@ -89,7 +83,7 @@ returns-3 c =
     let start = at-rule .before .before in
     let args = start .args in
     let xs = args .m .now in
-    let a = accountAt xs (args .i) in
+    let a = accountIn xs (args .i) in
     let at-most = c .before .before .before in
     let told = at-most .before .before in
     let at-covers = told .before .before in

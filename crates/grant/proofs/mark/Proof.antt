@@ -1,62 +1,54 @@
--- `grant::mark` meets its contract: the clock, the firm's trip and the word of tripped roots stand in front, each in its place. Assumes nothing.
-use Prim.Native.Nat.{ℕ}
+-- `grant::mark` meets its contract: the clock is stored, and then the trips in the part of the locks. Assumes nothing.
 use native.Mathlib.Omega.{arith}
-use mathlib.Core.Path.{ap, _∙_}
-use mathlib.Core.Bool.{cond}
-use lib.ListN.{getD, length-set}
-use Rattle.machine.specs.State.{rootsIn}
-use Rattle.grant.proofs.Joined.{put-marks}
+use Rattle.machine.specs.State.{State, rootsIn}
+use Rattle.machine.specs.Locks.{trippedBy}
+use Rattle.state.specs.Laid.{withLocks}
+use Rattle.state.proofs.After.{held-laid, step-on}
+use Rattle.locks.specs.Locks.{tripping}
+use Rattle.locks.proofs.Laid.{locks-held, locks-after}
+use Rattle.grant.proofs.Steps.{clock-holds}
 use borrow.Author.Needs.{needs}
 use Rattle.grant.proofs.mark.Statement.{statement}
 use Rattle.grant.proofs.mark.Tie as tie
 
-slice-read-pick : tie.Need-slice-read-pick
-slice-read-pick c = omega (arith, c .before .before .pre .0 .long)
+put-clock-requires : tie.Need-put-clock-requires
+put-clock-requires c κs = search needs
 
-pick-requires : tie.Need-pick-requires
-pick-requires c κs = search needs
+sub-trip : tie.Need-sub-trip
+sub-trip c = search needs
 
-slice-read-tripped : tie.Need-slice-read-tripped
-slice-read-tripped c = omega (arith, c .before .before .before .before .pre .0 .long)
+part-trip-start : tie.Need-part-trip-start
+part-trip-start c = search needs
 
-mark-requires : tie.Need-mark-requires
+part-trip-end : tie.Need-part-trip-end
+part-trip-end c = search needs
+
+trip-requires : tie.Need-trip-requires
 unfolding rootsIn
-mark-requires c κs = omega (arith, c .before .before .before .before .pre .0 .fits .roots, c .before .before .before .before .pre .1)
-
-pick-requires-2 : tie.Need-pick-requires-2
-pick-requires-2 c κs = search needs
-
-slice-write-m : tie.Need-slice-write-m
-slice-write-m c = search needs
-
-slice-write-m-2 : tie.Need-slice-write-m-2
-slice-write-m-2 c = simp length-set (omega (arith, c .before .before .before .before .before .before .pre .0 .long))
-
-slice-write-m-3 : tie.Need-slice-write-m-3
-slice-write-m-3 c = simp length-set (omega (arith, c .before .before .before .before .before .before .pre .0 .long))
+trip-requires c κs =
+    let start = c .before .before .before .before .before .before in
+    let h = clock-holds (start .pre .0) (c .before .before .before .put-clock .ensures) in
+    (locks-held (held-laid h), omega (arith, start .pre .0 .fits .roots, start .pre .1))
 
 same-length : tie.Need-same-length
 same-length c = search needs
 
 returns : tie.Need-returns
 returns c =
-    let at-mark = c .before in
-    let at-pick = at-mark .before .before in
-    let start = at-pick .before .before .before in
-    put-marks (start .args .o) (start .args .trips) (start .pre .0) (at-pick .pick .ensures)
-    (c .pick2 .ensures ∙ ap (λ (n : ℕ). cond (start .args .trips .root) n (getD (start .args .m .now) 8 0)) (at-mark .mark .ensures))
+    let start = c .before .before .before .before .before .before .before .before .before in
+    let args = start .args in
+    let h = clock-holds (start .pre .0) (c .before .before .before .before .before .before .put-clock .ensures) in
+    let change = trippedBy (tripping (args .trips .root) (args .trips .firm)) (args .o .root) in
+    step-on h (λ (s : State). withLocks s (change (s .part .locks))) (locks-after (held-laid h) change (c .before .before .trip .ensures))
 
 pub mark-spec : {M : Type 1} → statement M
 mark-spec =
     tie.close
     (tie.spec
-    slice-read-pick
-    pick-requires
-    slice-read-tripped
-    mark-requires
-    pick-requires-2
-    slice-write-m
-    slice-write-m-2
-    slice-write-m-3
+    put-clock-requires
+    sub-trip
+    part-trip-start
+    part-trip-end
+    trip-requires
     same-length
     returns)

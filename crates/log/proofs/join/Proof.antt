@@ -1,78 +1,55 @@
--- `log::join` meets its contract: the entries that stay, the places after them set to 0, and then the new one make the new log. Assumes nothing.
-use Prim.Native.Nat.{ℕ, _+_, _<_}
-use mathlib.Core.Path.{sym, ap, _∙_}
-use mathlib.Core.List.{[], _∷_}
-use native.Mathlib.Omega.{arith}
-use lib.ListN.{length, length-append}
-use Rattle.log.specs.Log.{entriesOf}
-use Rattle.machine.specs.Entries.{recent}
-use Rattle.log.proofs.Turns.{joined-log}
+-- `log::join` meets its contract: the new log's places, and its count. Assumes nothing.
+use Rattle.log.proofs.Logs.{set-table}
 use borrow.Author.Needs.{needs}
 use Rattle.log.proofs.join.Statement.{statement}
 use Rattle.log.proofs.join.Tie as tie
+use Rattle.log.proofs.join.Reads as reads
+use Rattle.log.proofs.join.Lts as lts
+use Rattle.log.proofs.join_places.Reads as join-places-reads
 
-keep-requires : tie.Need-keep-requires
-keep-requires c κs = search needs
+-- src/lib.rt:425:13
+slice-read-k : tie.Need-slice-read-k
+slice-read-k c = search needs
 
-mul-from : tie.Need-mul-from
-mul-from c = search needs
+-- src/lib.rt:426:25
+sub-join-places : tie.Need-sub-join-places
+sub-join-places c = search needs
 
-mul-end : tie.Need-mul-end
-mul-end c = search needs
+-- src/lib.rt:426:25
+part-join-places-start : tie.Need-part-join-places-start
+part-join-places-start c = search needs
 
-mul-blank : tie.Need-mul-blank
-mul-blank c = search needs
+-- src/lib.rt:426:25
+part-join-places-end : tie.Need-part-join-places-end
+part-join-places-end c = search needs
 
-sub-blank : tie.Need-sub-blank
-sub-blank c = omega (arith, c .before .before .keep .ensures .most)
+-- src/lib.rt:426:9
+join-places-requires : tie.Need-join-places-requires
+join-places-requires c κs = search needs
 
-part-blank-start : tie.Need-part-blank-start
-part-blank-start c = omega (arith, c .before .before .keep .ensures .most)
+-- src/lib.rt:427:5
+slice-write-log : tie.Need-slice-write-log
+slice-write-log c = search needs
 
-part-blank-end : tie.Need-part-blank-end
-part-blank-end c = search needs
-
-blank-requires : tie.Need-blank-requires
-blank-requires c κs = search needs
-
-put-entry-requires : tie.Need-put-entry-requires
-put-entry-requires c κs = search needs
-
-add-result : tie.Need-add-result
-add-result c = search needs
-
+-- src/lib.rt:421:1
 same-length : tie.Need-same-length
 same-length c = search needs
 
+-- src/lib.rt:421:1
 returns : tie.Need-returns
 returns c =
-    let at-put = c .before .before in
-    let at-blank = at-put .before .before .before .before in
-    let at-keep = at-blank .before .before .before .before in
-    let start = at-keep .before .before .before in
-    let a = start .args in
-    let s = at-keep .keep .ensures in
-    let room : at-keep .keep .result < 512 = omega (arith, s .count, start .pre .4) in
-    record {
-      count =
-          ap (λ (n : ℕ). n + 1) (s .count)
-          ∙ sym (length-append (recent (a .window) (a .time) (entriesOf (a .k) (a .log .now))) (a .e ∷ []));
-      log = at-put .put-entry .ensures ∙ joined-log (start .pre .0) s (a .e) room (at-blank .blank .ensures);
-    }
+    let s = c .before .before .before .before .before .before in
+    set-table (s .args .log .now) _ _ _ (s .pre .0 .long) (c .before .before .join-places .ensures .count) (c .before .before .join-places .ensures .log)
 
 pub join-spec : {M : Type 1} → statement M
 join-spec =
     tie.close
     (tie.spec
-    keep-requires
-    mul-from
-    mul-end
-    mul-blank
-    sub-blank
-    part-blank-start
-    part-blank-end
-    blank-requires
-    put-entry-requires
-    add-result
+    slice-read-k
+    sub-join-places
+    part-join-places-start
+    part-join-places-end
+    join-places-requires
+    slice-write-log
     same-length
     returns)

@@ -1,82 +1,50 @@
--- `log::unflag` meets its contract: the first i entries have their flags cleared, and the others stand as they were. Assumes nothing.
-use Prim.Native.Nat.{_*_, _-_, _≤_}
-use mathlib.Core.Path.{_≡_, ap, _∙_}
-use mathlib.Core.List.{map}
-use native.Mathlib.Omega.{arith}
-use lib.ListN.{length, set, length-set}
-use Rattle.machine.specs.Effects.{zeroing}
-use Rattle.machine.specs.Order.{unflagged, unflaggedLog}
-use Rattle.log.proofs.Turns.{Turned, turned-none, unflag-turn, unflag-done}
+-- `log::unflag` meets its contract: the places without the flags, and the count as it was. Assumes nothing.
+use Rattle.log.proofs.Logs.{put-unflagged}
 use borrow.Author.Needs.{needs}
 use Rattle.log.proofs.unflag.Statement.{statement}
 use Rattle.log.proofs.unflag.Tie as tie
+use Rattle.log.proofs.unflag.Reads as reads
+use Rattle.log.proofs.unflag.Lts as lts
+use Rattle.log.proofs.unflag_places.Reads as unflag-places-reads
 
-abbrev Inv-loop : tie.InvT-loop
-Inv-loop log₀ k root effect i₀ log i = (i ≤ k) × (length log ≡ 1024) × Turned (map (unflagged (zeroing effect root))) k log₀ i i log
+-- src/lib.rt:330:13
+slice-read-k : tie.Need-slice-read-k
+slice-read-k c = search needs
 
-abbrev μ-loop : tie.MeasureT-loop
-μ-loop log₀ k root effect i₀ log i = k - i
+-- src/lib.rt:331:19
+sub-unflag-places : tie.Need-sub-unflag-places
+sub-unflag-places c = search needs
 
-loop-holds : tie.Need-loop-holds Inv-loop μ-loop
-loop-holds c = (search needs, c .before .pre .size, turned-none _ (c .before .pre))
+-- src/lib.rt:331:19
+part-unflag-places-start : tie.Need-part-unflag-places-start
+part-unflag-places-start c = search needs
 
-mul-at : tie.Need-mul-at Inv-loop μ-loop
-mul-at c = search needs
+-- src/lib.rt:331:19
+part-unflag-places-end : tie.Need-part-unflag-places-end
+part-unflag-places-end c = search needs
 
-mul-fill : tie.Need-mul-fill Inv-loop μ-loop
-mul-fill c = search needs
+-- src/lib.rt:331:5
+unflag-places-requires : tie.Need-unflag-places-requires
+unflag-places-requires c κs = search needs
 
-slice-read-fill : tie.Need-slice-read-fill Inv-loop μ-loop
-slice-read-fill c = search needs
-
-cleared-requires : tie.Need-cleared-requires Inv-loop μ-loop
-cleared-requires c κs = search needs
-
-mul-log : tie.Need-mul-log Inv-loop μ-loop
-mul-log c = search needs
-
-slice-write-log : tie.Need-slice-write-log Inv-loop μ-loop
-slice-write-log c = search needs
-
-add-i : tie.Need-add-i Inv-loop μ-loop
-add-i c = search needs
-
-loop-less : tie.Need-loop-less Inv-loop μ-loop
-loop-less c = search needs
-
-loop-again : tie.Need-loop-again Inv-loop μ-loop
-loop-again c =
-    let at-test = c .before .before in
-    let at-loop = at-test .before in
-    let l = at-loop .loop in
-    let held = at-loop .before .before .pre in (
-      omega arith,
-      length-set (l .log) (l .i * 2) (c .cleared .result) ∙ l .inv .1,
-      unflag-turn _ held (l .inv .2) (at-test .loop-test .taken) (l .inv .1) (ap (set (l .log) (l .i * 2)) (c .cleared .ensures)),
-    )
-
-same-length : tie.Need-same-length Inv-loop μ-loop
+-- src/lib.rt:326:1
+same-length : tie.Need-same-length
 same-length c = search needs
 
-returns : tie.Need-returns Inv-loop μ-loop
-unfolding unflaggedLog
-returns c = unflag-done _ (c .before .before .before .pre) (c .before .loop .inv .2) (c .loop-test .left)
+-- src/lib.rt:326:1
+returns : tie.Need-returns
+returns c =
+    let s = c .before .before .before .before .before .before in
+    put-unflagged _ (s .args .log .now) _ (s .pre .long) (c .before .before .unflag-places .ensures)
 
 pub unflag-spec : {M : Type 1} → statement M
 unflag-spec =
     tie.close
     (tie.spec
-    Inv-loop
-    μ-loop
-    loop-holds
-    mul-at
-    mul-fill
-    slice-read-fill
-    cleared-requires
-    mul-log
-    slice-write-log
-    add-i
-    loop-less
-    loop-again
+    slice-read-k
+    sub-unflag-places
+    part-unflag-places-start
+    part-unflag-places-end
+    unflag-places-requires
     same-length
     returns)

@@ -1,50 +1,47 @@
--- `reset::lock_out` meets its contract: three numbers of the front change. Assumes nothing.
-use native.Mathlib.Omega.{arith}
-use lib.ListN.{length-set}
-use Rattle.reset.proofs.Resets.{laid-locked}
+-- `reset::lock_out` meets its contract: the clock moves, then the locks change. Assumes nothing.
+use Rattle.locks.proofs.Laid.{locks-held}
+use Rattle.reset.proofs.Resets.{moved-laid, locked}
 use borrow.Author.Needs.{needs}
 use Rattle.reset.proofs.lock_out.Statement.{statement}
 use Rattle.reset.proofs.lock_out.Tie as tie
 
-slice-write-m : tie.Need-slice-write-m
-slice-write-m c = search needs
+put-clock-requires : tie.Need-put-clock-requires
+put-clock-requires c κs = search needs
 
-slice-read-firm-mark : tie.Need-slice-read-firm-mark
-slice-read-firm-mark c = simp length-set (omega arith)
+sub-lock : tie.Need-sub-lock
+sub-lock c = search needs
 
-firm-mark-requires : tie.Need-firm-mark-requires
-firm-mark-requires c κs = search needs
+part-lock-start : tie.Need-part-lock-start
+part-lock-start c = search needs
 
-slice-write-m-2 : tie.Need-slice-write-m-2
-slice-write-m-2 c = simp length-set (omega arith)
+part-lock-end : tie.Need-part-lock-end
+part-lock-end c = search needs
 
-slice-read-lock-word : tie.Need-slice-read-lock-word
-slice-read-lock-word c = simp length-set (omega arith)
-
-lock-word-requires : tie.Need-lock-word-requires
-lock-word-requires c κs = search needs
-
-slice-write-m-3 : tie.Need-slice-write-m-3
-slice-write-m-3 c = simp length-set (omega arith)
+lock-requires : tie.Need-lock-requires
+lock-requires c κs =
+    let at-clock = c .before .before .before in
+    let start = at-clock .before .before .before in
+    (locks-held (moved-laid (start .pre .0) (start .args .time) (at-clock .put-clock .ensures)), start .pre .1)
 
 same-length : tie.Need-same-length
 same-length c = search needs
 
 returns : tie.Need-returns
 returns c =
-    let start = c .before .before .before .before .before in
-    laid-locked (start .args .time) (start .args .level) (start .args .root) (start .pre .0) (c .before .before .firm-mark .ensures) (c .lock-word .ensures)
+    let at-lock = c .before .before in
+    let at-clock = at-lock .before .before .before .before in
+    let start = at-clock .before .before .before in
+    let a = start .args in
+    locked (start .pre .0) (a .time) (at-clock .put-clock .ensures) (a .level) (a .root) (at-lock .lock .ensures)
 
 pub lock-out-spec : {M : Type 1} → statement M
 lock-out-spec =
     tie.close
     (tie.spec
-    slice-write-m
-    slice-read-firm-mark
-    firm-mark-requires
-    slice-write-m-2
-    slice-read-lock-word
-    lock-word-requires
-    slice-write-m-3
+    put-clock-requires
+    sub-lock
+    part-lock-start
+    part-lock-end
+    lock-requires
     same-length
     returns)

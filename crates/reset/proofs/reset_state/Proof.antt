@@ -1,5 +1,6 @@
 -- `reset::reset_state` meets its contract: without a reset the clock alone moves. Assumes nothing.
 use mathlib.Core.Path.{ap, _∙_}
+use Rattle.machine.specs.State.{State}
 use Rattle.machine.specs.declared.Effect.{Effect}
 use Rattle.machine.specs.Deeds.{resetting}
 use Rattle.machine.specs.Step.{after}
@@ -9,16 +10,17 @@ use borrow.Author.Needs.{needs}
 use Rattle.reset.proofs.reset_state.Statement.{statement}
 use Rattle.reset.proofs.reset_state.Tie as tie
 
-slice-write-m : tie.Need-slice-write-m
-slice-write-m c = search needs
+put-clock-requires : tie.Need-put-clock-requires
+put-clock-requires c κs = search needs
 
 same-length : tie.Need-same-length
 same-length c = search needs
 
 returns : tie.Need-returns
 returns c =
-    let s = c .before .before in
-    clock-moved (s .pre .0) (s .args .time) (s .args .root) (c .if1 .taken)
+    let a = c .before .before .before .before .before .before .args in
+    c .before .before .put-clock .ensures
+    ∙ ap (λ (s : State). stored s (a .m .now)) (clock-moved (a .root) (decode (a .m .now)) (a .time) (c .before .before .before .before .if1 .taken))
 
 effect-of-requires : tie.Need-effect-of-requires
 effect-of-requires c κs = search needs
@@ -31,10 +33,18 @@ same-length-2 c = search needs
 
 returns-2 : tie.Need-returns-2
 returns-2 c =
-    let s = c .before .before .before .before .before .before .before in
-    let a = s .args in
+    let a = c .before .before .before .before .before .before .before .args in
     c .before .before .carry-out .ensures
     ∙ ap (λ (e : Effect). stored (after (resetting (a .time) (a .root) e) (decode (a .m .now))) (a .m .now)) (c .before .before .before .effect-of .ensures)
 
 pub reset-state-spec : {M : Type 1} → statement M
-reset-state-spec = tie.close (tie.spec slice-write-m same-length returns effect-of-requires carry-out-requires same-length-2 returns-2)
+reset-state-spec =
+    tie.close
+    (tie.spec
+    put-clock-requires
+    same-length
+    returns
+    effect-of-requires
+    carry-out-requires
+    same-length-2
+    returns-2)

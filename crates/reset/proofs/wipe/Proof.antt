@@ -1,61 +1,39 @@
--- `reset::wipe` meets its contract: the totals of the first i rules are wiped, and the others stand as they were. Assumes nothing.
-use mathlib.Core.Path.{_≡_, ap, _∙_}
-use mathlib.Core.Bool.{Bool, cond}
-use Prim.Native.Nat.{_+_, _-_, _≤_}
-use lib.ListN.{length, getD}
-use borrow.Author.Needs.{needs}
+-- `reset::wipe` meets its contract: the first i accounts are wiped, and the others stand as they were. Assumes nothing.
+use Prim.Native.Nat.{_-_}
+use mathlib.Core.Path.{_≡_}
 use native.Mathlib.Omega.{arith}
+use lib.ListN.{length}
 use Rattle.machine.specs.Effects.{zeroing}
+use Rattle.machine.specs.Order.{wiped}
 use Rattle.state.specs.State.{decode}
-use Rattle.reset.proofs.Laid.{laid-number, laid-few}
-use Rattle.reset.proofs.Wipes.{Wiped, wiped-none, wiped-more, wiped-all}
+use Rattle.state.proofs.After.{held-laid, held-length}
+use Rattle.state.proofs.Done.{Doing, doing-none, doing-length, doing-more, doing-all}
+use Rattle.reset.proofs.Wipes.{wiped-fair}
+use borrow.Author.Needs.{needs}
 use Rattle.reset.proofs.wipe.Statement.{statement}
 use Rattle.reset.proofs.wipe.Tie as tie
 
 abbrev Inv-loop : tie.InvT-loop
-Inv-loop m₀ root effect rules i₀ m i = (rules ≡ length (decode m₀ .part .accounts)) × (rules ≤ 256) × Wiped (zeroing effect root) m₀ i m
+Inv-loop m₀ root effect accounts i₀ m i = (accounts ≡ length (decode m₀ .part .accounts)) × Doing (wiped (zeroing effect root)) m₀ i m
 
 abbrev μ-loop : tie.MeasureT-loop
-μ-loop m₀ root effect rules i₀ m i = rules - i
+μ-loop m₀ root effect accounts i₀ m i = accounts - i
 
-slice-read-rules : tie.Need-slice-read-rules Inv-loop μ-loop
-slice-read-rules c = search needs
+accounts-in-requires : tie.Need-accounts-in-requires Inv-loop μ-loop
+accounts-in-requires c κs = search needs
 
 loop-holds : tie.Need-loop-holds Inv-loop μ-loop
-loop-holds c = let l = c .before .before .pre in (laid-number l, omega (arith, laid-number l, laid-few l), wiped-none l)
+loop-holds c =
+    let start = c .before .before .before in
+    let fair = wiped-fair (zeroing (start .args .effect) (start .args .root)) in
+    (c .accounts-in .ensures, doing-none fair (start .pre))
 
-sub-rule-at : tie.Need-sub-rule-at Inv-loop μ-loop
-sub-rule-at c = search needs
-
-part-rule-at-start : tie.Need-part-rule-at-start Inv-loop μ-loop
-part-rule-at-start c = search needs
-
-part-rule-at-end : tie.Need-part-rule-at-end Inv-loop μ-loop
-part-rule-at-end c = search needs
-
-rule-at-requires : tie.Need-rule-at-requires Inv-loop μ-loop
-rule-at-requires c κs = search needs
-
-add-at : tie.Need-add-at Inv-loop μ-loop
-add-at c = search needs
-
-zeroes-requires : tie.Need-zeroes-requires Inv-loop μ-loop
-zeroes-requires c κs = search needs
-
-mul-unless : tie.Need-mul-unless Inv-loop μ-loop
-mul-unless c = search needs
-
-slice-read-unless : tie.Need-slice-read-unless Inv-loop μ-loop
-slice-read-unless c = search needs
-
-unless-requires : tie.Need-unless-requires Inv-loop μ-loop
-unless-requires c κs = search needs
-
-mul-m : tie.Need-mul-m Inv-loop μ-loop
-mul-m c = search needs
-
-slice-write-m : tie.Need-slice-write-m Inv-loop μ-loop
-slice-write-m c = search needs
+wipe-one-requires : tie.Need-wipe-one-requires Inv-loop μ-loop
+wipe-one-requires c κs =
+    let start = c .before .before .before .before .before .before in
+    let fair = wiped-fair (zeroing (start .args .effect) (start .args .root)) in
+    let d = c .before .before .loop .inv .1 in
+    (held-laid (d .holds), omega (arith, doing-length fair (start .pre) d))
 
 add-i : tie.Need-add-i Inv-loop μ-loop
 add-i c = search needs
@@ -65,23 +43,19 @@ loop-less c = search needs
 
 loop-again : tie.Need-loop-again Inv-loop μ-loop
 loop-again c =
-    let at-zeroes = c .before .before in
-    let at-rule = c .before .before .before in
-    let at-loop = c .before .before .before .before .before .before .before in
-    let start = c .before .before .before .before .before .before .before .before .before .before in
-    let inv = at-loop .loop .inv in (
-      inv .0,
-      inv .1,
-      wiped-more (start .pre) (inv .2) (omega arith) (at-rule .rule-at .ensures)
-          (c .unless .ensures
-          ∙ ap (λ (test : Bool). cond test 0 (getD (at-loop .loop .m) (586 + at-loop .loop .i) 0)) (at-zeroes .zeroes .ensures)),
-    )
+    let at-loop = c .before .before .before .before .before in
+    let start = at-loop .before .before .before .before in
+    let fair = wiped-fair (zeroing (start .args .effect) (start .args .root)) in
+    (at-loop .loop .inv .0, doing-more fair (start .pre) (at-loop .loop .inv .1) (omega arith) (c .before .before .wipe-one .ensures))
 
 same-length : tie.Need-same-length Inv-loop μ-loop
-same-length c = c .before .loop .inv .2 .long
+same-length c = held-length (c .before .loop .inv .1 .holds) (c .before .before .before .before .before .pre .long)
 
 returns : tie.Need-returns Inv-loop μ-loop
-returns c = wiped-all (c .before .before .before .before .pre) (c .before .loop .inv .2) (omega arith)
+returns c =
+    let start = c .before .before .before .before .before in
+    let fair = wiped-fair (zeroing (start .args .effect) (start .args .root)) in
+    doing-all fair (start .pre) (c .before .loop .inv .1) (omega arith)
 
 pub wipe-spec : {M : Type 1} → statement M
 wipe-spec =
@@ -89,19 +63,9 @@ wipe-spec =
     (tie.spec
     Inv-loop
     μ-loop
-    slice-read-rules
+    accounts-in-requires
     loop-holds
-    sub-rule-at
-    part-rule-at-start
-    part-rule-at-end
-    rule-at-requires
-    add-at
-    zeroes-requires
-    mul-unless
-    slice-read-unless
-    unless-requires
-    mul-m
-    slice-write-m
+    wipe-one-requires
     add-i
     loop-less
     loop-again

@@ -16,6 +16,12 @@ slice-aggregate-copy c = search needs
 copy-requires : tie.Need-copy-requires
 copy-requires c κs = search needs
 
+add-copy : tie.Need-add-copy
+add-copy c = search needs
+
+mul-copy : tie.Need-mul-copy
+mul-copy c = search needs
+
 sub-copy : tie.Need-sub-copy
 sub-copy c = search needs
 
@@ -28,6 +34,9 @@ part-copy-end c = search needs
 copy-requires-2 : tie.Need-copy-requires-2
 copy-requires-2 c κs = search needs
 
+slice-aggregate-copy-2 : tie.Need-slice-aggregate-copy-2
+slice-aggregate-copy-2 c = search needs
+
 sub-copy-2 : tie.Need-sub-copy-2
 sub-copy-2 c = search needs
 
@@ -39,6 +48,24 @@ part-copy-end-2 c = search needs
 
 copy-requires-3 : tie.Need-copy-requires-3
 copy-requires-3 c κs = search needs
+
+add-copy-2 : tie.Need-add-copy-2
+add-copy-2 c = search needs
+
+mul-copy-2 : tie.Need-mul-copy-2
+mul-copy-2 c = search needs
+
+sub-copy-3 : tie.Need-sub-copy-3
+sub-copy-3 c = search needs
+
+part-copy-start-3 : tie.Need-part-copy-start-3
+part-copy-start-3 c = search needs
+
+part-copy-end-3 : tie.Need-part-copy-end-3
+part-copy-end-3 c = search needs
+
+copy-requires-4 : tie.Need-copy-requires-4
+copy-requires-4 c κs = search needs
 
 sub-blank : tie.Need-sub-blank
 sub-blank c = search needs
@@ -57,18 +84,21 @@ same-length c = search needs
 
 returns : tie.Need-returns
 returns c =
-    let a = c .before .before .before .before .before .before .before .before .before .before .before .before .before .before .before .before .before .before .before .before .args in
-    let p = c .before .before .before .before .before .before .before .before .before .before .before .before .before .before .before .before .before .before .before .before .pre in
-    let m1 = c .before .before .before .before .before .before .before .before .before .before .before .before .before .before .copy .last .1 .0 in
-    let p2 = c .before .before .before .before .before .before .before .before .before .before .copy2 .last .1 .0 in
-    let m2 = take 10 m1 ++ (p2 ++ drop (length m1 - 10) (drop 10 m1)) in
-    let p3 = c .before .before .before .before .before .before .copy3 .last .1 .0 in
-    let m3 = take 74 m2 ++ (p3 ++ drop (length m2 - 74) (drop 74 m2)) in
+    let s = c .before .before .before .before .before .before .before .before .before .before .before .before .before .before .before .before .before .before .before .before .before .before .before .before .before in
+    let a = s .args in
+    let p = s .pre in
+    let m1 = c .before .before .before .before .before .before .before .before .before .before .before .before .before .before .before .before .before .before .before .copy .last .1 .0 in
+    let p2 = c .before .before .before .before .before .before .before .before .before .before .before .before .before .before .before .copy2 .last .1 .0 in
+    let m2 = take 4 m1 ++ (p2 ++ drop (length m1 - 4) (drop 4 m1)) in
+    let p3 = c .before .before .before .before .before .before .before .before .before .before .copy3 .last .1 .0 in
+    let m3 = take 68 m2 ++ (p3 ++ drop (length m2 - 68) (drop 68 m2)) in
+    let p4 = c .before .before .before .before .before .before .copy4 .last .1 .0 in
+    let m4 = take 69 m3 ++ (p4 ++ drop (length m3 - 69) (drop 69 m3)) in
     let w =
-    writes (a .m .now) (1 ∷ 0 ∷ a .firm ∷ a .roots ∷ a .rules ∷ 0 ∷ 0 ∷ 0 ∷ 0 ∷ 0 ∷ []) (a .names .now) (a .table .now) (zeros 1280) (p .0) refl (p .1) (p .2) m1 p2 m2 p3 m3
-    (c .before .before .before .before .before .before .before .before .before .before .before .before .before .before .copy .ensures) (c .before .before .before .before .before .before .before .before .before .before .copy2 .ensures) refl (c .before .before .before .before .before .before .copy3 .ensures) refl in
-    let e : c .before .before .blank .last .0 ≡ zeros (length (take 1280 (drop 586 m3))) = c .before .before .blank .ensures in
-    ap (λ (zs : List ℕ). take 586 m3 ++ (zs ++ drop 1280 (drop 586 m3))) (e ∙ ap zeros (length-take-le 1280 (drop 586 m3) (w .0))) ∙ w .1
+    writes (a .m .now) (1 ∷ 0 ∷ a .firm ∷ a .roots ∷ []) (a .names .now) (a .rules ∷ []) (a .table .now) (zeros 1285) (p .0) refl (p .1) refl (p .2) m1 p2 m2 p3 m3 p4 m4
+    (c .before .before .before .before .before .before .before .before .before .before .before .before .before .before .before .before .before .before .before .copy .ensures) (c .before .before .before .before .before .before .before .before .before .before .before .before .before .before .before .copy2 .ensures) refl (c .before .before .before .before .before .before .before .before .before .before .copy3 .ensures) refl (c .before .before .before .before .before .before .copy4 .ensures) refl in
+    let e : c .before .before .blank .last .0 ≡ zeros (length (take 1285 (drop 581 m4))) = c .before .before .blank .ensures in
+    ap (λ (zs : List ℕ). take 581 m4 ++ (zs ++ drop 1285 (drop 581 m4))) (e ∙ ap zeros (length-take-le 1285 (drop 581 m4) (w .0))) ∙ w .1
 
 pub write-armed-spec : {M : Type 1} → statement M
 write-armed-spec =
@@ -76,14 +106,23 @@ write-armed-spec =
     (tie.spec
     slice-aggregate-copy
     copy-requires
+    add-copy
+    mul-copy
     sub-copy
     part-copy-start
     part-copy-end
     copy-requires-2
+    slice-aggregate-copy-2
     sub-copy-2
     part-copy-start-2
     part-copy-end-2
     copy-requires-3
+    add-copy-2
+    mul-copy-2
+    sub-copy-3
+    part-copy-start-3
+    part-copy-end-3
+    copy-requires-4
     sub-blank
     part-blank-start
     part-blank-end

@@ -2,7 +2,7 @@
 use native.Mathlib.Omega.{arith}
 use mathlib.Core.Path.{sym, ap, _∙_}
 use Rattle.calls.specs.declared.Wording.the-variants.{Written}
-use Rattle.views.proofs.Profile.{long, few-roots, name-short}
+use Rattle.views.proofs.Profile.{laid, name-short}
 use Rattle.views.proofs.Answers.{name-refused, name-unknown, name-unsaid, name-said}
 use borrow.Author.Needs.{needs}
 use Rattle.views.proofs.root_name.Statement.{statement}
@@ -14,45 +14,30 @@ memory-refusal-requires c κs = search needs
 returns : tie.Need-returns
 returns c = name-refused _ _ (c .before .memory-refusal .ensures) (c .if1 .taken) _ _
 
-shared-slice-read-if2 : tie.Need-shared-slice-read-if2
-shared-slice-read-if2 c = omega (arith, long (c .before .before .before .before .before .args .m .now) (sym (c .before .before .memory-refusal .ensures) ∙ c .before .if1 .left))
+roots-in-requires : tie.Need-roots-in-requires
+roots-in-requires c κs = laid _ (sym (c .before .memory-refusal .ensures) ∙ c .if1 .left)
 
 returns-2 : tie.Need-returns-2
-returns-2 c = name-unknown _ (sym (c .before .before .before .memory-refusal .ensures) ∙ c .before .before .if1 .left) _ _ (c .if2 .taken)
+returns-2 c = name-unknown _ (sym (c .before .before .before .memory-refusal .ensures) ∙ c .before .before .if1 .left) _ (c .before .roots-in .ensures) _ _ (c .if2 .taken)
 
 returns-3 : tie.Need-returns-3
-returns-3 c = name-unsaid _ (sym (c .before .before .before .before .memory-refusal .ensures) ∙ c .before .before .before .if1 .left) _ _ (c .before .if2 .left) (c .if3 .taken)
+returns-3 c = name-unsaid _ (sym (c .before .before .before .before .memory-refusal .ensures) ∙ c .before .before .before .if1 .left) _ (c .before .before .roots-in .ensures) _ _ (c .before .if2 .left) (c .if3 .taken)
 
-add-at : tie.Need-add-at
-add-at c = omega (arith, long (c .before .before .before .before .before .before .before .args .m .now) (sym (c .before .before .before .before .memory-refusal .ensures) ∙ c .before .before .before .if1 .left), few-roots (c .before .before .before .before .before .before .before .args .m .now) (sym (c .before .before .before .before .memory-refusal .ensures) ∙ c .before .before .before .if1 .left), c .before .if2 .left)
-
-mul-put-name : tie.Need-mul-put-name
-mul-put-name c = omega (arith, long (c .before .before .before .before .before .before .before .args .m .now) (sym (c .before .before .before .before .memory-refusal .ensures) ∙ c .before .before .before .if1 .left), few-roots (c .before .before .before .before .before .before .before .args .m .now) (sym (c .before .before .before .before .memory-refusal .ensures) ∙ c .before .before .before .if1 .left), c .before .if2 .left)
-
-shared-slice-read-put-name : tie.Need-shared-slice-read-put-name
-shared-slice-read-put-name c = omega (arith, long (c .before .before .before .before .before .before .before .before .args .m .now) (sym (c .before .before .before .before .before .memory-refusal .ensures) ∙ c .before .before .before .before .if1 .left), few-roots (c .before .before .before .before .before .before .before .before .args .m .now) (sym (c .before .before .before .before .before .memory-refusal .ensures) ∙ c .before .before .before .before .if1 .left), c .before .before .if2 .left)
+name-in-requires : tie.Need-name-in-requires
+name-in-requires c κs = (laid _ (sym (c .before .before .before .before .memory-refusal .ensures) ∙ c .before .before .before .if1 .left), omega (arith, c .before .before .roots-in .ensures, c .before .if2 .left))
 
 put-name-requires : tie.Need-put-name-requires
-put-name-requires c κs = omega (arith, name-short (c .before .before .before .before .before .before .before .before .before .args .m .now) (sym (c .before .before .before .before .before .before .memory-refusal .ensures) ∙ c .before .before .before .before .before .if1 .left) _ (c .before .before .before .if2 .left), c .before .before .if3 .left)
+put-name-requires c κs =
+    let short = name-short _ (sym (c .before .before .before .before .before .before .memory-refusal .ensures) ∙ c .before .before .before .before .before .if1 .left) (c .before .before .before .before .before .before .before .before .before .args .root) (omega (arith, c .before .before .before .before .roots-in .ensures, c .before .before .before .if2 .left)) in
+    omega (arith, rw (← c .before .name-in .ensures) at short, c .before .before .if3 .left)
 
 same-length : tie.Need-same-length
 same-length c = search needs
 
 returns-4 : tie.Need-returns-4
-returns-4 c = let d = name-said _ (sym (c .before .before .before .before .before .before .before .before .before .memory-refusal .ensures) ∙ c .before .before .before .before .before .before .before .before .if1 .left) _ (c .before .before .before .before .before .before .before .before .before .before .before .before .args .room .now) (c .before .before .before .before .before .before .if2 .left) (c .before .before .before .before .before .if3 .left) in (ap Written (c .before .before .put-name .ensures .0) ∙ d .0, c .before .before .put-name .ensures .1 ∙ d .1)
+returns-4 c =
+    let d = name-said _ (sym (c .before .before .before .before .before .before .before .before .before .memory-refusal .ensures) ∙ c .before .before .before .before .before .before .before .before .if1 .left) _ (c .before .before .before .before .before .before .before .roots-in .ensures) _ _ (c .before .before .before .before .before .before .if2 .left) (c .before .before .before .before .before .if3 .left) _ (c .before .before .before .before .name-in .ensures) in
+    (ap Written (c .before .before .put-name .ensures .0) ∙ d .0, c .before .before .put-name .ensures .1 ∙ d .1)
 
 pub root-name-spec : {M : Type 1} → statement M
-root-name-spec =
-    tie.close
-    (tie.spec
-    memory-refusal-requires
-    returns
-    shared-slice-read-if2
-    returns-2
-    returns-3
-    add-at
-    mul-put-name
-    shared-slice-read-put-name
-    put-name-requires
-    same-length
-    returns-4)
+root-name-spec = tie.close (tie.spec memory-refusal-requires returns roots-in-requires returns-2 returns-3 name-in-requires put-name-requires same-length returns-4)

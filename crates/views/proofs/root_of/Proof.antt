@@ -1,16 +1,16 @@
 -- `views::root_of` meets its contract: the names of the roots stand in their places. Assumes nothing.
 use native.Mathlib.Omega.{arith}
-use Rattle.views.proofs.Profile.{long, few-roots}
+use Rattle.views.proofs.Profile.{laid, few-roots}
 use Rattle.views.proofs.Answers.{place-known, place-unknown}
 use borrow.Author.Needs.{needs}
 use Rattle.views.proofs.root_of.Statement.{statement}
 use Rattle.views.proofs.root_of.Tie as tie
 
-shared-slice-read-roots : tie.Need-shared-slice-read-roots
-shared-slice-read-roots c = omega (arith, long (c .before .before .args .m .now) (c .before .before .pre))
+roots-in-requires : tie.Need-roots-in-requires
+roots-in-requires c κs = laid _ (c .before .pre)
 
 add-end : tie.Need-add-end
-add-end c = omega (arith, few-roots (c .before .before .args .m .now) (c .before .before .pre))
+add-end c = omega (arith, c .roots-in .ensures, few-roots _ (c .before .before .pre))
 
 sub-place : tie.Need-sub-place
 sub-place c = search needs
@@ -19,26 +19,16 @@ part-place-start : tie.Need-part-place-start
 part-place-start c = search needs
 
 part-place-end : tie.Need-part-place-end
-part-place-end c = omega (arith, long (c .before .before .args .m .now) (c .before .before .pre), few-roots (c .before .before .args .m .now) (c .before .before .pre))
+part-place-end c = omega (arith, c .roots-in .ensures, few-roots _ (c .before .before .pre), laid _ (c .before .before .pre) .long)
 
 place-requires : tie.Need-place-requires
 place-requires c κs = search needs
 
 returns : tie.Need-returns
-returns c = place-known _ (c .before .before .before .before .before .pre) _ _ (c .before .place .ensures) (c .if1 .taken)
+returns c = place-known _ (c .before .before .before .before .before .pre) _ (c .before .before .before .roots-in .ensures) _ _ (c .before .place .ensures) (c .if1 .taken)
 
 returns-2 : tie.Need-returns-2
-returns-2 c = place-unknown _ (c .before .before .before .before .before .pre) _ _ (c .before .place .ensures) (c .if1 .left)
+returns-2 c = place-unknown _ (c .before .before .before .before .before .pre) _ (c .before .before .before .roots-in .ensures) _ _ (c .before .place .ensures) (c .if1 .left)
 
 pub root-of-spec : {M : Type 1} → statement M
-root-of-spec =
-    tie.close
-    (tie.spec
-    shared-slice-read-roots
-    add-end
-    sub-place
-    part-place-start
-    part-place-end
-    place-requires
-    returns
-    returns-2)
+root-of-spec = tie.close (tie.spec roots-in-requires add-end sub-place part-place-start part-place-end place-requires returns returns-2)

@@ -1,0 +1,5 @@
+pub mod Tables
+pub mod Exact
+pub mod Parts
+pub mod Loops
+pub mod Valid

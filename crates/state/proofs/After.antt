@@ -1,0 +1,71 @@
+-- Memory that holds a state, and what a step on that memory leaves of it. Assumes nothing.
+use Prim.Native.Nat.{ℕ, _≤_}
+use native.Mathlib.Omega.{arith}
+use mathlib.Core.Path.{_≡_, sym, ap, _∙_, subst}
+use mathlib.Core.List.{List, _++_}
+use lib.ListN.{length, take, drop, length-append, length-drop}
+use Rattle.machine.specs.declared.Entry.{Entry}
+use Rattle.machine.specs.State.{State, Locks, rulesIn, rootsIn, Fitting}
+use Rattle.log.specs.Log.{entriesIn, logNumbers}
+use Rattle.state.specs.State.{size, encode, stored, decode}
+use Rattle.state.specs.Laid.{Fits, Laid, withClock, withLocks, withLog}
+use Rattle.state.specs.Tests.{logPart}
+use Rattle.state.proofs.Stored.{encode-long, decode-stored, stored-laid, stored-again}
+use Rattle.state.proofs.Stores.{put-log}
+use Rattle.state.proofs.Laid.{laid-entries}
+
+-- ys holds the state s, and what xs holds past the state
+pub record Holds (s : State) (xs ys : List ℕ) : Type 0 where
+  pub fits : Fits s
+  pub is : ys ≡ stored s xs
+
+pub holds-laid : {xs : List ℕ} → Laid xs → Holds (decode xs) xs xs
+holds-laid h = record { fits = h .fits; is = h .is }
+
+module _ {s : State} {xs ys : List ℕ} (h : Holds s xs ys) where
+  pub held-state : decode ys ≡ s
+  held-state = ap decode (h .is) ∙ decode-stored s (h .fits) xs
+
+  pub held-laid : Laid ys
+  held-laid = subst Laid (sym (h .is)) (stored-laid s (h .fits) xs)
+
+  pub held-length : size ≤ length xs → length ys ≡ length xs
+  unfolding stored
+  held-length l = ap length (h .is) ∙ omega (arith, length-append (encode s) (drop size xs), encode-long s (h .fits) xs, length-drop size xs)
+
+  -- a step from the state that the memory holds
+  pub step-on : (g : State → State) {zs : List ℕ} → zs ≡ stored (g (decode ys)) ys → zs ≡ stored (g s) xs
+  step-on g z = z ∙ (λ i. stored (g (held-state i)) (h .is i)) ∙ stored-again s (h .fits) xs (g s)
+
+-- the log's part after a change of the entries that it holds
+pub log-after : {xs : List ℕ} → Laid xs → (change : List Entry → List Entry) {ys : List ℕ} → ys ≡ logNumbers (change (entriesIn (logPart xs)))
+    → take 841 xs ++ (ys ++ drop 1025 (drop 841 xs)) ≡ stored (withLog (decode xs) (change (decode xs .log))) xs
+log-after {xs} h change {ys} e =
+    let entries : ys ≡ logNumbers (change (decode xs .log)) = e ∙ ap (λ (l : List Entry). logNumbers (change l)) (laid-entries h) in
+    (λ i. take 841 (h .is i) ++ (entries i ++ drop 1025 (drop 841 (h .is i)))) ∙ put-log (decode xs) (h .fits) xs (change (decode xs .log))
+
+-- neither the clock nor the locks have to do with whether a state fits
+module _ {s : State} (f : Fits s) where
+  pub fits-clock : (time : ℕ) → Fits (withClock s time)
+  unfolding rulesIn rootsIn Fitting
+  fits-clock time = record {
+    roots = f .roots;
+    rules = f .rules;
+    log = f .log;
+    fitting = f .fitting;
+    measured = f .measured;
+    valid = f .valid;
+    entries = f .entries;
+  }
+
+  pub fits-locks : (locks : Locks) → Fits (withLocks s locks)
+  unfolding rulesIn rootsIn Fitting
+  fits-locks locks = record {
+    roots = f .roots;
+    rules = f .rules;
+    log = f .log;
+    fitting = f .fitting;
+    measured = f .measured;
+    valid = f .valid;
+    entries = f .entries;
+  }

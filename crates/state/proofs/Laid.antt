@@ -1,0 +1,144 @@
+-- What stands in a memory in which a state is laid out: its accounts' rules and totals, its locks and its log. Assumes nothing.
+use Prim.Native.Nat.{ℕ, suc, _+_, _*_, _≤_, _<_}
+use native.Mathlib.Omega.{arith}
+use native.Mathlib.Numerals.{add-one}
+use mathlib.Core.Path.{_≡_, refl, sym, ap, _∙_, subst}
+use mathlib.Core.Bool.{true}
+use mathlib.Core.List.{List, _∷_}
+use lib.ListN.{length, getD, take, drop, set, length-drop, List·getD-map}
+use lib.Seq.{getD-take, getD-drop, drop-drop}
+use Rattle.rules.specs.Amounts.{numberOf, amountIn, isOf}
+use Rattle.rules.specs.Rules.{InRange, InDay}
+use Rattle.rules.specs.Valid.{isRule}
+use Rattle.rules.specs.declared.Amount.{Amount}
+use Rattle.rules.specs.declared.Rule.{Rule}
+use Rattle.rules.specs.declared.Account.{Account}
+use Rattle.rules.proofs.Amounts.{in-number}
+use Rattle.tables.specs.RulePlace.{ruleAt, rulesTable}
+use Rattle.tables.proofs.Tables.{every-at, read-table}
+use Rattle.tables.proofs.RulePlace.{rule-codec, rule-in-range, rule-wider}
+use Rattle.tables.proofs.EntryPlace.{entry-wider}
+use Rattle.machine.specs.State.{State, cellsOf, rulesIn, rootsIn, ruleOf, Fitting}
+use Rattle.machine.specs.Entries.{isEntry}
+use Rattle.machine.specs.Remaining.{noAccount}
+use Rattle.machine.proofs.Lists.{every-imp}
+use Rattle.log.specs.Log.{HeldIn, entriesIn, logNumbers}
+use Rattle.log.proofs.Logs.{numbers-held, numbers-entries}
+use Rattle.state.specs.State.{number, locksNumbers, stored, decode}
+use Rattle.state.specs.Laid.{Fits, Laid, accountIn, withClock, withTotal}
+use Rattle.state.specs.Tests.{rulesPart, locksPart, logPart}
+use Rattle.state.proofs.Accounts.{map-length}
+use Rattle.shapes.specs.Shape.{one, both, named, rows, table}
+use Rattle.tables.specs.Tables.{places}
+use Rattle.state.proofs.Map.{decode-is}
+use Rattle.state.proofs.Lent.{ones-places}
+use Rattle.state.proofs.Stores.{stored-rules, stored-roots, stored-locks, stored-log, stored-total, put-clock, put-account}
+
+-- a state that fits has one account a rule, and the entries of any 64 roots
+module _ {s : State} (f : Fits s) where
+  pub many-accounts : length (s .part .accounts) ≡ length (rulesIn s)
+  unfolding cellsOf Fitting rulesIn
+  many-accounts = sym (map-length ruleOf (s .part .accounts)) ∙ ap length (f .fitting)
+
+  pub account-rule : (i : ℕ) → getD (rulesIn s) i (noAccount .rule) ≡ getD (s .part .accounts) i noAccount .rule
+  unfolding cellsOf Fitting rulesIn
+  account-rule i = ap (λ (l : List Rule). getD l i (noAccount .rule)) (sym (f .fitting)) ∙ List·getD-map ruleOf (s .part .accounts) i noAccount
+
+  few-accounts : length (s .part .accounts) ≤ 256
+  few-accounts = omega (arith, f .rules, many-accounts)
+
+  log-held : HeldIn (logNumbers (s .log))
+  unfolding rootsIn
+  log-held = numbers-held (s .log) (f .log) (every-imp (isEntry (rootsIn s)) (isEntry 64) (λ e h. entry-wider (rootsIn s) 64 e (f .roots) h) (s .log) (f .entries))
+
+  log-entries : entriesIn (logNumbers (s .log)) ≡ s .log
+  unfolding rootsIn
+  log-entries = numbers-entries (s .log) (f .log) (every-imp (isEntry (rootsIn s)) (isEntry 64) (λ e h. entry-wider (rootsIn s) 64 e (f .roots) h) (s .log) (f .entries))
+
+-- the rule of a place, past the table's count
+rule-past : (n : ℕ) (table : List ℕ) (i : ℕ) → ruleAt (drop (i * 2 + 1) (n ∷ table)) ≡ ruleAt (drop (i * 2) table)
+rule-past n table i = ap (λ (j : ℕ). ruleAt (drop j (n ∷ table))) (add-one (i * 2))
+
+-- in any memory in which a state is laid out
+module _ {xs : List ℕ} (h : Laid xs) where
+  rules-laid : rulesPart xs ≡ length (decode xs .part .profile .rules) ∷ rulesTable (decode xs .part .profile .rules)
+  rules-laid = ap rulesPart (h .is) ∙ stored-rules (decode xs) (h .fits) xs
+
+  -- how many roots and accounts there are, and at most
+  pub laid-roots : getD xs 3 0 ≡ rootsIn (decode xs)
+  unfolding rootsIn
+  laid-roots = ap (λ (l : List ℕ). getD l 3 0) (h .is) ∙ stored-roots (decode xs) (h .fits) xs
+
+  -- the names of the roots
+  pub laid-names : take (getD xs 3 0) (drop 4 xs) ≡ decode xs .part .profile .roots
+  unfolding table named both rows one number
+  laid-names =
+      sym (ap (λ (s : State). s .part .profile .roots) (decode-is xs)
+      ∙ ap (λ (k : ℕ). places 1 (λ ys. getD ys 0 0) k (drop 1 (drop 3 xs))) (getD-drop 3 xs 0 0)
+      ∙ ap (places 1 (λ ys. getD ys 0 0) (getD xs 3 0)) (drop-drop 1 3 xs)
+      ∙ ones-places (getD xs 3 0) (drop 4 xs) (omega (arith, length-drop 4 xs, laid-roots, h .fits .roots, h .long)))
+
+  pub laid-name : (i : ℕ) → i < rootsIn (decode xs) → getD xs (4 + i) 0 ≡ getD (decode xs .part .profile .roots) i 0
+  laid-name i l =
+      sym (getD-drop 4 xs i 0) ∙ sym (getD-take (getD xs 3 0) (drop 4 xs) i 0 (omega (arith, laid-roots))) ∙ ap (λ (q : List ℕ). getD q i 0) laid-names
+
+  pub laid-accounts : getD xs 68 0 ≡ length (decode xs .part .accounts)
+  unfolding rulesIn
+  laid-accounts =
+      sym (getD-take 513 (drop 68 xs) 0 0 (omega arith) ∙ getD-drop 68 xs 0 0) ∙ ap (λ (l : List ℕ). getD l 0 0) rules-laid ∙ sym (many-accounts (h .fits))
+
+  pub laid-few : length (decode xs .part .accounts) ≤ 256
+  laid-few = few-accounts (h .fits)
+
+  -- the locks, and the log
+  pub laid-locks : locksPart xs ≡ locksNumbers (decode xs .part .locks)
+  laid-locks = ap locksPart (h .is) ∙ stored-locks (decode xs) (h .fits) xs
+
+  pub laid-log : logPart xs ≡ logNumbers (decode xs .log)
+  laid-log = ap logPart (h .is) ∙ stored-log (decode xs) (h .fits) xs
+
+  pub laid-many : getD xs 841 0 ≡ length (decode xs .log)
+  laid-many = sym (getD-take 1025 (drop 841 xs) 0 0 (omega arith) ∙ getD-drop 841 xs 0 0) ∙ ap (λ (l : List ℕ). getD l 0 0) laid-log
+
+  pub laid-held : HeldIn (logPart xs)
+  laid-held = subst HeldIn (sym laid-log) (log-held (h .fits))
+
+  pub laid-entries : entriesIn (logPart xs) ≡ decode xs .log
+  laid-entries = ap entriesIn laid-log ∙ log-entries (h .fits)
+
+  -- the clock, and another one
+  pub laid-clock-is : getD xs 1 0 ≡ decode xs .part .clock
+  laid-clock-is = sym (ap (λ (s : State). s .part .clock) (decode-is xs))
+
+  pub laid-clock : (t : ℕ) → set xs 1 t ≡ stored (withClock (decode xs) t) xs
+  laid-clock t = ap (λ (l : List ℕ). set l 1 t) (h .is) ∙ put-clock (decode xs) (h .fits) xs t
+
+  -- account i: its rule, its total in the measure of its rule, and another total
+  module _ {i : ℕ} (l : i < length (decode xs .part .accounts)) where
+    pub laid-rule : ruleAt (drop (i * 2 + 1) (rulesPart xs)) ≡ accountIn xs i .rule
+    unfolding rootsIn rulesIn
+    laid-rule =
+        ap (λ (q : List ℕ). ruleAt (drop (i * 2 + 1) q)) rules-laid ∙ rule-past _ _ i
+        ∙ read-table (rule-codec (rootsIn (decode xs)) (h .fits .roots)) 256 (rulesIn (decode xs)) i (noAccount .rule) (h .fits .valid) (omega (arith, many-accounts (h .fits), l)) ∙ account-rule (h .fits) i
+
+    pub laid-valid : isRule 64 (accountIn xs i .rule) ≡ true
+    laid-valid =
+        rule-wider (rootsIn (decode xs)) 64 (accountIn xs i .rule) (h .fits .roots)
+        (ap (isRule (rootsIn (decode xs))) (sym (account-rule (h .fits) i))
+        ∙ every-at (isRule (rootsIn (decode xs))) (rulesIn (decode xs)) i (noAccount .rule) (h .fits .valid) (omega (arith, many-accounts (h .fits), l)))
+
+    pub laid-in-range : InRange (accountIn xs i .rule .limit) × InDay (accountIn xs i .rule .kind)
+    laid-in-range = rule-in-range 64 (accountIn xs i .rule) laid-valid
+
+    pub laid-measured : isOf (accountIn xs i .rule .limit) (accountIn xs i .total) ≡ true
+    laid-measured = every-at (λ a. isOf (a .rule .limit) (a .total)) (decode xs .part .accounts) i noAccount (h .fits .measured) l
+
+    pub laid-total : amountIn (accountIn xs i .rule .limit) (getD xs (581 + i) 0) ≡ accountIn xs i .total
+    laid-total =
+        ap (amountIn (accountIn xs i .rule .limit)) (ap (λ (q : List ℕ). getD q (581 + i) 0) (h .is) ∙ stored-total (decode xs) (h .fits) xs i l)
+        ∙ in-number (accountIn xs i .rule .limit) (accountIn xs i .total) laid-measured
+
+    pub laid-put : (total : Amount) → set xs (581 + i) (numberOf total) ≡ stored (withTotal (decode xs) i total) xs
+    laid-put total =
+        ap (λ (q : List ℕ). set q (581 + i) (numberOf total)) (h .is)
+        ∙ put-account (decode xs) (h .fits) xs i (record { rule = accountIn xs i .rule; total = total }) l

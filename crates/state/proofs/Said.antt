@@ -1,0 +1,128 @@
+-- What a sound memory says, part by part, and that a memory which says it is sound. Assumes nothing.
+use Prim.Native.Nat.{ℕ, _^_, _≤_, zero-le}
+use native.Mathlib.Omega.{arith}
+use mathlib.Core.Path.{_≡_, sym, ap, _∙_}
+use mathlib.Core.Bool.{true, _&&_, _||_}
+use mathlib.Core.List.{List, []}
+use lib.ListN.{length, getD, drop, length-drop}
+use lib.Dec.{eqb, ltb}
+use borrow.Author.Tests.{le-leb}
+use Rattle.laws.specs.Tests.{tests}
+use Rattle.laws.specs.Folds.{every}
+use Rattle.measures.specs.Ranges.{isIn, times}
+use Rattle.shapes.specs.Shape.{coded, table}
+use Rattle.shapes.proofs.Exact.{and-i, table-exact}
+use Rattle.shapes.proofs.Valid.{table-few, table-all}
+use Rattle.rules.specs.Valid.{isRule, hasRate}
+use Rattle.tables.specs.RulePlace.{ruleShape, rulesShape}
+use Rattle.tables.specs.EntryPlace.{logShape}
+use Rattle.tables.proofs.Shapes.{rules-exact}
+use Rattle.machine.specs.State.{State, cellsOf, rulesIn, rootsIn}
+use Rattle.machine.specs.Entries.{areOrdered}
+use Rattle.machine.proofs.Totals.{isPaid}
+use Rattle.made.specs.Names.{isNameNumber}
+use Rattle.made.specs.Made.{areRoots, areInOrder, isMade}
+use Rattle.state.specs.State.{size, number, locksShape, totalsShape, accountsOf, decode}
+use Rattle.state.specs.Sound.{isSoundState, isSound}
+use Rattle.state.proofs.Exact.{number-exact}
+use Rattle.state.proofs.Exactly.{taken-apart, put-together}
+use Rattle.state.proofs.Map.{rootsTold, rulesTold, map-test, decode-is}
+
+-- what a sound memory says, part by part
+pub record Said (xs : List ℕ) : Type 0 where
+  pub mark : eqb (getD xs 0 0) 1 ≡ true
+  pub clock : isIn times (getD xs 1 0) ≡ true
+  pub firm : isNameNumber 1 4 (getD xs 2 0) ≡ true
+  pub roots : table 64 number .test (drop 3 xs) ≡ true
+  pub names : areRoots (rootsTold xs) ≡ true
+  pub rules : rulesShape (length (rootsTold xs)) .test (drop 68 xs) ≡ true
+  pub some : 1 ≤ length (rulesTold xs)
+  pub order : areInOrder (length (rootsTold xs)) [] 0 (rulesTold xs) ≡ true
+  pub totals : totalsShape (rulesTold xs) .test (drop 581 xs) ≡ true
+  pub paid : every isPaid (accountsOf (cellsOf (rulesTold xs)) (totalsShape (rulesTold xs) .read (drop 581 xs))) ≡ true
+  pub locks : locksShape .test (drop 837 xs) ≡ true
+  pub tripped : ltb (locksShape .read (drop 837 xs) .tripped) (2 ^ length (rootsTold xs)) ≡ true
+  pub byUser : ltb (locksShape .read (drop 837 xs) .byUser) (2 ^ length (rootsTold xs)) ≡ true
+  pub rate : (hasRate (rulesTold xs) || eqb (length (logShape (length (rootsTold xs)) .read (drop 841 xs))) 0) ≡ true
+  pub log : logShape (length (rootsTold xs)) .test (drop 841 xs) ≡ true
+  pub ordered : areOrdered 0 (getD xs 1 0) (logShape (length (rootsTold xs)) .read (drop 841 xs)) ≡ true
+
+-- the state that is told
+told : List ℕ → State
+told xs = record {
+  part = record {
+    clock = getD xs 1 0;
+    profile = record { firm = getD xs 2 0; roots = rootsTold xs; rules = rulesTold xs };
+    accounts = accountsOf (cellsOf (rulesTold xs)) (totalsShape (rulesTold xs) .read (drop 581 xs));
+    locks = locksShape .read (drop 837 xs);
+  };
+  log = logShape (length (rootsTold xs)) .read (drop 841 xs);
+}
+
+is-told : (xs : List ℕ) → decode xs ≡ told xs
+unfolding told
+is-told xs = decode-is xs
+
+both-said : (xs : List ℕ)
+    → (eqb (getD xs 0 0) 1 && ((table 64 number .test (drop 3 xs) && rulesShape (length (rootsTold xs)) .test (drop 68 xs))
+    && (totalsShape (rulesTold xs) .test (drop 581 xs) && locksShape .test (drop 837 xs)) && logShape (length (rootsTold xs)) .test (drop 841 xs))) ≡ true
+    → isSoundState (told xs) ≡ true → Said xs
+unfolding isSoundState isMade told rootsIn rulesIn
+both-said xs m s = record {
+  mark = search tests depth 40;
+  clock = search tests depth 40;
+  firm = search tests depth 40;
+  roots = search tests depth 40;
+  names = search tests depth 40;
+  rules = search tests depth 40;
+  some = search tests depth 40;
+  order = search tests depth 40;
+  totals = search tests depth 40;
+  paid = search tests depth 40;
+  locks = search tests depth 40;
+  tripped = search tests depth 40;
+  byUser = search tests depth 40;
+  rate = search tests depth 40;
+  log = search tests depth 40;
+  ordered = search tests depth 40;
+}
+
+pub sound-said : (xs : List ℕ) → isSound xs ≡ true → Said xs
+sound-said xs h =
+    let t = taken-apart xs h in
+    both-said xs (sym (map-test xs) ∙ t .map) (ap isSoundState (sym (is-told xs)) ∙ t .state)
+
+module _ (xs : List ℕ) (long : size ≤ length xs) where
+  pub few-told : table 64 number .test (drop 3 xs) ≡ true → length (rootsTold xs) ≤ 64
+  few-told h = table-few 64 number (rootsTold xs) (table-exact 64 number number-exact .valid (drop 3 xs) (omega (arith, length-drop 3 xs)) h)
+
+  -- the rules of a memory whose tables of roots and rules are as the map says
+  module _ (roots : table 64 number .test (drop 3 xs) ≡ true) (rules : rulesShape (length (rootsTold xs)) .test (drop 68 xs) ≡ true) where
+    rules-ok : rulesShape (length (rootsTold xs)) .ok (rulesTold xs) ≡ true
+    rules-ok = rules-exact (length (rootsTold xs)) (few-told roots) .valid (drop 68 xs) (omega (arith, length-drop 68 xs)) rules
+
+    pub rules-few : length (rulesTold xs) ≤ 256
+    unfolding rulesShape
+    rules-few = table-few 256 _ _ rules-ok
+
+    rules-valid : every (isRule (length (rootsTold xs))) (rulesTold xs) ≡ true
+    unfolding rulesShape ruleShape coded
+    rules-valid = table-all 256 _ _ rules-ok
+
+  module _ (s : Said xs) where
+    told-sound : isSoundState (told xs) ≡ true
+    unfolding isSoundState isMade told rootsIn rulesIn
+    told-sound =
+        let made =
+        and-i (and-i (and-i (and-i (and-i (s .firm) (and-i (le-leb 0 (length (rootsTold xs)) zero-le) (le-leb _ _ (few-told (s .roots))))) (s .names))
+        (and-i (le-leb _ _ (s .some)) (le-leb _ _ (rules-few (s .roots) (s .rules))))) (rules-valid (s .roots) (s .rules))) (s .order) in
+        and-i (and-i (and-i (and-i (and-i (and-i (s .clock) made) (s .paid)) (s .tripped)) (s .byUser)) (s .rate)) (s .ordered)
+
+    pub said-sound : isSound xs ≡ true
+    said-sound = put-together xs (record {
+      long = long;
+      map =
+          map-test xs
+          ∙ and-i (s .mark) (and-i (and-i (and-i (s .roots) (s .rules)) (and-i (s .totals) (s .locks))) (s .log));
+      state = ap isSoundState (is-told xs) ∙ told-sound;
+    })

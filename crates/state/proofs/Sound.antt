@@ -1,0 +1,142 @@
+-- The tests of the parts together are the test of a sound memory. Assumes nothing.
+use Prim.Native.Nat.{ℕ, _^_, _≤_, _<_}
+use native.Mathlib.Omega.{arith}
+use mathlib.Core.Path.{_≡_, sym, ap, ap₂, _∙_}
+use mathlib.Core.Bool.{Bool, true, false, _&&_, _||_}
+use mathlib.Core.List.{List, []}
+use lib.ListN.{length, getD, drop}
+use lib.Dec.{eqb, leb, ltb}
+use borrow.Author.Tests.{le-leb, lt-leb}
+use Rattle.laws.specs.Tests.{and-l, tests}
+use Rattle.laws.specs.Folds.{every}
+use Rattle.measures.specs.Ranges.{isIn, times}
+use Rattle.shapes.specs.Shape.{table}
+use Rattle.shapes.proofs.Exact.{and-i, same-test}
+use Rattle.rules.specs.Valid.{hasRate}
+use Rattle.tables.specs.RulePlace.{rulesShape}
+use Rattle.tables.specs.EntryPlace.{logShape}
+use Rattle.machine.specs.State.{cellsOf}
+use Rattle.machine.specs.Entries.{areOrdered}
+use Rattle.machine.proofs.Totals.{isPaid}
+use Rattle.made.specs.Names.{isNameNumber}
+use Rattle.made.specs.Made.{areRoots, areInOrder}
+use Rattle.made.specs.Parts.{rulesHold, totalsHold}
+use Rattle.log.specs.Log.{logHolds}
+use Rattle.state.specs.State.{size, number, locksShape, totalsShape, accountsOf}
+use Rattle.state.specs.Sound.{isSound}
+use Rattle.state.specs.Tests.{rulesPart, totalsPart, locksPart, logPart, frontHolds, locksHold, partsHold, soundParts}
+use Rattle.state.proofs.Map.{rootsTold, rulesTold, roots-told}
+use Rattle.state.proofs.Parts.{and-on, roots-held, rules-held, rules-are, totals-held, locks-held, log-held, log-many}
+use Rattle.state.proofs.Said.{Said, sound-said, said-sound, few-told, rules-few}
+
+-- the tests of the parts where they stand: the front, the rules, and what is left
+abbrev toldFront : List ℕ → Bool
+toldFront xs =
+    eqb (getD xs 0 0) 1 && isIn times (getD xs 1 0) && isNameNumber 1 4 (getD xs 2 0) && (table 64 number .test (drop 3 xs) && areRoots (rootsTold xs))
+
+abbrev toldRules : List ℕ → Bool
+toldRules xs =
+    rulesShape (length (rootsTold xs)) .test (drop 68 xs) && (leb 1 (length (rulesTold xs)) && areInOrder (length (rootsTold xs)) [] 0 (rulesTold xs))
+
+abbrev toldRest : List ℕ → Bool
+toldRest xs =
+    (totalsShape (rulesTold xs) .test (drop 581 xs) && every isPaid (accountsOf (cellsOf (rulesTold xs)) (totalsShape (rulesTold xs) .read (drop 581 xs))))
+    && (locksShape .test (drop 837 xs)
+    && (ltb (locksShape .read (drop 837 xs) .tripped) (2 ^ length (rootsTold xs)) && ltb (locksShape .read (drop 837 xs) .byUser) (2 ^ length (rootsTold xs))))
+    && (hasRate (rulesTold xs) || eqb (length (logShape (length (rootsTold xs)) .read (drop 841 xs))) 0)
+    && (logShape (length (rootsTold xs)) .test (drop 841 xs) && areOrdered 0 (getD xs 1 0) (logShape (length (rootsTold xs)) .read (drop 841 xs)))
+
+parts-said : (xs : List ℕ) → (toldFront xs && toldRules xs && toldRest xs) ≡ true → Said xs
+parts-said xs h = record {
+  mark = search tests depth 40;
+  clock = search tests depth 40;
+  firm = search tests depth 40;
+  roots = search tests depth 40;
+  names = search tests depth 40;
+  rules = search tests depth 40;
+  some = search tests depth 40;
+  order = search tests depth 40;
+  totals = search tests depth 40;
+  paid = search tests depth 40;
+  locks = search tests depth 40;
+  tripped = search tests depth 40;
+  byUser = search tests depth 40;
+  rate = search tests depth 40;
+  log = search tests depth 40;
+  ordered = search tests depth 40;
+}
+
+said-parts : (xs : List ℕ) → Said xs → (toldFront xs && toldRules xs && toldRest xs) ≡ true
+said-parts xs s =
+    let front = and-i (and-i (and-i (s .mark) (s .clock)) (s .firm)) (and-i (s .roots) (s .names)) in
+    let rules = and-i (s .rules) (and-i (le-leb _ _ (s .some)) (s .order)) in
+    let locks = and-i (s .locks) (and-i (s .tripped) (s .byUser)) in
+    and-i (and-i front rules) (and-i (and-i (and-i (and-i (s .totals) (s .paid)) locks) (s .rate)) (and-i (s .log) (s .ordered)))
+
+-- the tests that the code runs over the parts are these
+module _ (xs : List ℕ) (long : size ≤ length xs) where
+  abbrev many : ℕ
+  many = length (rootsTold xs)
+
+  front-told : frontHolds xs ≡ toldFront xs
+  unfolding frontHolds
+  front-told = ap (λ (b : Bool). eqb (getD xs 0 0) 1 && isIn times (getD xs 1 0) && isNameNumber 1 4 (getD xs 2 0) && b) (roots-held xs long)
+
+  few-front : toldFront xs ≡ true → many ≤ 64
+  few-front h = few-told xs long (search tests depth 20)
+
+  rules-told : toldFront xs ≡ true → rulesHold (getD xs 3 0) (rulesPart xs) ≡ toldRules xs
+  rules-told h = ap (λ (n : ℕ). rulesHold n (rulesPart xs)) (sym (roots-told xs)) ∙ rules-held xs long many (few-front h)
+
+  rest-told : (toldFront xs && toldRules xs) ≡ true → partsHold xs ≡ toldRest xs
+  unfolding partsHold
+  rest-told h =
+      let few = few-front (and-l (toldFront xs) _ h) in
+      let roots : table 64 number .test (drop 3 xs) ≡ true = search tests depth 20 in
+      let rules : rulesShape many .test (drop 68 xs) ≡ true = search tests depth 20 in
+      let n = sym (roots-told xs) in
+      let r = rules-are xs long many few rules in
+      (λ i. totalsHold (r i) (totalsPart xs) && locksHold (n i) (locksPart xs) && (hasRate (r i) || eqb (sym (log-many many xs) i) 0)
+      && logHolds (n i) (getD xs 1 0) (logPart xs))
+      ∙ (λ i. totals-held xs long (rulesTold xs) (rules-few xs long roots rules) i && locks-held xs long many i
+      && (hasRate (rulesTold xs) || eqb (length (logShape many .read (drop 841 xs))) 0) && log-held xs long many few (getD xs 1 0) i)
+
+  parts-told : soundParts xs ≡ (toldFront xs && toldRules xs && toldRest xs)
+  unfolding soundParts
+  parts-told =
+      let first : (frontHolds xs && rulesHold (getD xs 3 0) (rulesPart xs)) ≡ (toldFront xs && toldRules xs) =
+      ap (λ (b : Bool). b && rulesHold (getD xs 3 0) (rulesPart xs)) front-told ∙ and-on (toldFront xs) rules-told in
+      ap (λ (b : Bool). b && partsHold xs) first ∙ and-on (toldFront xs && toldRules xs) rest-told
+
+  -- memory that is long enough is sound exactly if the tests of its parts say so
+  pub sound-is : isSound xs ≡ soundParts xs
+  sound-is =
+      same-test (isSound xs) (soundParts xs) (λ h. parts-told ∙ said-parts xs (sound-said xs h))
+      (λ h. said-sound xs long (parts-said xs (sym parts-told ∙ h)))
+
+-- what the code answers on the way, and what it knows when it goes on
+pub sound-short : (xs : List ℕ) → length xs < size → false ≡ isSound xs
+unfolding isSound
+sound-short xs h = rw (lt-leb _ _ h)
+
+module _ (xs : List ℕ) (long : size ≤ length xs) where
+  pub sound-front : frontHolds xs ≡ false → false ≡ isSound xs
+  unfolding soundParts
+  sound-front h = sym (sound-is xs long ∙ ap (λ (a : Bool). a && rulesHold (getD xs 3 0) (rulesPart xs) && partsHold xs) h)
+
+  module _ (front : frontHolds xs ≡ true) where
+    pub roots-fit : getD xs 3 0 ≤ 64
+    roots-fit = omega (arith, roots-told xs, few-front xs long (sym (front-told xs long) ∙ front))
+
+    pub sound-rules : rulesHold (getD xs 3 0) (rulesPart xs) ≡ false → false ≡ isSound xs
+    unfolding soundParts
+    sound-rules h = sym (sound-is xs long ∙ ap₂ (λ (a b : Bool). a && b && partsHold xs) front h)
+
+    module _ (rules : rulesHold (getD xs 3 0) (rulesPart xs) ≡ true) where
+      pub rules-fit : getD (rulesPart xs) 0 0 ≤ 256
+      unfolding rulesHold
+      rules-fit = search tests depth 10
+
+      pub sound-rest : partsHold xs ≡ isSound xs
+      unfolding soundParts
+      sound-rest = sym (sound-is xs long ∙ ap₂ (λ (a b : Bool). a && b && partsHold xs) front rules)

@@ -1,0 +1,46 @@
+-- The tests of the parts of memory, as the code runs them. Assumes nothing.
+use Prim.Native.Nat.{ℕ, _^_}
+use mathlib.Core.Bool.{Bool, _&&_, _||_}
+use mathlib.Core.List.{List}
+use lib.ListN.{getD, take, drop}
+use lib.Dec.{eqb, ltb}
+use Rattle.measures.specs.Ranges.{_to_, isIn, times}
+use Rattle.rules.specs.Valid.{hasRate}
+use Rattle.made.specs.Names.{isNameNumber}
+use Rattle.made.specs.Parts.{rootsHold, rulesOf, rulesHold, totalsHold}
+use Rattle.log.specs.Log.{logHolds}
+
+-- the parts as they are lent: the tables of the roots and of the rules, the totals, the locks and the log
+abbrev pub rootsPart : List ℕ → List ℕ
+rootsPart xs = take 65 (drop 3 xs)
+
+abbrev pub rulesPart : List ℕ → List ℕ
+rulesPart xs = take 513 (drop 68 xs)
+
+abbrev pub totalsPart : List ℕ → List ℕ
+totalsPart xs = take 256 (drop 581 xs)
+
+abbrev pub locksPart : List ℕ → List ℕ
+locksPart xs = take 4 (drop 837 xs)
+
+abbrev pub logPart : List ℕ → List ℕ
+logPart xs = take 1025 (drop 841 xs)
+
+-- the mark, the clock, the firm and the roots
+unfoldable pub frontHolds : List ℕ → Bool
+frontHolds xs = eqb (getD xs 0 0) 1 && isIn times (getD xs 1 0) && isNameNumber 1 4 (getD xs 2 0) && rootsHold (rootsPart xs)
+
+-- the locks, with so many roots
+unfoldable pub locksHold : ℕ → List ℕ → Bool
+locksHold roots xs =
+    isIn (0 to 1) (getD xs 0 0) && isIn (0 to 1) (getD xs 1 0) && ltb (getD xs 2 0) (2 ^ roots) && ltb (getD xs 3 0) (2 ^ roots)
+
+-- all parts, with the number of roots and the clock that the front tells
+unfoldable pub partsHold : List ℕ → Bool
+partsHold xs =
+    totalsHold (rulesOf (rulesPart xs)) (totalsPart xs) && locksHold (getD xs 3 0) (locksPart xs)
+    && (hasRate (rulesOf (rulesPart xs)) || eqb (getD xs 841 0) 0)
+    && logHolds (getD xs 3 0) (getD xs 1 0) (logPart xs)
+
+unfoldable pub soundParts : List ℕ → Bool
+soundParts xs = frontHolds xs && rulesHold (getD xs 3 0) (rulesPart xs) && partsHold xs

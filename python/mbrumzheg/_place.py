@@ -1,0 +1,20 @@
+"""Where the numbers of a state stand, by the map in docs/MEMORY.md: part after part, a table with its count in front."""
+
+# how many places the tables of roots and of rules and the log have; a rule and an entry take two numbers each
+_MOST_ROOTS, _MOST_RULES, _LOG_PLACES = 64, 256, 512
+
+MARK = 0
+CLOCK = MARK + 1
+FIRM = CLOCK + 1
+ROOT_COUNT = FIRM + 1
+ROOTS = ROOT_COUNT + 1
+RULE_COUNT = ROOTS + _MOST_ROOTS
+RULES = RULE_COUNT + 1
+TOTALS = RULES + 2 * _MOST_RULES
+FIRM_TRIPPED = TOTALS + _MOST_RULES
+FIRM_LOCKED = FIRM_TRIPPED + 1
+ROOTS_TRIPPED = FIRM_LOCKED + 1
+ROOTS_LOCKED = ROOTS_TRIPPED + 1
+ENTRY_COUNT = ROOTS_LOCKED + 1
+LOG = ENTRY_COUNT + 1
+SIZE = LOG + 2 * _LOG_PLACES
