@@ -5,6 +5,7 @@ pub mod Rules
 pub mod Text
 pub mod Reader
 pub mod Tables
+pub mod Admission
 pub mod Line
 pub mod Profile
 pub mod Made

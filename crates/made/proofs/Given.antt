@@ -1,32 +1,22 @@
 -- Every accepted text gives a profile that passes the test. Assumes nothing.
 use Prim.Native.Nat.{ℕ, suc, _≤_, _<_}
-use mathlib.Core.Path.{_≡_, refl, sym, ap, _∙_}
+use mathlib.Core.Path.{_≡_, refl, sym, ap}
 use mathlib.Core.Bool.{Bool, true, false, cond, not, _&&_, _||_}
-use mathlib.Core.List.{List, [], _∷_, _++_}
+use mathlib.Core.List.{List, [], _∷_}
 use lib.ListN.{length, getD}
-use lib.Seq.{append-snoc}
-use lib.Dec.{eqb, leb, ltb, lit<}
-use borrow.Author.Tests.{eqb-false, ne-eqb, le-leb, leb-true, le-ltb}
-use native.Mathlib.Numerals.{add-one}
+use lib.Dec.{eqb, leb, lit<}
+use borrow.Author.Tests.{eqb-false, ne-eqb, le-leb, leb-true}
 use native.Mathlib.Omega.{arith}
 use Rattle.laws.specs.Tests.{and-l, and-r}
-use Rattle.measures.specs.Ranges.{isIn, units}
-use Rattle.rules.specs.declared.Scope.{Scope}
-use Rattle.rules.specs.declared.Scope.the-variants.{EveryFill, WholeRoot, OneUnit}
-use Rattle.rules.specs.declared.Rule.{Rule}
 use Rattle.text.specs.Text.{indexOf, isDigit, isNameByte}
-use Rattle.laws.specs.Folds.{every}
-use Rattle.rules.specs.Valid.{isScope, isRule}
 use Rattle.machine.specs.State.{Profile}
-use Rattle.profile.specs.Profile.{Outcome, howMany, isFirmRule, onUnit, crowded, outcomeOf}
-use Rattle.profile.specs.Lawful.{IsNameNumber, isNext as isNextOf, knownWith, inOrder, Lawful}
-use Rattle.profile.proofs.Counts.{howMany-join}
+use Rattle.profile.specs.Profile.{Outcome, outcomeOf}
+use Rattle.profile.specs.Lawful.{IsNameNumber, Lawful}
 use Rattle.profile.proofs.Laws.{lawful, accepted-some, accepted-named}
 use Rattle.made.specs.Names.{nameBytes, isNameNumber}
-use Rattle.made.specs.Made.{isFresh, areRoots, seenAfter, isNext, areInOrder, isMade}
+use Rattle.made.specs.Made.{isFresh, areRoots, isMade}
 use Rattle.made.proofs.Bytes.{and-both, all-in, made-most, made-all}
 use Rattle.made.proofs.Digits.{digits-back}
-use Rattle.made.proofs.Order.{rule-scope}
 
 -- a name's number holds that name
 name-byte : (x : ℕ) → isNameByte x ≡ true → (0 < x) × (x < 256)
@@ -68,52 +58,6 @@ roots-of (name ∷ names) named placed =
     and-both (and-both (name-holds 1 6 name (omega arith) (named 0 (omega arith))) (fresh-of name names (λ i l. after i l .0)))
     (roots-of names (λ i l. named (suc i) (omega arith)) (λ i l. after i l .1))
 
--- rules within the bounds, of which the first ones are taken
-module _ (rules more : List Rule) (firm-most : howMany isFirmRule (rules ++ more) ≤ 10)
-    (unit-most : (root unit : ℕ) → unit < 4 → howMany (onUnit root unit) (rules ++ more) ≤ 6) where
-  unit-free : (root unit : ℕ) → unit < 4 → ltb 6 (howMany (onUnit root unit) rules) ≡ false
-  unit-free root unit u =
-      le-ltb 6 (howMany (onUnit root unit) rules) (omega (arith, unit-most root unit u, howMany-join (onUnit root unit) rules more))
-
-  not-crowded : (n : ℕ) (s : Scope) → isScope n s ≡ true → crowded rules s ≡ false
-  unfolding isScope crowded
-  not-crowded n EveryFill h = le-ltb 10 (howMany isFirmRule rules) (omega (arith, howMany-join isFirmRule rules more))
-  not-crowded n (WholeRoot root) h =
-      rw (unit-free root 0 (omega arith), unit-free root 1 (omega arith), unit-free root 2 (omega arith), unit-free root 3 (omega arith))
-  not-crowded n (OneUnit root unit) h =
-      unit-free root unit (omega (arith, leb-true unit 3 (and-r (leb 0 unit) (leb unit 3) (and-r (ltb root n) (isIn units unit) h))))
-
--- roots in order of first appearance, in the words of a lawful profile
-next-of : (seen : ℕ) (s : Scope) → isNext s seen ≡ isNextOf seen s
-unfolding isNext isNextOf
-next-of seen EveryFill = refl
-next-of seen (WholeRoot root) = refl
-next-of seen (OneUnit root unit) = refl
-
-seen-of : (seen : ℕ) (s : Scope) → seenAfter s seen ≡ knownWith seen s
-unfolding seenAfter knownWith
-seen-of seen EveryFill = refl
-seen-of seen (WholeRoot root) = rw add-one
-seen-of seen (OneUnit root unit) = rw add-one
-
-order-of : (n : ℕ) (before : List Rule) (seen : ℕ) (rules : List Rule) → howMany isFirmRule (before ++ rules) ≤ 10
-    → ((root unit : ℕ) → unit < 4 → howMany (onUnit root unit) (before ++ rules) ≤ 6) → every (isRule n) rules ≡ true → inOrder seen rules n ≡ true
-    → areInOrder n before seen rules ≡ true
-unfolding areInOrder inOrder every
-order-of n before seen [] firm-most unit-most ok order = order
-order-of n before seen (rule ∷ rules) firm-most unit-most ok order =
-    let first = and-l (isRule n rule) (every (isRule n) rules) ok in
-    let rest = and-r (isRule n rule) (every (isRule n) rules) ok in
-    let next = and-l (isNextOf seen (rule .scope)) (inOrder (knownWith seen (rule .scope)) rules n) order in
-    let after = and-r (isNextOf seen (rule .scope)) (inOrder (knownWith seen (rule .scope)) rules n) order in
-    let joined = append-snoc before rule rules in
-    let firms = rw (← joined) at firm-most in
-    let on : (root unit : ℕ) → unit < 4 → howMany (onUnit root unit) ((before ++ (rule ∷ [])) ++ rules) ≤ 6 =
-    λ root unit u. rw joined (unit-most root unit u) in
-    let free = not-crowded (before ++ (rule ∷ [])) rules firms on n (rule .scope) (rule-scope n rule first) in
-    and-both (and-both (next-of seen (rule .scope) ∙ next) (ap not free))
-    (rw (seen-of seen (rule .scope)) (order-of n (before ++ (rule ∷ [])) (knownWith seen (rule .scope)) rules firms on rest after))
-
 -- a lawful profile of a firm that is named, with a rule
 lawful-made : (p : Profile) → Lawful p → IsNameNumber 1 4 (p .firm) → 0 < length (p .rules) → isMade p ≡ true
 unfolding isMade
@@ -123,7 +67,7 @@ lawful-made p law named some =
     and-both (and-both (and-both (and-both (and-both (name-holds 1 4 (p .firm) (omega arith) named)
     (and-both (le-leb 0 roots (omega arith)) (le-leb roots 64 (law .roots-most)))) (roots-of (p .roots) (law .each-name) (law .each-place)))
     (and-both (le-leb 1 rules some) (le-leb rules 256 (law .rules-most)))) (law .each-rule))
-    (order-of roots [] 0 (p .rules) (law .firm-most) (law .unit-most) (law .each-rule) (law .in-order))
+    (law .in-order)
 
 pub given-made : (text : List ℕ) (p : Profile) → outcomeOf text ≡ record { profile = p; refusal = 0; line = 0 } → isMade p ≡ true
 given-made text p e =

@@ -4,6 +4,5 @@ pub mod Names
 pub mod Places
 pub mod Order
 pub mod Given
-pub mod Spread
 pub mod Marks
 pub mod Counts

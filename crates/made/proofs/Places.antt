@@ -1,5 +1,5 @@
 -- The tests of the roots' and the totals' places, and of the kinds of the rules, one place more. Assumes nothing.
-use Prim.Native.Nat.{ℕ, suc, _+_, _*_, _-_, _≤_, _<_}
+use Prim.Native.Nat.{ℕ, _+_, _*_, _-_, _≤_, _<_}
 use native.Mathlib.Nat.{sub-zero}
 use native.Mathlib.Omega.{arith}
 use mathlib.Core.Path.{_≡_, sym, _∙_}
@@ -14,7 +14,6 @@ use Rattle.rules.specs.declared.Rule.{Rule}
 use Rattle.tables.specs.Tables.{allZero, places}
 use Rattle.tables.specs.RulePlace.{ruleAt}
 use Rattle.tables.proofs.Tables.{places-on}
-use Rattle.made.specs.Names.{isNameNumber}
 use Rattle.made.specs.Made.{isFresh, areRoots}
 use Rattle.made.specs.Parts.{namesHold, totalsHold}
 use Rattle.rules.specs.Valid.{isTotalNumber, hasRate}

@@ -1,4 +1,3 @@
 pub mod Names
 pub mod Made
 pub mod Parts
-pub mod Counting

@@ -1,6 +1,6 @@
 -- The tests of the roots', the rules' and the totals' places. Assumes nothing.
 use Prim.Native.Nat.{ℕ, _*_}
-use mathlib.Core.Bool.{Bool, false, cond, _&&_, _||_}
+use mathlib.Core.Bool.{Bool, false, _&&_}
 use mathlib.Core.List.{List, [], _∷_}
 use lib.ListN.{getD, take, drop}
 use lib.Dec.{leb}
@@ -9,7 +9,8 @@ use Rattle.rules.specs.Valid.{isTotalNumber}
 use Rattle.rules.specs.declared.Rule.{Rule}
 use Rattle.tables.specs.Tables.{allZero, places, placesPass}
 use Rattle.tables.specs.RulePlace.{ruleAt, isRulePlace}
-use Rattle.made.specs.Made.{areRoots, areInOrder}
+use Rattle.admission.specs.Admission.{areInOrder}
+use Rattle.made.specs.Made.{areRoots}
 
 -- the first n of the roots' places hold roots, and the others 0
 unfoldable pub namesHold : ℕ → List ℕ → Bool

@@ -1,24 +1,22 @@
 // The tests of a state's roots, rules and totals: whether they are such as some accepted profile gives.
 ghost use mathlib.Core.Path.{_≡_};
-ghost use Prim.Native.Nat.{ℕ, _+_, _*_, _≤_, _<_, max};
-ghost use mathlib.Core.Bool.{true, not, cond};
-ghost use mathlib.Core.List.{List};
+ghost use Prim.Native.Nat.{_+_, _*_, _≤_, _<_};
+ghost use mathlib.Core.Bool.{true};
 ghost use lib.ListN.{length, getD, drop};
 ghost use Rattle.rules.specs.Rules.{isRate};
 ghost use Rattle.rules.specs.declared.Rule.{Rule};
 ghost use Rattle.text.specs.Text.{isNameByte};
 ghost use Rattle.tables.specs.Tables.{places};
 ghost use Rattle.tables.specs.RulePlace.{ruleAt};
-ghost use Rattle.rules.specs.Valid.{isRule, isTotalNumber, hasRate};
-ghost use Rattle.profile.specs.Held.{Names, mayCover, countsWith};
+ghost use Rattle.rules.specs.Valid.{isTotalNumber, hasRate};
 ghost use Rattle.made.specs.Names.{isNameNumber};
 ghost use Rattle.made.specs.Made.{isFresh};
 ghost use Rattle.made.specs.Parts.{namesHold, placesHold, rootsHold, rulesOf, rulesHold, totalsHold};
-ghost use Rattle.made.specs.Counting.{SoFar, Holds, Follows, spread, overIn, coveredIn};
+use admission::Admitted;
+use admission::Tally;
 use measures::Contracts;
 use rules::Kind;
 use rules::Rule;
-use rules::Scope;
 
 // How many numbers the tables of the roots and of the rules take: a count, then 64 names, or 256 places of two numbers.
 pub const ROOTS_SIZE: usize = 1 + 64;
@@ -105,121 +103,17 @@ pub fn are_roots(roots: &[u64]) -> bool
     names_hold(&roots[1..ROOTS_SIZE], n)
 }
 
-// How many roots have appeared in the rules so far, and how many firm rules there are.
-struct Tally {
-    seen: u64,
-    firms: u64,
-}
-
-// A rule after the rules so far: with it there are so many, or it may not stand there.
-enum Step {
-    With(Tally),
-    Stop,
-}
-
-// How many roots have appeared with this one.
-fn seen_with(seen: u64, root: u64) -> u64
-    requires { ⌜ root < 64 ⌝ }
-    ensures { λ r. ⌜ r ≡ max seen (root + 1) ⌝ }
-{
-    if root < seen { seen } else { root + 1 }
-}
-
-// 1 for true, 0 for false.
-fn one(test: bool) -> u64
-    ensures { λ r. ⌜ (r ≡ cond test 1 0) × (r ≤ 1) ⌝ }
-{
-    if test { 1 } else { 0 }
-}
-
-// What a rule adds to the counts of a root's four units, which stand in one number, a byte each.
-fn covered(rule: Rule, root: u64) -> u64
-    ensures { λ r. ⌜ r ≡ coveredIn rule root ⌝ }
-{
-    one(rule.covers(root, 0))
-        + one(rule.covers(root, 1)) * 256
-        + one(rule.covers(root, 2)) * 65_536
-        + one(rule.covers(root, 3)) * 16_777_216
-}
-
-// Whether none of the four counts in a number is above 6.
-fn fits(w: u64) -> bool
-    ensures { λ r. ⌜ r ≡ not (overIn w) ⌝ }
-{
-    if 6 < w % 256 {
-        return false;
-    }
-    if 6 < w / 256 % 256 {
-        return false;
-    }
-    if 6 < w / 65_536 % 256 {
-        return false;
-    }
-    w / 16_777_216 <= 6
-}
-
-// Counts a rule on the units of a root that it covers, and answers whether it did: not if a unit then has more than 6.
-fn cover(counts: &mut [u64], root: usize, rule: Rule) -> bool
-    requires { ⌜ (length (now counts) ≡ 64) × (root < 64) × ((unit : ℕ) → unit < 4 → getD (spread (now counts)) (root * 4 + unit) 0 ≤ 6) ⌝ }
-    ensures { λ r. ⌜ r ≡ mayCover (spread (now (counts .entry))) root rule ⌝ }
-    ensures { λ r. ⌜ spread (now (counts .exit)) ≡ countsWith (spread (now (counts .entry))) root rule ⌝ }
-{
-    let more = covered(rule, root as u64);
-    let all = counts[root] + more;
-    if !fits(all) {
-        return false;
-    }
-    counts[root] = all;
-    true
-}
-
-// Counts a rule of a root, unless that root is not next or a unit then has 7 rules.
-fn with_root(rule: Rule, root: u64, tally: Tally, counts: &mut [u64]) -> Step
-    requires { ⌜ Holds (tally .firms) (spread (now counts)) × (isRule 64 rule ≡ true) × Names root (rule .scope) ⌝ }
-    ensures { λ r. ⌜ ((before : List Rule) → SoFar before (tally .firms) (spread (now (counts .entry))) → Follows before (tally .seen) rule r (spread (now (counts .exit)))) ⌝ }
-{
-    let seen = tally.seen;
-    if seen < root {
-        return Step::Stop;
-    }
-    if !cover(counts, root as usize, rule) {
-        return Step::Stop;
-    }
-    Step::With(Tally {
-        seen: seen_with(seen, root),
-        firms: tally.firms,
-    })
-}
-
-// Counts a rule, unless its root is not next or it is one too many.
-fn with_rule(rule: Rule, tally: Tally, counts: &mut [u64]) -> Step
-    requires { ⌜ Holds (tally .firms) (spread (now counts)) × (isRule 64 rule ≡ true) ⌝ }
-    ensures { λ r. ⌜ ((before : List Rule) → SoFar before (tally .firms) (spread (now (counts .entry))) → Follows before (tally .seen) rule r (spread (now (counts .exit)))) ⌝ }
-{
-    let scope = rule.scope;
-    match scope {
-        Scope::EveryFill => {
-            let firms = tally.firms + 1;
-            if 10 < firms {
-                return Step::Stop;
-            }
-            Step::With(Tally {
-                seen: tally.seen,
-                firms,
-            })
-        }
-        Scope::WholeRoot(root) => with_root(rule, root, tally, counts),
-        Scope::OneUnit(root, _) => with_root(rule, root, tally, counts),
-    }
-}
-
 // Whether the first k places hold rules of n roots, in order, none too many, and the others 0.
 fn rules_hold(rules: &[u64], k: usize, n: u64) -> bool
     requires { ⌜ (length (now rules) ≡ 512) × (k ≤ 256) × (n ≤ 64) ⌝ }
     ensures { λ r. ⌜ r ≡ placesHold n k (now (rules .entry)) ⌝ }
 {
     let mut counts = [0u64; 64];
-    let mut tally = Tally { seen: 0, firms: 0 };
+    let mut tally = Tally {
+        rules: 0,
+        seen: 0,
+        firms: 0,
+    };
     let mut i: usize = 0;
     while i < k {
         let at = i * 2;
@@ -228,9 +122,9 @@ fn rules_hold(rules: &[u64], k: usize, n: u64) -> bool
         if !tables::is_rule(first, second, n) {
             return false;
         }
-        match with_rule(tables::rule_of(first, second), tally, &mut counts) {
-            Step::Stop => return false,
-            Step::With(next) => tally = next,
+        match admission::admit(tables::rule_of(first, second), tally, &mut counts) {
+            Admitted::TooMany => return false,
+            Admitted::With(next) => tally = next,
         }
         i += 1;
     }

@@ -16,7 +16,8 @@ use Rattle.rules.specs.Valid.{isRule}
 use Rattle.machine.specs.State.{Profile}
 use Rattle.profile.specs.Profile.{outcomeOf}
 use Rattle.made.specs.Names.{isNameNumber}
-use Rattle.made.specs.Made.{areRoots, areInOrder, isMade}
+use Rattle.admission.specs.Admission.{areInOrder}
+use Rattle.made.specs.Made.{areRoots, isMade}
 use Rattle.output.specs.Output.{lineText, textOf}
 use Rattle.made.proofs.Bytes.{and-both, all-at}
 use Rattle.output.proofs.Every.{every-first}

@@ -18,9 +18,10 @@ use Rattle.text.specs.Text.{indexOf}
 use Rattle.laws.specs.Folds.{every}
 use Rattle.rules.specs.Valid.{isScope, isRule}
 use Rattle.machine.specs.State.{Profile}
-use Rattle.profile.specs.Profile.{withRoot, rootsWith, numbered, joined, crowded, tooMany, afterLine, readOn}
+use Rattle.admission.specs.Admission.{crowded, seenAfter, isNext, areInOrder}
+use Rattle.profile.specs.Profile.{withRoot, rootsWith, numbered, joined, tooMany, afterLine, readOn}
 use Rattle.made.specs.Names.{isNameNumber}
-use Rattle.made.specs.Made.{areRoots, seenAfter, isNext, areInOrder}
+use Rattle.made.specs.Made.{areRoots}
 use Rattle.output.specs.Output.{lineText}
 use Rattle.made.proofs.Order.{rule-scope}
 use Rattle.output.proofs.Every.{every-first, every-rest}

@@ -10,9 +10,9 @@ use Rattle.text.specs.Text.{bytes, all, made, numeral, nameNumber}
 use Rattle.laws.specs.Folds.{every}
 use Rattle.rules.specs.Valid.{isLimit, isKind, isScope, isRule}
 use Rattle.machine.specs.State.{Profile}
-use Rattle.profile.specs.Profile.{howMany, isFirmRule, onUnit, crowded}
+use Rattle.admission.specs.Admission.{howMany, isFirmRule, onUnit, crowded, seenAfter, isNext, areInOrder}
 use Rattle.made.specs.Names.{digitsUpTo, nameBytes, isNameNumber}
-use Rattle.made.specs.Made.{isFresh, areRoots, seenAfter, isNext, areInOrder, isMade}
+use Rattle.made.specs.Made.{isFresh, areRoots, isMade}
 use Rattle.output.specs.Output.{decimal, typeName, limitText, windowText, rootText, levelText, callPutText, monthText, fieldTexts, inFront, trimmed, withCommas, lineText, linesText, textOf}
 
 abbrev example : Profile

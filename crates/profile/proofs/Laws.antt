@@ -2,12 +2,12 @@
 use Prim.Native.Nat.{ℕ, suc, _+_, _≤_, _<_}
 use mathlib.Core.Path.{_≡_, refl, sym, ap, _∙_}
 use mathlib.Core.Bool.{Bool, true, false, cond, false≢true}
-use mathlib.Core.List.{List, [], _∷_}
+use mathlib.Core.List.{List, [], _∷_, _++_}
 use lib.ListN.{length, getD}
 use lib.Dec.{eqb, leb}
 use borrow.Author.Tests.{eqb-true, eqb-false, leb-true}
 use native.Mathlib.Omega.{arith}
-use Rattle.laws.specs.Tests.{and-l, and-r}
+use Rattle.laws.specs.Tests.{and-l, tests}
 use Rattle.measures.specs.Ranges.{_to_, isIn}
 use Rattle.rules.specs.declared.Scope.{Scope}
 use Rattle.rules.specs.declared.Scope.the-variants.{EveryFill, WholeRoot, OneUnit}
@@ -20,7 +20,9 @@ use Rattle.line.specs.declared.Line.the-variants.{Is, Refused as Faulty}
 use Rattle.profile.specs.Profile.{joined, tooMany, Outcome, afterLine, readOn, startOf, outcomeOf, readingOf}
 use Rattle.machine.specs.State.{Profile}
 use Rattle.profile.specs.declared.Reading.the-variants.{Accepted, Refused}
-use Rattle.profile.specs.Lawful.{IsNameNumber, isNext, knownWith, inOrder, Lawful}
+use Rattle.admission.specs.Admission.{seenAfter, isNext, areInOrder, Bounded}
+use Rattle.admission.proofs.Levels.{bounded-none, ordered-bounded}
+use Rattle.profile.specs.Lawful.{IsNameNumber, Lawful}
 use Rattle.profile.proofs.Joined.{start-lawful, joined-length, lawful-joined}
 use Rattle.line.proofs.Laws.{line-refused}
 use Rattle.profile.proofs.Said.{said, firm-named}
@@ -54,7 +56,7 @@ comes p n (l ∷ ls) = go (lineOf (p .firm) l) refl (λ rule. comes (joined p ru
         → Comes p n (l ∷ ls) (cond t (record { profile = p; refusal = 11; line = n + 1 }) (rest rule))
     many rule e more true h = stop 11 (omega arith) (omega arith)
     many rule e more false h = record {
-      lawful = λ law. more .lawful (lawful-joined p rule law (said (p .firm) l e) h);
+      lawful = λ law. more .lawful (lawful-joined p rule (said (p .firm) l e) law h);
       firm = more .firm;
       ends = ends-next p rule l (more .ends);
     }
@@ -177,55 +179,57 @@ unfoldable pub firstOf : ℕ → List Rule → ℕ
 firstOf root [] = 0
 firstOf root (rule ∷ rules) = cond (isOf root (rule .scope)) 0 (suc (firstOf root rules))
 
-reached : (known root : ℕ) (s : Scope) → isNext known s ≡ true → isOf root s ≡ true → root ≤ known
+reached : (seen root : ℕ) (s : Scope) → isNext s seen ≡ true → isOf root s ≡ true → root ≤ seen
 unfolding isNext isOf
-reached known root EveryFill h e = absurd (false≢true e)
-reached known root (WholeRoot r) h e = omega (arith, leb-true r known h, eqb-true r root e)
-reached known root (OneUnit r u) h e = omega (arith, leb-true r known h, eqb-true r root e)
+reached seen root EveryFill h e = absurd (false≢true e)
+reached seen root (WholeRoot r) h e = omega (arith, leb-true r seen h, eqb-true r root e)
+reached seen root (OneUnit r u) h e = omega (arith, leb-true r seen h, eqb-true r root e)
 
-passed : (known root : ℕ) (s : Scope) → isNext known s ≡ true → isOf root s ≡ false → known ≤ root → knownWith known s ≤ root
-unfolding isNext isOf knownWith
-passed known root EveryFill h e l = l
-passed known root (WholeRoot r) h e l = let k = leb-true r known h in let d = eqb-false r root e in omega arith
-passed known root (OneUnit r u) h e l = let k = leb-true r known h in let d = eqb-false r root e in omega arith
+passed : (seen root : ℕ) (s : Scope) → isNext s seen ≡ true → isOf root s ≡ false → seen ≤ root → seenAfter s seen ≤ root
+unfolding isNext isOf seenAfter
+passed seen root EveryFill h e l = l
+passed seen root (WholeRoot r) h e l = let k = leb-true r seen h in let d = eqb-false r root e in omega arith
+passed seen root (OneUnit r u) h e l = let k = leb-true r seen h in let d = eqb-false r root e in omega arith
 
 -- every root that rules in order come to know has a rule, and the first rule of a root stands before that of a later one
-ruled : (known : ℕ) (rules : List Rule) (all root : ℕ) → inOrder known rules all ≡ true → known ≤ root → root < all → firstOf root rules < length rules
-unfolding inOrder firstOf
-ruled known [] all root h l k = absurd (omega (arith, eqb-true known all h))
-ruled known (rule ∷ rules) all root h l k =
-    let next = and-l (isNext known (rule .scope)) (inOrder (knownWith known (rule .scope)) rules all) h in
-    let rest = and-r (isNext known (rule .scope)) (inOrder (knownWith known (rule .scope)) rules all) h in
-    go (isOf root (rule .scope)) refl next (λ m. ruled (knownWith known (rule .scope)) rules all root rest m k)
+ruled : (n : ℕ) (before : List Rule) (seen : ℕ) (rules : List Rule) (root : ℕ) → areInOrder n before seen rules ≡ true → seen ≤ root → root < n
+    → firstOf root rules < length rules
+unfolding areInOrder firstOf
+ruled n before seen [] root h l k = absurd (omega (arith, eqb-true seen n h))
+ruled n before seen (rule ∷ rules) root h l k =
+    go (isOf root (rule .scope)) refl (search tests) (λ m. ruled n (before ++ (rule ∷ [])) (seenAfter (rule .scope) seen) rules root (search tests) m k)
   where
-    go : (t : Bool) → isOf root (rule .scope) ≡ t → isNext known (rule .scope) ≡ true
-        → (knownWith known (rule .scope) ≤ root → firstOf root rules < length rules) → cond t 0 (suc (firstOf root rules)) < suc (length rules)
+    go : (t : Bool) → isOf root (rule .scope) ≡ t → isNext (rule .scope) seen ≡ true
+        → (seenAfter (rule .scope) seen ≤ root → firstOf root rules < length rules) → cond t 0 (suc (firstOf root rules)) < suc (length rules)
     go true e next more = omega arith
-    go false e next more = omega (arith, more (passed known root (rule .scope) next e l))
+    go false e next more = omega (arith, more (passed seen root (rule .scope) next e l))
 
-earlier : (known : ℕ) (rules : List Rule) (all before root : ℕ) → inOrder known rules all ≡ true → known ≤ before → before < root → root < all
-    → firstOf before rules < firstOf root rules
-unfolding inOrder firstOf
-earlier known [] all before root h l b k = absurd (omega (arith, eqb-true known all h))
-earlier known (rule ∷ rules) all before root h l b k =
-    let next = and-l (isNext known (rule .scope)) (inOrder (knownWith known (rule .scope)) rules all) h in
-    let rest = and-r (isNext known (rule .scope)) (inOrder (knownWith known (rule .scope)) rules all) h in
-    go (isOf before (rule .scope)) (isOf root (rule .scope)) refl refl next (λ m. earlier (knownWith known (rule .scope)) rules all before root rest m b k)
+earlier : (n : ℕ) (before : List Rule) (seen : ℕ) (rules : List Rule) (first root : ℕ) → areInOrder n before seen rules ≡ true → seen ≤ first → first < root
+    → root < n → firstOf first rules < firstOf root rules
+unfolding areInOrder firstOf
+earlier n before seen [] first root h l b k = absurd (omega (arith, eqb-true seen n h))
+earlier n before seen (rule ∷ rules) first root h l b k =
+    go (isOf first (rule .scope)) (isOf root (rule .scope)) refl refl (search tests)
+    (λ m. earlier n (before ++ (rule ∷ [])) (seenAfter (rule .scope) seen) rules first root (search tests) m b k)
   where
-    go : (s t : Bool) → isOf before (rule .scope) ≡ s → isOf root (rule .scope) ≡ t → isNext known (rule .scope) ≡ true
-        → (knownWith known (rule .scope) ≤ before → firstOf before rules < firstOf root rules)
-        → cond s 0 (suc (firstOf before rules)) < cond t 0 (suc (firstOf root rules))
-    go s true d e next more = absurd (omega (arith, reached known root (rule .scope) next e))
+    go : (s t : Bool) → isOf first (rule .scope) ≡ s → isOf root (rule .scope) ≡ t → isNext (rule .scope) seen ≡ true
+        → (seenAfter (rule .scope) seen ≤ first → firstOf first rules < firstOf root rules)
+        → cond s 0 (suc (firstOf first rules)) < cond t 0 (suc (firstOf root rules))
+    go s true d e next more = absurd (omega (arith, reached seen root (rule .scope) next e))
     go true false d e next more = omega arith
-    go false false d e next more = omega (arith, more (passed known before (rule .scope) next d l))
+    go false false d e next more = omega (arith, more (passed seen first (rule .scope) next d l))
 
--- a lawful profile: each root has a rule, roots are numbered in order of first appearance, and no two have one name
+-- a lawful profile: none of its rules is one too many at its level, each root has a rule, roots are numbered in order of first appearance, and no two
+-- have one name
 module _ {p : Profile} (law : Lawful p) where
+  pub levels-most : Bounded (p .rules)
+  levels-most = ordered-bounded (length (p .roots)) [] 0 (p .rules) (law .in-order) bounded-none
+
   pub root-ruled : (root : ℕ) → root < length (p .roots) → firstOf root (p .rules) < length (p .rules)
-  root-ruled root h = ruled 0 (p .rules) (length (p .roots)) root (law .in-order) (omega arith) h
+  root-ruled root h = ruled (length (p .roots)) [] 0 (p .rules) root (law .in-order) (omega arith) h
 
   pub root-earlier : (before root : ℕ) → before < root → root < length (p .roots) → firstOf before (p .rules) < firstOf root (p .rules)
-  root-earlier before root b h = earlier 0 (p .rules) (length (p .roots)) before root (law .in-order) (omega arith) b h
+  root-earlier before root b h = earlier (length (p .roots)) [] 0 (p .rules) before root (law .in-order) (omega arith) b h
 
   pub root-differs : (r s : ℕ) → r < length (p .roots) → s < length (p .roots) → getD (p .roots) r 0 ≡ getD (p .roots) s 0 → r ≡ s
   root-differs r s h k e = sym (law .each-place r h) ∙ (ap (λ (name : ℕ). indexOf name (p .roots)) e ∙ law .each-place s k)

@@ -1,7 +1,5 @@
 mod Roots
 mod Memory
-pub mod Counts
-pub mod Covering
 mod Joined
 mod Said
 mod Admission

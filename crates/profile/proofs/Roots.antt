@@ -4,7 +4,7 @@ use mathlib.Core.Path.{_≡_, refl, ap, _∙_}
 use mathlib.Core.Bool.{Bool, true, false, cond}
 use mathlib.Core.List.{List, [], _∷_, _++_}
 use lib.ListN.{length, getD, length-append, List·getD-append}
-use lib.Dec.{eqb, ltb}
+use lib.Dec.{eqb}
 use borrow.Author.Tests.{eqb-true, eq-eqb, lt-ltb, le-ltb}
 use native.Mathlib.Decide.{decLt}
 use native.Mathlib.Omega.{arith}
@@ -14,7 +14,7 @@ use Rattle.profile.specs.Profile.{withRoot}
 use Rattle.profile.specs.Lawful.{IsNameNumber}
 
 -- a name that is there stands at its index
-pub index-at : (b : ℕ) (s : List ℕ) → indexOf b s < length s → getD s (indexOf b s) 0 ≡ b
+index-at : (b : ℕ) (s : List ℕ) → indexOf b s < length s → getD s (indexOf b s) 0 ≡ b
 unfolding indexOf
 index-at b [] h = absurd (omega arith)
 index-at b (x ∷ xs) h = go (eqb x b) refl (index-at b xs) h
@@ -24,7 +24,7 @@ index-at b (x ∷ xs) h = go (eqb x b) refl (index-at b xs) h
     go false e more k = more (omega arith)
 
 -- what follows a name does not move it, and a name that is not there comes after all
-pub index-found : (b : ℕ) (s t : List ℕ) → indexOf b s < length s → indexOf b (s ++ t) ≡ indexOf b s
+index-found : (b : ℕ) (s t : List ℕ) → indexOf b s < length s → indexOf b (s ++ t) ≡ indexOf b s
 unfolding indexOf
 index-found b [] t h = absurd (omega arith)
 index-found b (x ∷ xs) t h = go (eqb x b) (index-found b xs t) h
@@ -33,7 +33,7 @@ index-found b (x ∷ xs) t h = go (eqb x b) (index-found b xs t) h
     go true more k = refl
     go false more k = ap suc (more (omega arith))
 
-pub index-new : (b : ℕ) (s : List ℕ) → length s ≤ indexOf b s → indexOf b (s ++ (b ∷ [])) ≡ length s
+index-new : (b : ℕ) (s : List ℕ) → length s ≤ indexOf b s → indexOf b (s ++ (b ∷ [])) ≡ length s
 unfolding indexOf
 index-new b [] h = rw (eq-eqb b b refl)
 index-new b (x ∷ xs) h = go (eqb x b) (index-new b xs) h
@@ -43,11 +43,11 @@ index-new b (x ∷ xs) h = go (eqb x b) (index-new b xs) h
     go false more k = ap suc (more (omega arith))
 
 module _ (name : ℕ) (roots : List ℕ) where
-  pub with-old : indexOf name roots < length roots → withRoot name roots ≡ roots
+  with-old : indexOf name roots < length roots → withRoot name roots ≡ roots
   unfolding withRoot
   with-old h = rw (lt-ltb (indexOf name roots) (length roots) h)
 
-  pub with-new : length roots ≤ indexOf name roots → withRoot name roots ≡ roots ++ (name ∷ [])
+  with-new : length roots ≤ indexOf name roots → withRoot name roots ≡ roots ++ (name ∷ [])
   unfolding withRoot
   with-new h = rw (le-ltb (indexOf name roots) (length roots) h)
 
@@ -66,14 +66,25 @@ module _ (name : ℕ) (roots : List ℕ) where
       go (yes h) = rw (with-old h) (omega arith)
       go (no h) = rw (with-new (omega arith), length-append) (omega (arith, index-le name roots))
 
-  pub with-getD : (root : ℕ) → root < length roots → getD (withRoot name roots) root 0 ≡ getD roots root 0
+  -- the roots have grown by the name, or stayed as they were
+  pub with-kept : length (withRoot name roots) ≡ length roots → withRoot name roots ≡ roots
+  with-kept e = with-old (omega (arith, with-length))
+
+  pub with-grown : (length (withRoot name roots) ≡ length roots → ⊥) → withRoot name roots ≡ roots ++ (name ∷ [])
+  with-grown d = go (decLt (indexOf name roots) (length roots))
+    where
+      go : Dec (indexOf name roots < length roots) → withRoot name roots ≡ roots ++ (name ∷ [])
+      go (yes h) = absurd (d (ap length (with-old h)))
+      go (no h) = with-new (omega arith)
+
+  with-getD : (root : ℕ) → root < length roots → getD (withRoot name roots) root 0 ≡ getD roots root 0
   with-getD root k = go (decLt (indexOf name roots) (length roots))
     where
       go : Dec (indexOf name roots < length roots) → getD (withRoot name roots) root 0 ≡ getD roots root 0
       go (yes h) = rw (with-old h)
       go (no h) = rw (with-new (omega arith)) (List·getD-append roots (name ∷ []) 0 root k)
 
-  pub with-keeps : (other : ℕ) → indexOf other roots < length roots → indexOf other (withRoot name roots) ≡ indexOf other roots
+  with-keeps : (other : ℕ) → indexOf other roots < length roots → indexOf other (withRoot name roots) ≡ indexOf other roots
   with-keeps other k = go (decLt (indexOf name roots) (length roots))
     where
       go : Dec (indexOf name roots < length roots) → indexOf other (withRoot name roots) ≡ indexOf other roots
@@ -81,7 +92,7 @@ module _ (name : ℕ) (roots : List ℕ) where
       go (no h) = rw (with-new (omega arith)) (index-found other roots (name ∷ []) k)
 
   -- the name stands at its number
-  pub with-at : getD (withRoot name roots) (indexOf name roots) 0 ≡ name
+  with-at : getD (withRoot name roots) (indexOf name roots) 0 ≡ name
   with-at = rw with-index at (index-at name (withRoot name roots) (rw with-index (omega (arith, with-length))))
 
   -- a root is an old one, or the new name at its own index

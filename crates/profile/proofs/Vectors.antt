@@ -9,7 +9,8 @@ use Rattle.rules.specs.Rules.{covers}
 use Rattle.rules.specs.declared.Scope.the-variants.{EveryFill, WholeRoot, OneUnit}
 use Rattle.text.specs.Text.{bytes, all, onto, pieces, indexOf, made, numeral, numberOf, nameOf}
 use Rattle.line.specs.Line.{typeOf, isAbsolute, limitsOf, limitOf, kindOf, timeOf, letterOf, malformed, otherFirm, outOfRange, levelClash, unitClash, faultOf, scopeOf, ruleOf, lineOf}
-use Rattle.profile.specs.Profile.{withRoot, rootsWith, numbered, joined, howMany, isFirmRule, onUnit, crowded, tooMany, afterLine, readOn, outcomeOf, readingOf}
+use Rattle.admission.specs.Admission.{howMany, isFirmRule, onUnit, crowded}
+use Rattle.profile.specs.Profile.{withRoot, rootsWith, numbered, joined, tooMany, afterLine, readOn, outcomeOf, readingOf}
 use Rattle.profile.specs.declared.Reading.{Reading}
 use Rattle.profile.specs.declared.Reading.the-variants.{Accepted, Refused}
 

@@ -4,7 +4,6 @@ use mathlib.Core.Path.{_≡_, refl, sym, ap, _∙_}
 use mathlib.Core.Bool.{true, false}
 use mathlib.Core.List.{List, []}
 use lib.ListN.{length, getD, drop, replicate}
-use lib.Dec.{eqb}
 use borrow.Author.Tests.{ne-eqb}
 use native.Mathlib.Omega.{arith}
 use Rattle.measures.specs.Ranges.{_to_, isIn}
@@ -18,15 +17,17 @@ use Rattle.line.proofs.Laws.{any-line}
 use Rattle.tables.specs.Tables.{zeros, flat, table}
 use Rattle.line.specs.declared.Line.the-variants.{Is, Refused as Faulty}
 use Rattle.line.proofs.Laws.{line-refused}
-use Rattle.profile.specs.Profile.{joined, howMany, Outcome, afterLine, readOn, startOf, outcomeOf, readingOf, rootsTable, scanOf}
+use Rattle.admission.specs.Admission.{howMany}
+use Rattle.profile.specs.Profile.{joined, Outcome, afterLine, readOn, startOf, outcomeOf, readingOf, rootsTable, scanOf}
 use Rattle.machine.specs.State.{Profile}
-use Rattle.profile.specs.Held.{Stored, Held, Joins, Told, noTally}
+use Rattle.admission.specs.Counting.{noRules}
+use Rattle.profile.specs.Held.{Stored, Held, Joins, Told}
 use Rattle.profile.specs.declared.Reading.{Reading}
 use Rattle.profile.specs.declared.Reading.the-variants.{Accepted, Refused}
-use Rattle.profile.specs.declared.Tally.{Tally}
-use Rattle.profile.specs.declared.Admitted.{Admitted}
-use Rattle.profile.specs.declared.Admitted.the-variants.{With, TooMany}
-use Rattle.profile.proofs.Counts.{counted-none}
+use Rattle.admission.specs.declared.Tally.{Tally}
+use Rattle.admission.specs.declared.Admitted.{Admitted}
+use Rattle.admission.specs.declared.Admitted.the-variants.{With, TooMany}
+use Rattle.admission.proofs.Joining.{none-so-far}
 use Rattle.profile.proofs.Joined.{start-lawful, joined-length}
 
 -- a profile of the firm is held, and the lines from a place on lead from it to the outcome of the whole text
@@ -37,18 +38,17 @@ pub record Walk (text : List ℕ) (firm : ℕ) (tally : Tally) (at : ℕ) (roots
   pub reach : at ≤ length text + 1
   pub rest : readOn (startOf firm) 0 (lines text) ≡ readOn profile (tally .rules) (lines (drop at text))
 
-pub walk-start : (text : List ℕ) (firm : ℕ) {roots rules counts : List ℕ} → Held (startOf firm) noTally roots rules counts → Walk text firm noTally 0 roots rules counts
+pub walk-start : (text : List ℕ) (firm : ℕ) {roots rules counts : List ℕ} → Held (startOf firm) noRules roots rules counts → Walk text firm noRules 0 roots rules counts
 walk-start text firm held = record { profile = startOf firm; held = held; own = refl; reach = omega arith; rest = refl }
 
 -- nothing was read yet: all is 0
-pub start-held : (firm : ℕ) → Held (startOf firm) noTally (replicate 64 0) (replicate 512 0) (replicate 256 0)
+pub start-held : (firm : ℕ) → Held (startOf firm) noRules (replicate 64 0) (replicate 512 0) (replicate 64 0)
 unfolding howMany rootsTable table flat zeros
 start-held firm = record {
   lawful = start-lawful firm;
   stored = record { roots-in = refl; rules-in = refl };
-  rules-are = refl;
   roots-are = refl;
-  counted = counted-none;
+  so-far = none-so-far;
 }
 
 -- a text whose size is none for a profile, and one that was read by its lines
@@ -73,12 +73,12 @@ unfolding readingOf
 refused-told p k n least e stored = rw e (record { reading-is = rw (ne-eqb k 0 (λ z. omega arith)); stored = stored })
 
 module _ {text : List ℕ} {firm : ℕ} {tally : Tally} {at : ℕ} {roots rules counts : List ℕ} (w : Walk text firm tally at roots rules counts) where
-  pub walk-end : length text ≤ at → Told (readOn (startOf firm) 0 (lines text)) (Accepted firm (tally .rules) (tally .roots)) roots rules
+  pub walk-end : length text ≤ at → Told (readOn (startOf firm) 0 (lines text)) (Accepted firm (tally .rules) (tally .seen)) roots rules
   unfolding readOn readingOf pieces
   walk-end h =
       let p = w .profile in
       rw (w .rest, ended text at h)
-      (record { reading-is = λ i. Accepted (sym (w .own) i) (w .held .rules-are i) (w .held .roots-are i); stored = w .held .stored })
+      (record { reading-is = λ i. Accepted (sym (w .own) i) (w .held .so-far .rules-are i) (w .held .roots-are i); stored = w .held .stored })
 
   -- one line more, which begins at the place
   module _ {line : List ℕ} (h : at < length text) (is : line ≡ lineFrom text at) where
@@ -114,7 +114,7 @@ module _ {text : List ℕ} {firm : ℕ} {tally : Tally} {at : ℕ} {roots rules 
       unfolding afterLine Joins joined
       walk-next {next} b joins =
           let j = rw b at joins in
-          let more : next .rules ≡ tally .rules + 1 = omega (arith, j .1 .rules-are, w .held .rules-are, joined-length (w .profile) rule) in
+          let more : next .rules ≡ tally .rules + 1 = omega (arith, j .1 .so-far .rules-are, w .held .so-far .rules-are, joined-length (w .profile) rule) in
           record {
             profile = joined (w .profile) rule;
             held = j .1;

@@ -1,15 +1,15 @@
 -- A whole profile: line by line, each adds its rule, until one has a fault or is one too many. Assumes nothing.
 use Prim.Native.Nat.{ℕ, _+_}
-use mathlib.Core.Bool.{Bool, true, false, cond, _&&_, _||_}
+use mathlib.Core.Bool.{Bool, cond}
 use mathlib.Core.List.{List, [], _∷_, _++_}
 use lib.ListN.{length, getD}
 use lib.Dec.{eqb, ltb}
 use Rattle.measures.specs.Ranges.{_to_, isIn}
-use Rattle.rules.specs.Rules.{covers}
 use Rattle.rules.specs.declared.Scope.{Scope}
 use Rattle.rules.specs.declared.Scope.the-variants.{EveryFill, WholeRoot, OneUnit}
 use Rattle.rules.specs.declared.Rule.{Rule}
 use Rattle.machine.specs.State.{Profile}
+use Rattle.admission.specs.Admission.{overfull}
 use Rattle.text.specs.Text.{lines, indexOf}
 use Rattle.line.specs.Line.{firmIn, lineOf}
 use Rattle.line.specs.declared.Line.{Line}
@@ -46,36 +46,9 @@ joined p rule = record {
       ++ (record { scope = numbered (rootsWith (rule .scope) (p .roots)) (rule .scope); kind = rule .kind; limit = rule .limit } ∷ []);
 }
 
--- how many rules pass a test
-unfoldable pub howMany : (Rule → Bool) → List Rule → ℕ
-howMany test [] = 0
-howMany test (rule ∷ rules) = cond (test rule) 1 0 + howMany test rules
-
-unfoldable pub isFirmRule : Rule → Bool
-isFirmRule rule = isFirm (rule .scope)
-  where
-    isFirm : Scope → Bool
-    isFirm EveryFill = true
-    isFirm (WholeRoot root) = false
-    isFirm (OneUnit root unit) = false
-
--- a root rule that covers a unit of a root
-unfoldable pub onUnit : ℕ → ℕ → Rule → Bool
-onUnit root unit rule = cond (isFirmRule rule) false (covers (rule .scope) root unit)
-
--- more than 10 firm rules, or more than 6 root rules covering a unit that this scope covers
-unfoldable pub crowded : List Rule → Scope → Bool
-crowded rules EveryFill = ltb 10 (howMany isFirmRule rules)
-crowded rules (WholeRoot root) =
-    ltb 6 (howMany (onUnit root 0) rules) || ltb 6 (howMany (onUnit root 1) rules) || ltb 6 (howMany (onUnit root 2) rules)
-    || ltb 6 (howMany (onUnit root 3) rules)
-crowded rules (OneUnit root unit) = ltb 6 (howMany (onUnit root unit) rules)
-
 -- 11: with this rule there is one rule or root too many
 unfoldable pub tooMany : Profile → Rule → Bool
-tooMany p rule =
-    ltb 256 (length (joined p rule .rules)) || ltb 64 (length (joined p rule .roots))
-    || crowded (joined p rule .rules) (numbered (joined p rule .roots) (rule .scope))
+tooMany p rule = overfull (joined p rule .rules) (length (joined p rule .roots)) (numbered (joined p rule .roots) (rule .scope))
 
 -- how far a text was read: the profile of the lines before the first faulty one, that line's number from 1, and its refusal; 0 and 0 if none
 pub record Outcome : Type 0 where

@@ -15,7 +15,8 @@ use Rattle.machine.specs.State.{Profile, State, rulesIn, rootsIn}
 use Rattle.machine.proofs.Lists.{every-imp}
 use Rattle.machine.proofs.Totals.{isPaid, total-in}
 use Rattle.made.specs.Names.{isNameNumber}
-use Rattle.made.specs.Made.{areRoots, areInOrder, isMade}
+use Rattle.admission.specs.Admission.{areInOrder}
+use Rattle.made.specs.Made.{areRoots, isMade}
 use Rattle.made.proofs.Given.{given-made}
 use Rattle.output.proofs.ReadBack.{given-by-text}
 use Rattle.shapes.proofs.Exact.{and-i}

@@ -22,7 +22,8 @@ use Rattle.tables.specs.RulePlace.{ruleAt, isRulePlace, rulesShape}
 use Rattle.tables.specs.EntryPlace.{entryAt, isEntryPlace, logShape}
 use Rattle.tables.proofs.Shapes.{rules-read, rules-tested, log-read, log-tested}
 use Rattle.machine.specs.Entries.{areOrdered}
-use Rattle.made.specs.Made.{areRoots, areInOrder}
+use Rattle.admission.specs.Admission.{areInOrder}
+use Rattle.made.specs.Made.{areRoots}
 use Rattle.made.specs.Parts.{namesHold, placesHold, rootsHold, rulesHold, totalsHold}
 use Rattle.log.specs.Log.{entriesHold, logHolds}
 use Rattle.state.specs.State.{number, locksOf, locksShape, totalsShape, accountsOf}

@@ -18,7 +18,8 @@ use Rattle.tables.proofs.Shapes.{rules-exact, rules-read, log-exact}
 use Rattle.machine.specs.State.{cellsOf, Locks}
 use Rattle.machine.specs.Entries.{areOrdered}
 use Rattle.machine.proofs.Totals.{isPaid}
-use Rattle.made.specs.Made.{areRoots, areInOrder}
+use Rattle.admission.specs.Admission.{areInOrder}
+use Rattle.made.specs.Made.{areRoots}
 use Rattle.made.specs.Parts.{rootsHold, rulesOf, rulesHold, totalsHold}
 use Rattle.log.specs.Log.{logHolds}
 use Rattle.state.specs.State.{size, number, locksShape, totalsShape, accountsOf}

@@ -21,7 +21,8 @@ use Rattle.machine.specs.State.{State, cellsOf, rulesIn, rootsIn}
 use Rattle.machine.specs.Entries.{areOrdered}
 use Rattle.machine.proofs.Totals.{isPaid}
 use Rattle.made.specs.Names.{isNameNumber}
-use Rattle.made.specs.Made.{areRoots, areInOrder, isMade}
+use Rattle.admission.specs.Admission.{areInOrder}
+use Rattle.made.specs.Made.{areRoots, isMade}
 use Rattle.state.specs.State.{size, number, locksShape, totalsShape, accountsOf, decode}
 use Rattle.state.specs.Sound.{isSoundState, isSound}
 use Rattle.state.proofs.Exact.{number-exact}

@@ -19,7 +19,8 @@ use Rattle.machine.specs.State.{cellsOf}
 use Rattle.machine.specs.Entries.{areOrdered}
 use Rattle.machine.proofs.Totals.{isPaid}
 use Rattle.made.specs.Names.{isNameNumber}
-use Rattle.made.specs.Made.{areRoots, areInOrder}
+use Rattle.admission.specs.Admission.{areInOrder}
+use Rattle.made.specs.Made.{areRoots}
 use Rattle.made.specs.Parts.{rulesHold, totalsHold}
 use Rattle.log.specs.Log.{logHolds}
 use Rattle.state.specs.State.{size, number, locksShape, totalsShape, accountsOf}

@@ -1,7 +1,6 @@
 -- `made::are_rules` meets its contract: a count out of range decides, else the places do. Assumes nothing.
-use mathlib.Core.Path.{_≡_}
 use native.Mathlib.Omega.{arith}
-use lib.ListN.{length, length-drop, take, drop}
+use lib.ListN.{length-drop, drop}
 use lib.Seq.{length-take-le}
 use Rattle.made.proofs.Counts.{rules-out, rules-few, rules-in}
 use borrow.Author.Needs.{needs}

@@ -9,20 +9,19 @@ use lib.ListN.{length, drop}
 use Rattle.tables.specs.Tables.{allZero}
 use Rattle.tables.specs.RulePlace.{ruleAt, isRulePlace}
 use Rattle.tables.proofs.RulePlace.{rule-here, is-rule-here}
-use Rattle.made.specs.Counting.{spread}
 use Rattle.made.proofs.Places.{to-end}
-use Rattle.made.proofs.Order.{held-long, Gone, gone-start, gone-bad, gone-stop, gone-next, gone-end, place-rule}
+use Rattle.made.proofs.Order.{place-scope, Gone, gone-start, gone-bad, gone-stop, gone-next, gone-end}
 use Rattle.made.proofs.rules_hold.Statement.{statement}
 use Rattle.made.proofs.rules_hold.Tie as tie
 
 abbrev Inv-loop : tie.InvT-loop
-Inv-loop rules k n counts₀ tally₀ i₀ counts tally i = Gone n k rules i tally (spread counts)
+Inv-loop rules k n counts₀ tally₀ i₀ counts tally i = Gone n k rules i tally counts
 
 abbrev μ-loop : tie.MeasureT-loop
 μ-loop rules k n counts₀ tally₀ i₀ counts tally i = k - i
 
 loop-holds : tie.Need-loop-holds Inv-loop μ-loop
-loop-holds c = gone-start _ _ _
+loop-holds c = gone-start _ _ _ (c .before .pre .2) (c .before .pre .1)
 
 mul-at : tie.Need-mul-at Inv-loop μ-loop
 mul-at c = search needs
@@ -75,15 +74,15 @@ returns c =
 rule-of-requires : tie.Need-rule-of-requires Inv-loop μ-loop
 rule-of-requires c κs = search needs
 
-slice-aggregate-with-rule : tie.Need-slice-aggregate-with-rule Inv-loop μ-loop
-slice-aggregate-with-rule c = sym (held-long _ (c .before .before .before .before .before .before .before .loop .inv .held))
+slice-aggregate-admit : tie.Need-slice-aggregate-admit Inv-loop μ-loop
+slice-aggregate-admit c = sym (c .before .before .before .before .before .before .before .loop .inv .held .long)
 
-with-rule-requires : tie.Need-with-rule-requires Inv-loop μ-loop
-with-rule-requires c κs =
+admit-requires : tie.Need-admit-requires Inv-loop μ-loop
+admit-requires c κs =
     let e = c .before .before in
     let t = at-test (e .before) in
     let accepted = tested (e .before) ∙ not-false _ (e .if1 .left) in
-    ((_, t .before .loop .inv .held), rw (read (c .before)) (place-rule _ _ (t .before .before .before .pre .2) accepted))
+    ((_, t .before .loop .inv .held), (t .before .before .before .args .n, rw (read (c .before)) (place-scope _ _ accepted)))
 
 enum-told : tie.Need-enum-told Inv-loop μ-loop
 enum-told c = search needs
@@ -92,9 +91,11 @@ returns-2 : tie.Need-returns-2 Inv-loop μ-loop
 returns-2 c =
     let w = c .before .before .before in
     let r = w .before .before in
-    let t = at-test (r .before .before) in
+    let e = r .before in
+    let t = at-test (e .before) in
     let gone = t .before .loop .inv in
-    gone-stop gone (t .loop-test .taken) (read r) _ (rw (c .enum-told .given .1) at (w .with-rule .ensures _ (gone .held)))
+    gone-stop gone (t .loop-test .taken) (tested (e .before) ∙ not-false _ (e .if1 .left)) (read r) _
+    (rw (c .enum-told .given .1) at (w .admit .ensures _ (gone .held)))
 
 enum-known-next : tie.Need-enum-known-next Inv-loop μ-loop
 enum-known-next c = search needs
@@ -112,8 +113,8 @@ loop-again c =
     let e = r .before in
     let t = at-test (e .before) in
     let gone = t .before .loop .inv in
-    gone-next gone (t .loop-test .taken) (read r) _ (tested (e .before) ∙ not-false _ (e .if1 .left))
-    (rw (c .before .next .given .1) at (w .with-rule .ensures _ (gone .held)))
+    gone-next gone (t .loop-test .taken) (tested (e .before) ∙ not-false _ (e .if1 .left)) (read r) _
+    (rw (c .before .next .given .1) at (w .admit .ensures _ (gone .held)))
 
 mul-is-zero : tie.Need-mul-is-zero Inv-loop μ-loop
 mul-is-zero c = search needs
@@ -155,8 +156,8 @@ rules-hold-spec =
     is-rule-requires
     returns
     rule-of-requires
-    slice-aggregate-with-rule
-    with-rule-requires
+    slice-aggregate-admit
+    admit-requires
     enum-told
     returns-2
     enum-known-next

@@ -1,5 +1,5 @@
 -- `profile::read` meets its contract: the firm is that of the first line, and the arrays start with zeros. Assumes nothing.
-use mathlib.Core.Path.{sym, _∙_}
+use mathlib.Core.Path.{_∙_}
 use borrow.Author.Needs.{needs}
 use borrow.Author.Tests.{leb-true, not-true, not-false}
 use lib.ListN.{length}

@@ -22,7 +22,7 @@ abbrev taken : tie.After-slice-known6 Inv-loop μ-loop → tie.After-rule Inv-lo
 taken c = c .before .before .before .before .before .before .before .before .before .before .before
 
 abbrev found : tie.After-rule Inv-loop μ-loop → tie.After-line-from Inv-loop μ-loop
-found c = c .before .before .before
+found c = c .before .before .before .before
 
 abbrev begun : tie.After-line-from Inv-loop μ-loop → tie.Start Inv-loop μ-loop
 begun c = c .before .before .before .before .before .before .before
@@ -45,7 +45,7 @@ add-end : tie.Need-add-end Inv-loop μ-loop
 add-end c = omega (arith, inside c)
 
 add-number : tie.Need-add-number Inv-loop μ-loop
-add-number c = let held = c .before .before .loop .inv .held in omega (arith, held .rules-are, held .lawful .rules-most)
+add-number c = let held = c .before .before .before .loop .inv .held in omega (arith, held .so-far .rules-are, held .lawful .rules-most)
 
 read-line-requires : tie.Need-read-line-requires Inv-loop μ-loop
 read-line-requires c κs = search needs
@@ -55,12 +55,12 @@ enum-known-fault c = search needs
 
 same-length : tie.Need-same-length Inv-loop μ-loop
 same-length c =
-    let f = c .before .before .before .before in
+    let f = c .before .before .before .before .before in
     omega (arith, roots-long (f .before .before .loop .inv .held), roots-long (begun f .pre .1))
 
 same-length-2 : tie.Need-same-length-2 Inv-loop μ-loop
 same-length-2 c =
-    let f = c .before .before .before .before in
+    let f = c .before .before .before .before .before in
     omega (arith, rules-long (f .before .before .loop .inv .held), rules-long (begun f .pre .1))
 
 same-length-3 : tie.Need-same-length-3 Inv-loop μ-loop
@@ -68,14 +68,14 @@ same-length-3 c = search needs
 
 returns : tie.Need-returns Inv-loop μ-loop
 returns c =
-    let f = c .before .before .before .before in
+    let f = c .before .before .before .before .before in
     walk-fault (f .before .before .loop .inv) (f .before .loop-test .taken) (f .line-from .ensures) (short f ∙ (sym (c .before .before .before .read-line .ensures) ∙ c .before .fault .given .1))
 
 enum-known-rule : tie.Need-enum-known-rule Inv-loop μ-loop
 enum-known-rule c = search needs
 
-admit-requires : tie.Need-admit-requires Inv-loop μ-loop
-admit-requires c κs =
+take-in-requires : tie.Need-take-in-requires Inv-loop μ-loop
+take-in-requires c κs =
     let r = c .before .before .before .before in
     let w = found r .before .before .loop .inv in
     ((w .profile, w .held), said _ _ (short (found r) ∙ (sym (r .before .before .read-line .ensures) ∙ r .rule .given .1)))
@@ -96,7 +96,7 @@ same-length-5 c =
 same-length-6 : tie.Need-same-length-6 Inv-loop μ-loop
 same-length-6 c =
     let f = found (taken (c .before .before)) in
-    omega (arith, f .before .before .loop .inv .held .counted .long, begun f .pre .1 .counted .long)
+    omega (arith, f .before .before .loop .inv .held .so-far .long, begun f .pre .1 .so-far .long)
 
 returns-2 : tie.Need-returns-2 Inv-loop μ-loop
 returns-2 c =
@@ -105,13 +105,13 @@ returns-2 c =
     let f = found r in
     let w = f .before .before .loop .inv in
     walk-many w (f .before .loop-test .taken) (f .line-from .ensures) (short (found r) ∙ (sym (r .before .before .read-line .ensures) ∙ r .rule .given .1)) _
-    (c .enum-told .given .1) (a .before .before .before .before .before .before .admit .ensures (w .profile) (w .held))
+    (c .enum-told .given .1) (a .before .before .before .before .before .before .take-in .ensures (w .profile) (w .held))
 
 enum-known-next : tie.Need-enum-known-next Inv-loop μ-loop
 enum-known-next c = search needs
 
 add-at : tie.Need-add-at Inv-loop μ-loop
-add-at c = omega (arith, inside (found (taken (c .before .before .before))))
+add-at c = let f = found (taken (c .before .before .before)) in omega (arith, inside f, begun f .pre .0)
 
 loop-less : tie.Need-loop-less Inv-loop μ-loop
 loop-less c = let f = found (taken (c .before .before .before)) in omega (arith, f .before .loop-test .taken)
@@ -123,7 +123,7 @@ loop-again c =
     let f = found r in
     let w = f .before .before .loop .inv in
     walk-next w (f .before .loop-test .taken) (f .line-from .ensures) (short (found r) ∙ (sym (r .before .before .read-line .ensures) ∙ r .rule .given .1)) _
-    (c .before .next .given .1) (a .before .before .before .before .before .before .admit .ensures (w .profile) (w .held))
+    (c .before .next .given .1) (a .before .before .before .before .before .before .take-in .ensures (w .profile) (w .held))
 
 same-length-7 : tie.Need-same-length-7 Inv-loop μ-loop
 same-length-7 c = omega (arith, roots-long (c .before .loop .inv .held), roots-long (c .before .before .before .before .before .before .pre .1))
@@ -154,7 +154,7 @@ read-lines-spec =
     same-length-3
     returns
     enum-known-rule
-    admit-requires
+    take-in-requires
     enum-told
     same-length-4
     same-length-5

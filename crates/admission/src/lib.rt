@@ -1,0 +1,102 @@
+// One rule more in a profile: whether it may join those before it, and how many there are with it.
+ghost use mathlib.Core.Path.{_≡_};
+ghost use mathlib.Core.List.{List};
+ghost use Prim.Native.Nat.{ℕ, _+_, _<_, max};
+ghost use Rattle.rules.specs.declared.Rule.{Rule};
+ghost use Rattle.admission.specs.Counting.{SoFar, Holds, Follows, Numbered, RootIs, overIn, coveredIn};
+use rules::Rule;
+use rules::Scope;
+
+// How many rules there are, how many roots have appeared in them, and how many are firm rules.
+pub struct Tally {
+    pub rules: u64,
+    pub seen: u64,
+    pub firms: u64,
+}
+
+// A rule after those before it: with it there are so many, or it is one too many or its root is not the next.
+pub enum Admitted {
+    With(Tally),
+    TooMany,
+}
+
+// How many roots have appeared with this one.
+fn seen_with(seen: u64, root: u64) -> u64
+    requires { ⌜ root < 64 ⌝ }
+    ensures { λ r. ⌜ r ≡ max seen (root + 1) ⌝ }
+{
+    if root < seen { seen } else { root + 1 }
+}
+
+// What a rule adds to the counts of its root's four units, which stand in one number, a byte each: 1 in every byte, or in that of its unit.
+fn covered(scope: Scope) -> u64
+    requires { ⌜ Numbered scope ⌝ }
+    ensures { λ r. ⌜ ((root : ℕ) → RootIs root scope → r ≡ coveredIn scope root) ⌝ }
+{
+    match scope {
+        Scope::EveryFill => 0,
+        Scope::WholeRoot(_) => 0x0101_0101,
+        Scope::OneUnit(_, unit) => 1u64 << (unit * 8),
+    }
+}
+
+// Whether one of the four counts in a number is above 6.
+fn is_over(w: u64) -> bool
+    ensures { λ r. ⌜ r ≡ overIn w ⌝ }
+{
+    (6 < w % 256) | (6 < w / 256 % 256) | (6 < w / 65_536 % 256) | (6 < w / 16_777_216)
+}
+
+// Counts a rule of a root, unless that root is neither one that has appeared nor the next, or the 65th, or a unit then has 7 rules.
+fn admit_root(rule: Rule, root: u64, tally: Tally, counts: &mut [u64]) -> Admitted
+    requires { ⌜ Holds tally (now counts) × (tally .rules < 256) × Numbered (rule .scope) × RootIs root (rule .scope) ⌝ }
+    ensures { λ r. ⌜ ((before : List Rule) → SoFar before tally (now (counts .entry)) → Follows before tally rule r (now (counts .entry)) (now (counts .exit))) ⌝ }
+{
+    let seen = tally.seen;
+    if seen < root {
+        return Admitted::TooMany;
+    }
+    if 64 <= root {
+        return Admitted::TooMany;
+    }
+    let scope = rule.scope;
+    let more = covered(scope);
+    let at = root as usize;
+    let all = counts[at] + more;
+    if is_over(all) {
+        return Admitted::TooMany;
+    }
+    counts[at] = all;
+    let rules = tally.rules + 1;
+    Admitted::With(Tally {
+        rules,
+        seen: seen_with(seen, root),
+        firms: tally.firms,
+    })
+}
+
+// Counts a rule, unless it is one too many or its root is neither one that has appeared nor the next.
+pub fn admit(rule: Rule, tally: Tally, counts: &mut [u64]) -> Admitted
+    requires { ⌜ Holds tally (now counts) × Numbered (rule .scope) ⌝ }
+    ensures { λ r. ⌜ ((before : List Rule) → SoFar before tally (now (counts .entry)) → Follows before tally rule r (now (counts .entry)) (now (counts .exit))) ⌝ }
+{
+    if 256 <= tally.rules {
+        return Admitted::TooMany;
+    }
+    let scope = rule.scope;
+    match scope {
+        Scope::EveryFill => {
+            if 10 <= tally.firms {
+                return Admitted::TooMany;
+            }
+            let rules = tally.rules + 1;
+            let firms = tally.firms + 1;
+            Admitted::With(Tally {
+                rules,
+                seen: tally.seen,
+                firms,
+            })
+        }
+        Scope::WholeRoot(root) | Scope::OneUnit(root, _) => admit_root(rule, root, tally, counts),
+    }
+}
