@@ -203,7 +203,7 @@ fn is_priced(o: Offer) -> bool
     is_premium(o.premium) & is_offer(o.contracts)
 }
 
-// Whether the log's places hold entries inside the longest window, all of them: in order of time that is so if the oldest is.
+// Whether the log has a rate rule to serve and no place: all its entries are inside the longest window.
 fn is_full(m: &[u64], o: Offer) -> bool
     requires { ⌜ Laid (now m) × (areOrdered 0 (o .time) (decode (now m) .log) ≡ true) ⌝ }
     ensures { λ r. ⌜ r ≡ isFull (decode (now (m .entry))) o ⌝ }

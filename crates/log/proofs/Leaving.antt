@@ -1,77 +1,64 @@
--- The entries that are no longer inside a window, in order of time: those before a place. Assumes nothing.
-use Prim.Native.Nat.{ℕ, zero, suc, _+_, _*_, _-_, _≤_, _<_, zero-le}
+-- The entries inside a window, in order of time: the last ones, which go to the front. Assumes nothing.
+use Prim.Native.Nat.{ℕ, _+_, _*_, _-_, _≤_, _<_}
 use mathlib.Core.Path.{_≡_, refl, sym, ap, _∙_}
-use mathlib.Core.Bool.{Bool, true, false, cond, _&&_}
+use mathlib.Core.Bool.{true}
 use mathlib.Core.List.{List, [], _∷_, _++_, append-assoc}
-use native.Mathlib.Nat.{sub-zero, zero-mul}
 use native.Mathlib.Numerals.{add-one}
 use native.Mathlib.Omega.{arith}
 use lib.ListN.{length, getD, take, drop, set, length-append, length-drop, take-append-drop}
-use lib.Seq.{drop-drop, take-at, drop-at, take-suc, length-take-le, getD-append-add, getD-drop}
-use lib.Dec.{leb, ltb}
-use borrow.Author.Tests.{ltb-true}
+use lib.Seq.{take-at, drop-at, take-suc, length-take-le, getD-append-add, getD-drop}
 use Rattle.laws.specs.Tests.{and-l, and-r}
-use Rattle.tables.specs.Tables.{zeros, flat, table, places}
-use Rattle.tables.specs.EntryPlace.{entryAt, entryNumbers, logTable}
+use Rattle.tables.specs.Tables.{zeros, flat, table}
+use Rattle.tables.specs.EntryPlace.{entryNumbers}
 use Rattle.machine.specs.declared.Entry.{Entry}
-use Rattle.machine.specs.Entries.{areOrdered, isRecent, recent}
-use Rattle.laws.specs.Folds.{keep}
-use Rattle.tables.proofs.Tables.{length-flat, length-places, places-on}
-use Rattle.log.specs.Log.{Held, entriesOf, Kept}
-use Rattle.log.proofs.Logs.{codec, held-table}
-use Rattle.log.proofs.Turns.{flat-append, ordered-kept, all-kept, more}
+use Rattle.rules.specs.Rules.{counts}
+use Rattle.rules.specs.declared.Kind.{Kind}
+use Rattle.rules.specs.declared.Kind.the-variants.{Rate}
+use Rattle.machine.specs.Entries.{isEntry, areOrdered, recent}
+use Rattle.laws.specs.Folds.{every, keep}
+use Rattle.tables.proofs.Tables.{length-flat, length-places}
+use Rattle.tables.proofs.EntryPlace.{entry-ranged}
+use Rattle.log.specs.Log.{Held, entriesOf, Last, Kept}
+use Rattle.log.specs.Newest.{isSince, newest, lookedAt}
+use Rattle.log.specs.Sieve.{firstTime}
+use Rattle.log.proofs.Logs.{codec, held-valid, held-table}
+use Rattle.log.proofs.Newest.{newest-many, newest-kept, few-looked-at}
+use Rattle.log.proofs.Sifting.{still-counts}
+use Rattle.log.proofs.Turns.{flat-append, keep-most, all-kept, more}
 
--- the entries from place i on
-abbrev entriesFrom : ℕ → List ℕ → ℕ → List Entry
-entriesFrom k xs i = places 2 entryAt (k - i) (drop (i * 2) xs)
+-- the entries that still count for a kind at a time are those that are not before the first time that does
+counts-since : (kind : Kind) (time : ℕ) (es : List Entry) → every (isEntry 64) es ≡ true → keep (λ e. counts kind (e .time) time) es ≡ keep (isSince (firstTime kind time)) es
+unfolding keep every
+counts-since kind time [] v = refl
+counts-since kind time (e ∷ es) v =
+    let here = entry-ranged 64 e (and-l (isEntry 64 e) (every (isEntry 64) es) v) .time in
+    rw (still-counts kind (e .time) time here, counts-since kind time es (and-r (isEntry 64 e) (every (isEntry 64) es) v))
 
-from-next : (k : ℕ) (xs : List ℕ) (i : ℕ) → i < k → entriesFrom k xs i ≡ drop i (entriesOf k xs) → entriesFrom k xs (i + 1) ≡ drop (i + 1) (entriesOf k xs)
-from-next k xs i h e = ap (drop 1) (sym (places-on 2 k i xs h entryAt)) ∙ ap (drop 1) e ∙ drop-drop 1 i (entriesOf k xs)
+-- a reading for a kind looks at no more entries than those that still count, which are those inside its window, and one
+pub few-for-kind : (kind : Kind) (time k : ℕ) (xs : List ℕ) → Held k xs → areOrdered 0 time (entriesOf k xs) ≡ true
+    → lookedAt (firstTime kind time) (entriesOf k xs) ≤ length (keep (λ e. counts kind (e .time) time) (entriesOf k xs)) + 1
+few-for-kind kind time k xs held ordered =
+    omega (arith, few-looked-at (firstTime kind time) 0 time (entriesOf k xs) ordered, ap length (counts-since kind time (entriesOf k xs) (held-valid held)))
 
-from-drop : (k : ℕ) (xs : List ℕ) (i : ℕ) → i ≤ k → entriesFrom k xs i ≡ drop i (entriesOf k xs)
-from-drop k xs zero h = rw (sub-zero k)
-from-drop k xs (suc i) h =
-    ap (λ (n : ℕ). entriesFrom k xs n) (sym (add-one i)) ∙ from-next k xs i (omega arith) (from-drop k xs i (omega arith))
-    ∙ ap (λ (n : ℕ). drop n (entriesOf k xs)) (add-one i)
+-- in order of time those inside a window are the last ones
+module _ (window time k : ℕ) (xs : List ℕ) (held : Held k xs) (ordered : areOrdered 0 time (entriesOf k xs) ≡ true) where
+  abbrev first : ℕ
+  first = firstTime (Rate window) time
 
--- the entries before place i are not inside the window
-pub record Old (window time k : ℕ) (xs : List ℕ) (i : ℕ) : Type 0 where
-  pub reach : i ≤ k
-  pub from : ℕ
-  pub ordered : areOrdered from time (entriesFrom k xs i) ≡ true
-  pub same : recent window time (entriesOf k xs) ≡ recent window time (entriesFrom k xs i)
+  recent-since : recent window time (entriesOf k xs) ≡ keep (isSince first) (entriesOf k xs)
+  unfolding recent counts
+  recent-since = counts-since (Rate window) time (entriesOf k xs) (held-valid held)
 
-pub old-start : {window time k : ℕ} {xs : List ℕ} → areOrdered 0 time (entriesOf k xs) ≡ true → Old window time k xs 0
-old-start {window} {time} {k} {xs} o =
-    let e = sym (from-drop k xs 0 zero-le) in
-    record { reach = zero-le; from = 0; ordered = rw e at o; same = ap (recent window time) e }
-
-module _ {window time k : ℕ} {xs : List ℕ} {i : ℕ} (old : Old window time k xs i) where
-  module _ (more : i < k) {e : Entry} (is : e ≡ entryAt (drop (i * 2) xs)) where
-    abbrev rest : List Entry
-    rest = entriesFrom k xs (i + 1)
-
-    next : entriesFrom k xs i ≡ e ∷ rest
-    next = places-on 2 k i xs more entryAt ∙ ap (λ (a : Entry). a ∷ rest) (sym is)
-
-    later : areOrdered (e .time) time rest ≡ true
-    unfolding areOrdered
-    later = and-r (leb (old .from) (e .time) && leb (e .time) time) (areOrdered (e .time) time rest) (rw next at (old .ordered))
-
-    pub old-on : isRecent window time e ≡ false → Old window time k xs (i + 1)
-    unfolding recent keep
-    old-on t = record { reach = omega arith; from = e .time; ordered = later; same = old .same ∙ rw (next, t) }
-
-    pub old-found : isRecent window time e ≡ true → recent window time (entriesOf k xs) ≡ drop i (entriesOf k xs)
-    unfolding recent keep
-    old-found t =
-        old .same ∙ ap (recent window time) next
-        ∙ rw t (ap (λ (l : List Entry). e ∷ l) (ordered-kept window time (e .time) time rest (ltb-true time (e .time + window) t) later))
-        ∙ sym next ∙ from-drop k xs i (old .reach)
-
-  pub old-end : k ≤ i → recent window time (entriesOf k xs) ≡ drop i (entriesOf k xs)
-  unfolding recent keep places
-  old-end h = let z : k - i ≡ 0 = omega arith in old .same ∙ rw z (rw z at (from-drop k xs i (old .reach)))
+  pub inside-last : {r : ℕ} → r ≡ length (newest first (entriesOf k xs)) → Last window time k xs r
+  inside-last {r} is =
+      let es = entriesOf k xs in
+      let long = length-places codec k xs in
+      let many = newest-many first 0 time es ordered in
+      record {
+        count = is ∙ many ∙ ap length (sym recent-since);
+        most = omega (arith, is, many, keep-most (isSince first) es, long);
+        last = recent-since ∙ newest-kept first 0 time es ordered ∙ (λ j. drop (long j - sym is j) es);
+      }
 
 -- the entries that stay, moved to the front
 flat-drop : (es : List Entry) (d : ℕ) (zs : List ℕ) → d ≤ length es → drop (d * 2) (flat entryNumbers es ++ zs) ≡ flat entryNumbers (drop d es) ++ zs
@@ -82,38 +69,37 @@ flat-drop es d zs h =
     ∙ drop-at (flat entryNumbers (take d es)) (flat entryNumbers (drop d es) ++ zs) (d * 2)
     (length-flat codec (take d es) ∙ ap (λ (n : ℕ). n * 2) (length-take-le d es h))
 
-module _ (window time k : ℕ) (xs : List ℕ) (held : Held k xs) (d : ℕ) (within : d ≤ k) (same : recent window time (entriesOf k xs) ≡ drop d (entriesOf k xs)) where
+module _ {window time k : ℕ} {xs : List ℕ} (held : Held k xs) {r : ℕ} (inside : Last window time k xs r) where
   abbrev es : List Entry
   es = entriesOf k xs
 
   long : length es ≡ k
   long = length-places codec k xs
 
-  pub gone-count : k - d ≡ length (recent window time es)
-  gone-count = sym (ap length same ∙ length-drop d es ∙ ap (λ (n : ℕ). n - d) long)
+  pub all-inside : r ≡ k → Kept window time k xs xs k
+  all-inside all =
+      let none : k - r ≡ 0 = omega arith in
+      all-kept held (inside .last ∙ ap (λ (n : ℕ). drop n es) none)
 
-  pub none-gone : d ≡ 0 → Kept window time k xs xs k
-  none-gone z = all-kept held (rw z at same)
-
-  pub kept-moved : {ys : List ℕ} → ys ≡ take ((k - d) * 2) (drop (d * 2) xs) ++ drop ((k - d) * 2) xs → Kept window time k xs ys (k - d)
+  pub kept-moved : {ys : List ℕ} → ys ≡ take (r * 2) (drop ((k - r) * 2) xs) ++ drop (r * 2) xs → Kept window time k xs ys r
   unfolding table
   kept-moved {ys} e =
-      let n = (k - d) * 2 in
+      let n = r * 2 in
+      let gone = k - r in
       let zs = zeros (512 * 2 - length es * 2) in
-      let kept = flat entryNumbers (drop d es) in
+      let kept = flat entryNumbers (drop gone es) in
       let is : xs ≡ flat entryNumbers es ++ zs = held-table held in
-      let front : drop (d * 2) xs ≡ kept ++ zs = ap (drop (d * 2)) is ∙ flat-drop es d zs (omega (arith, long)) in
-      let back : drop n xs ≡ flat entryNumbers (drop (k - d) es) ++ zs = ap (drop n) is ∙ flat-drop es (k - d) zs (omega (arith, long)) in
-      let size : length kept ≡ n = length-flat codec (drop d es) ∙ omega (arith, length-drop d es, long) in
-      let all : length (drop d es ++ drop (k - d) es) ≡ length es =
-      length-append (drop d es) (drop (k - d) es) ∙ omega (arith, length-drop d es, length-drop (k - d) es, long) in
+      let front : drop (gone * 2) xs ≡ kept ++ zs = ap (drop (gone * 2)) is ∙ flat-drop es gone zs (omega (arith, long)) in
+      let back : drop n xs ≡ flat entryNumbers (drop r es) ++ zs = ap (drop n) is ∙ flat-drop es r zs (omega (arith, inside .most, long)) in
+      let size : length kept ≡ n = length-flat codec (drop gone es) ∙ omega (arith, length-drop gone es, inside .most, long) in
+      let all : length (drop gone es ++ drop r es) ≡ length es = length-append (drop gone es) (drop r es) ∙ omega (arith, length-drop gone es, length-drop r es, inside .most, long) in
       record {
-        count = gone-count;
-        most = omega arith;
+        count = inside .count;
+        most = inside .most;
         log =
-            e ∙ rw (front, back, take-at kept zs n size, same, all)
-            (sym (append-assoc kept (flat entryNumbers (drop (k - d) es)) zs)
-            ∙ ap (λ (l : List ℕ). l ++ zs) (sym (flat-append (drop d es) (drop (k - d) es))));
+            e ∙ rw (front, back, take-at kept zs n size, inside .last, all)
+            (sym (append-assoc kept (flat entryNumbers (drop r es)) zs)
+            ∙ ap (λ (l : List ℕ). l ++ zs) (sym (flat-append (drop gone es) (drop r es))));
       }
 
 -- numbers moved to the front, one after the other

@@ -5,4 +5,5 @@ pub mod Sifting
 pub mod Flags
 pub mod Turns
 pub mod Memos
+pub mod Newest
 pub mod Leaving

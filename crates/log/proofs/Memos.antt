@@ -1,46 +1,53 @@
 -- Memos: none, one of a sieve, and one that serves a rule. Assumes nothing.
-use Prim.Native.Nat.{ℕ, _+_, _*_, _≤_, _<_}
-use mathlib.Core.Path.{_≡_, refl, sym, ap, _∙_}
-use mathlib.Core.Bool.{Bool, true, false, cond, _&&_}
+use Prim.Native.Nat.{ℕ, _+_, _*_, _-_, _≤_, _<_}
+use mathlib.Core.Path.{_≡_, refl, sym, ap, _∙_, subst}
+use mathlib.Core.Bool.{Bool, true, false, cond, _&&_, and-false}
 use mathlib.Core.List.{List, [], _∷_}
+use native.Mathlib.Nat.{mul-zero}
 use native.Mathlib.Omega.{arith}
 use lib.Bits.{bitAnd, and-le-r}
 use lib.Dec.{eqb}
 use lib.ListN.{getD, drop}
 use borrow.Author.Tests.{eqb-true, ne-eqb, eq-eqb}
 use Rattle.laws.specs.Tests.{and-l, and-r}
-use Rattle.bits.specs.Fields.{unpacked, total}
-use Rattle.measures.specs.declared.Dollars.{Dollars}
-use Rattle.measures.specs.declared.Contracts.{Contracts}
-use Rattle.measures.specs.declared.Executions.{Executions}
 use Rattle.rules.specs.Rules.{added, executions}
 use Rattle.rules.specs.declared.Limit.{Limit}
 use Rattle.rules.specs.declared.Limit.the-variants.{Notional, Volume, Count}
 use Rattle.rules.specs.declared.Rule.{Rule}
 use Rattle.rules.specs.Valid.{isRule}
 use Rattle.machine.specs.declared.Entry.{Entry}
-use Rattle.machine.specs.Entries.{entryShare}
+use Rattle.machine.specs.Entries.{areOrdered, entryShare}
 use Rattle.laws.specs.Folds.{sumOf}
-use Rattle.tables.specs.EntryPlace.{entryAt, entryOf}
+use Rattle.tables.specs.EntryPlace.{entryAt}
 use Rattle.tables.proofs.EntryPlace.{entry-here, entry-ranged}
 use Rattle.log.proofs.Logs.{held-entry}
-use Rattle.log.specs.declared.Sieve.{Sieve}
+use Rattle.log.specs.declared.sieves.Sieve.{Sieve}
 use Rattle.log.specs.declared.Memo.{Memo}
-use Rattle.log.specs.declared.Two.{Two}
 use Rattle.log.specs.Log.{Held, entriesOf}
-use Rattle.log.specs.Sieve.{sieveOf, passes, fillNumber, sifted}
-use Rattle.log.specs.Memo.{sumIn, sieveFor, isFor, noMemo, Right, RightTwo, sievedIn}
-use Rattle.log.proofs.Sifting.{sieve-counts, held-fill, sifted-most}
-use Rattle.log.proofs.Sums.{Summed, summed-more, summed-most}
+use Rattle.log.specs.Newest.{isSince, newest}
+use Rattle.log.specs.Sieve.{sieveOf, isWanted, passes, fillNumber, sifted}
+use Rattle.log.specs.Memo.{sumIn, sieveFor, isFor, memoFor, noMemo, Right}
+use Rattle.log.proofs.Newest.{newest-sum}
+use Rattle.log.proofs.Sifting.{sieve-counts, held-fill, place-since, sifted-most}
+use Rattle.log.proofs.Sums.{Summed, summed-more, picked-most}
 
-none-pass : (fill : ℕ) → passes (sieveFor noMemo) fill ≡ false
+abbrev pub inDollars : Limit
+inDollars = Notional (record { 0 = 0 })
+
+abbrev pub inContracts : Limit
+inContracts = Volume (record { 0 = 0 })
+
+abbrev pub inExecutions : Limit
+inExecutions = Count (record { 0 = 0 })
+
+none-pass : (e : Entry) → passes (sieveFor noMemo) e ≡ false
 unfolding passes noMemo
-none-pass fill = rw (ne-eqb (bitAnd fill 0) 1 (λ e. absurd (omega (arith, and-le-r fill 0))))
+none-pass e = let fill = fillNumber e in rw (ne-eqb (bitAnd fill 0) 1 (λ h. absurd (omega (arith, and-le-r fill 0))))
 
 none-sum : (limit : Limit) (es : List Entry) → 0 ≡ sumOf (sifted limit (sieveFor noMemo)) es
 unfolding sumOf sifted noMemo
 none-sum limit [] = refl
-none-sum limit (e ∷ es) = rw (none-pass (fillNumber e)) (omega (arith, none-sum limit es))
+none-sum limit (e ∷ es) = rw (none-pass e) (omega (arith, none-sum limit es))
 
 pub none-right : (es : List Entry) → Right es noMemo
 unfolding Right noMemo
@@ -48,15 +55,41 @@ none-right es (Notional l) = none-sum (Notional l) es
 none-right es (Volume l) = none-sum (Volume l) es
 none-right es (Count l) = none-sum (Count l) es
 
--- the three sums of a sieve
-pub three-right : (es : List Entry) (m : Memo)
-    → m .notional .0 ≡ sumOf (sifted (Notional (record { 0 = 0 })) (sieveFor m)) es
-    → m .volume .0 ≡ sumOf (sifted (Volume (record { 0 = 0 })) (sieveFor m)) es
-    → m .count .0 ≡ sumOf (sifted (Count (record { 0 = 0 })) (sieveFor m)) es → Right es m
-unfolding Right sifted added
-three-right es m n v c (Notional l) = n
-three-right es m n v c (Volume l) = v
-three-right es m n v c (Count l) = c
+-- an entry before a sieve's time counts nothing
+sifted-none : (limit : Limit) (s : Sieve) (e : Entry) → isSince (s .from) e ≡ false → sifted limit s e ≡ 0
+unfolding sifted passes
+sifted-none limit s e before = rw (before, and-false (isWanted s (fillNumber e)))
+
+-- the memo of a sieve says what all entries count, and is that of the sieve
+memo-right : (s : Sieve) (es : List Entry) → Right es (memoFor s es)
+unfolding Right memoFor sifted added
+memo-right s es (Notional l) = refl
+memo-right s es (Volume l) = refl
+memo-right s es (Count l) = refl
+
+memo-for : (s : Sieve) (es : List Entry) → isFor s (memoFor s es) ≡ true
+unfolding memoFor
+memo-for s es = rw (eq-eqb (s .mask) (s .mask) refl, eq-eqb (s .want) (s .want) refl, eq-eqb (s .from) (s .from) refl)
+
+-- in order of time the memo of those that a reading passes is that of all entries
+memo-read : (s : Sieve) (clock : ℕ) (es : List Entry) → areOrdered 0 clock es ≡ true → memoFor s (newest (s .from) es) ≡ memoFor s es
+unfolding memoFor
+memo-read s clock es ordered =
+    let all : (limit : Limit) → sumOf (sifted limit s) (newest (s .from) es) ≡ sumOf (sifted limit s) es =
+    λ limit. newest-sum (s .from) 0 clock es ordered (sifted limit s) (sifted-none limit s) in
+    rw (all inDollars, all inContracts, all inExecutions)
+
+-- a memo of a sieve is right of all entries, and is the one that all of them give
+pub record Memoed (s : Sieve) (es : List Entry) (m : Memo) : Type 0 where
+  pub right : Right es m
+  pub is-for : isFor s m ≡ true
+  pub all : m ≡ memoFor s es
+
+-- in order of time a reading gives that
+pub memoed : {s : Sieve} (clock : ℕ) {es : List Entry} {m : Memo} → areOrdered 0 clock es ≡ true → m ≡ memoFor s (newest (s .from) es) → Memoed s es m
+memoed {s} clock {es} {m} ordered is =
+    let whole = is ∙ memo-read s clock es ordered in
+    record { right = subst (Right es) (sym whole) (memo-right s es); is-for = ap (isFor s) whole ∙ memo-for s es; all = whole }
 
 -- a memo of a rule's sieve says what the rule counts
 pub for-rule : {k : ℕ} {xs : List ℕ} → Held k xs → (rule : Rule) (time : ℕ) → isRule 64 rule ≡ true → (m : Memo) → Right (entriesOf k xs) m
@@ -78,74 +111,66 @@ for-rule {k} {xs} held rule time ok m right {s} is e =
         let r = eqb-true (m .from) (s .from) (and-r (eqb (m .mask) (s .mask) && eqb (m .want) (s .want)) (eqb (m .from) (s .from)) e) in
         λ i. record { mask = p i; want = q i; from = r i }
 
--- an entry that passes is itself, and one that does not counts nothing
-nothing : (limit : Limit) → added limit 0 0 ≡ 0
+-- no contracts count nothing
+nothing : (limit : Limit) (premium : ℕ) → added limit premium 0 ≡ 0
 unfolding added executions
-nothing (Notional l) = refl
-nothing (Volume l) = refl
-nothing (Count l) = refl
+nothing (Notional l) premium = mul-zero premium
+nothing (Volume l) premium = refl
+nothing (Count l) premium = refl
 
-none-in : (fill : ℕ) → (entryAt (fill ∷ 0 ∷ []) .premium .0 ≡ 0) × (entryAt (fill ∷ 0 ∷ []) .contracts .0 ≡ 0)
-unfolding entryAt entryOf unpacked total
-none-in fill = (refl, refl)
+-- a place that is not before the sieve's time: its entry, and what its contracts count, or none if its first number is not wanted
+module _ {k : ℕ} {xs : List ℕ} (held : Held k xs) (s : Sieve) (i : ℕ) (some : 0 < i) (within : i ≤ k)
+    (inside : s .from * 1024 ≤ getD xs ((i - 1) * 2) 0) where
+  abbrev at : ℕ
+  at = (i - 1) * 2
 
-module _ {k i : ℕ} {xs : List ℕ} (held : Held k xs) (more : i < k) (s : Sieve) where
   abbrev place : Entry
-  place = entryAt (drop (i * 2) xs)
+  place = entryAt (drop at xs)
 
-  there : entryAt (getD xs (i * 2) 0 ∷ getD xs (i * 2 + 1) 0 ∷ []) ≡ place
-  there = entry-here xs (i * 2) (omega (arith, held .size, held .fits))
+  below : i - 1 < k
+  below = omega arith
 
-  share-is : (limit : Limit) → added limit (sievedIn s xs (i * 2) .premium .0) (sievedIn s xs (i * 2) .contracts .0) ≡ sifted limit s place
-  unfolding sifted
-  share-is limit = go (passes s (getD xs (i * 2) 0)) (ap (passes s) (sym (held-fill held more)))
+  since : isSince (s .from) place ≡ true
+  since = place-since (s .from) (i - 1) held below inside
+
+  pub there : {e : Entry} → e ≡ entryAt (getD xs at 0 ∷ getD xs (at + 1) 0 ∷ []) → e ≡ place
+  there is = is ∙ entry-here xs at (omega (arith, held .size, held .fits))
+
+  share-is : (limit : Limit) → added limit (place .premium .0) (cond (isWanted s (getD xs at 0)) (place .contracts .0) 0) ≡ sifted limit s place
+  unfolding sifted passes
+  share-is limit = rw since (go (isWanted s (getD xs at 0)) (ap (isWanted s) (sym (held-fill held below))))
     where
-      go : (b : Bool) → passes s (fillNumber place) ≡ b
-          → added limit (entryAt (getD xs (i * 2) 0 ∷ cond b (getD xs (i * 2 + 1) 0) 0 ∷ []) .premium .0) (entryAt (getD xs (i * 2) 0 ∷ cond b (getD xs (i * 2 + 1) 0) 0 ∷ []) .contracts .0)
-          ≡ cond (passes s (fillNumber place)) (added limit (place .premium .0) (place .contracts .0)) 0
-      go true e = rw (e, there)
-      go false e = rw (e, none-in (getD xs (i * 2) 0) .0, none-in (getD xs (i * 2) 0) .1) (nothing limit)
+      go : (b : Bool) → isWanted s (fillNumber place) ≡ b
+          → added limit (place .premium .0) (cond b (place .contracts .0) 0) ≡ cond (isWanted s (fillNumber place) && true) (added limit (place .premium .0) (place .contracts .0)) 0
+      go true e = rw e
+      go false e = rw e (nothing limit (place .premium .0))
 
-  pub small : {e : Entry} → e ≡ sievedIn s xs (i * 2) → (e .premium .0 ≤ 100_000_000) × (e .contracts .0 ≤ 1_000_000)
-  small {e} is = rw is (go (passes s (getD xs (i * 2) 0)))
-    where
-      go : (b : Bool) → (entryAt (getD xs (i * 2) 0 ∷ cond b (getD xs (i * 2 + 1) 0) 0 ∷ []) .premium .0 ≤ 100_000_000)
-          × (entryAt (getD xs (i * 2) 0 ∷ cond b (getD xs (i * 2 + 1) 0) 0 ∷ []) .contracts .0 ≤ 1_000_000)
-      go true = let r = entry-ranged 64 place (held-entry held more refl) in rw there (r .premium .1, r .contracts .1)
-      go false = let z = none-in (getD xs (i * 2) 0) in (omega (arith, z .0), omega (arith, z .1))
+  -- one entry more, in each measure, by the sums that the code makes
+  module _ {e : Entry} (is : e ≡ place) {counted : ℕ} (sieved : counted ≡ cond (isWanted s (getD xs at 0)) (e .contracts .0) 0) where
+    pub small : (e .premium .0 ≤ 100_000_000) × (counted ≤ 1_000_000)
+    small =
+        let r = entry-ranged 64 e (held-entry held below is) in
+        (r .premium .1, rw sieved (picked-most (isWanted s (getD xs at 0)) (e .contracts .0) 1_000_000 (r .contracts .1)))
 
-  -- one entry more in a measure
-  pub sift-more : {sum n : ℕ} (limit : Limit) → Summed (sifted limit s) k xs i sum → {e : Entry} → e ≡ sievedIn s xs (i * 2)
-      → n ≡ added limit (e .premium .0) (e .contracts .0) → Summed (sifted limit s) k xs (i + 1) (sum + n)
-  sift-more limit sum {e} is number =
-      summed-more sum more refl (number ∙ ap (λ (a : Entry). added limit (a .premium .0) (a .contracts .0)) is ∙ share-is limit)
+    sift-more : {sum n : ℕ} (limit : Limit) → Summed (sifted limit s) (s .from) k xs i sum → n ≡ added limit (e .premium .0) counted
+        → Summed (sifted limit s) (s .from) k xs (i - 1) (sum + n)
+    sift-more limit sum number =
+        summed-more sum some refl since (number ∙ rw (sieved, is) (share-is limit)) (sifted-most limit s _ (held-entry held below refl))
 
-abbrev pub inDollars : Limit
-inDollars = Notional (record { 0 = 0 })
+    pub more-notional : {sum n : ℕ} → Summed (sifted inDollars s) (s .from) k xs i sum → n ≡ e .premium .0 * counted
+        → Summed (sifted inDollars s) (s .from) k xs (i - 1) (sum + n)
+    unfolding added
+    more-notional sum number = sift-more inDollars sum number
 
-abbrev pub inContracts : Limit
-inContracts = Volume (record { 0 = 0 })
+    pub more-volume : {sum : ℕ} → Summed (sifted inContracts s) (s .from) k xs i sum → Summed (sifted inContracts s) (s .from) k xs (i - 1) (sum + counted)
+    unfolding added
+    more-volume sum = sift-more inContracts sum refl
 
-abbrev pub inExecutions : Limit
-inExecutions = Count (record { 0 = 0 })
-
-pub is-itself : (x y z : ℕ) → (eqb x x && eqb y y && eqb z z) ≡ true
-is-itself x y z = rw (eq-eqb x x refl, eq-eqb y y refl, eq-eqb z z refl)
-
--- one entry more, in each measure, by the sums that the code makes
-module _ {k i : ℕ} {xs : List ℕ} (held : Held k xs) (more : i < k) (s : Sieve) {e : Entry} (is : e ≡ sievedIn s xs (i * 2)) where
-  pub more-notional : {sum n : ℕ} → Summed (sifted inDollars s) k xs i sum → n ≡ e .premium .0 * e .contracts .0 → Summed (sifted inDollars s) k xs (i + 1) (sum + n)
-  unfolding added
-  more-notional sum number = sift-more held more s inDollars sum is number
-
-  pub more-volume : {sum : ℕ} → Summed (sifted inContracts s) k xs i sum → Summed (sifted inContracts s) k xs (i + 1) (sum + e .contracts .0)
-  unfolding added
-  more-volume sum = sift-more held more s inContracts sum is refl
-
-  pub more-count : {sum n : ℕ} → Summed (sifted inExecutions s) k xs i sum → n ≡ executions (e .contracts .0) → Summed (sifted inExecutions s) k xs (i + 1) (sum + n)
-  unfolding added
-  more-count sum number = sift-more held more s inExecutions sum is number
+    pub more-count : {sum n : ℕ} → Summed (sifted inExecutions s) (s .from) k xs i sum → n ≡ executions counted
+        → Summed (sifted inExecutions s) (s .from) k xs (i - 1) (sum + n)
+    unfolding added
+    more-count sum number = sift-more inExecutions sum number
 
 -- what is summed so far fits 64 bits
-pub sum-fits : (limit : Limit) (s : Sieve) {k i sum : ℕ} {xs : List ℕ} → Held k xs → Summed (sifted limit s) k xs i sum → sum < 18_446_744_073_709_551_616
-sum-fits limit s held h = omega (arith, summed-most 100_000_000_000_000 (sifted-most limit s) held h)
+pub sum-fits : {f : Entry → ℕ} {first k i sum : ℕ} {xs : List ℕ} → Held k xs → Summed f first k xs i sum → sum < 18_446_744_073_709_551_616
+sum-fits held h = omega (arith, held .fits, h .small)

@@ -6,7 +6,7 @@ use mathlib.Core.List.{List, [], _∷_}
 use native.Mathlib.Omega.{arith}
 use lib.Bits.{bitAnd, and-mask, and-zero-r, and-block}
 use lib.Dec.{eqb, leb, ltb}
-use borrow.Author.Tests.{leb-true, le-leb, ltb-true, lt-ltb, eqb-true, eq-eqb, ne-eqb}
+use borrow.Author.Tests.{leb-true, le-leb, lt-leb, ltb-true, lt-ltb, eqb-true, eq-eqb, ne-eqb}
 use lib.ListN.{getD, drop}
 use Rattle.laws.specs.Tests.{and-l, and-r}
 use Rattle.measures.specs.Ranges.{isIn, units}
@@ -29,12 +29,13 @@ use Rattle.tables.proofs.Tables.{pass-each}
 use Rattle.tables.proofs.EntryPlace.{Ranged, entry-ranged}
 use Rattle.log.specs.Log.{Held, entriesOf}
 use Rattle.log.specs.Sieve.{firstTime, sieveIn, sieveOf, passes, fillNumber, sifted}
-use Rattle.log.specs.declared.Sieve.{Sieve}
-use Rattle.log.proofs.Logs.{place-numbers, held-valid}
+use Rattle.log.specs.Newest.{isSince}
+use Rattle.log.specs.declared.sieves.Sieve.{Sieve}
+use Rattle.log.proofs.Logs.{place-numbers, held-valid, held-entry}
 use Rattle.log.proofs.Sums.{picked-most}
 
 -- a time of the day counts exactly if it is not before the first that does
-still-counts : (kind : Kind) (u time : ℕ) → u ≤ 86_399_999 → leb (firstTime kind time) u ≡ counts kind u time
+pub still-counts : (kind : Kind) (u time : ℕ) → u ≤ 86_399_999 → leb (firstTime kind time) u ≡ counts kind u time
 unfolding firstTime counts
 still-counts (Rate w) u time h =
     let from = min 86_400_000 (time + 1 - w) in
@@ -130,29 +131,30 @@ module _ (e : Entry) (v : isEntry 64 e ≡ true) where
       ap (λ (n : ℕ). bitAnd n (63 * 16 + 3 * 4 + 2)) split
       ∙ (and-block 2 high 255 p 2 few (omega arith) ∙ rw (top, root-flag (e .forroot) (e .forfirm)))
 
-  in-time : (from : ℕ) → leb (from * 1024) (fillNumber e) ≡ leb from (e .time)
-  in-time from =
-      same-test (leb (from * 1024) (fillNumber e)) (leb from (e .time))
-      (λ t. le-leb from (e .time) (omega (arith, leb-true (from * 1024) (fillNumber e) t, fill-is, few, r .root, r .unit)))
-      (λ t. le-leb (from * 1024) (fillNumber e) (omega (arith, leb-true from (e .time) t, fill-is)))
+  -- its first number tells whether it is before a time
+  pub fill-since : (first : ℕ) → first * 1024 ≤ fillNumber e → isSince first e ≡ true
+  fill-since first h = le-leb first (e .time) (omega (arith, fill-is, few, r .root, r .unit))
 
-  -- its first number passes if the flag is set, the rule covers it and it still counts
+  pub fill-before : (first : ℕ) → fillNumber e < first * 1024 → isSince first e ≡ false
+  fill-before first h = lt-leb first (e .time) (omega (arith, fill-is))
+
+  -- it passes if the flag is set, the rule covers it and it still counts
   sifts : (n from : ℕ) (scope : Scope) → isScope n scope ≡ true
-      → passes (sieveIn scope (from * 1024)) (fillNumber e) ≡ (flagOf (levelOf scope) e && (covers scope (e .root) (e .unit) && leb from (e .time)))
+      → passes (sieveIn scope from) e ≡ (flagOf (levelOf scope) e && (covers scope (e .root) (e .unit) && leb from (e .time)))
   unfolding passes sieveIn isScope flagOf levelOf covers
-  sifts n from EveryFill h = rw (firm-digits, in-time from) (go (e .forfirm))
+  sifts n from EveryFill h = rw (firm-digits) (go (e .forfirm))
     where
       go : (b : Bool) → (eqb (flagNumber b) 1 && leb from (e .time)) ≡ (b && leb from (e .time))
       go true = refl
       go false = refl
   sifts n from (WholeRoot root) h =
       let same : eqb (e .root * 16 + flagNumber (e .forroot) * 2) (root * 16 + 2) ≡ (eqb root (e .root) && e .forroot) = whole-wanted (e .root) root (e .forroot) in
-      rw (root-digits, in-time from, same) (shuffle (eqb root (e .root)) (e .forroot) (leb from (e .time)))
+      rw (root-digits, same) (shuffle (eqb root (e .root)) (e .forroot) (leb from (e .time)))
   sifts n from (OneUnit root unit) h =
       let least = leb-true unit 3 (and-r (leb 0 unit) (leb unit 3) (and-r (ltb root n) (isIn units unit) h)) in
       let same : eqb ((e .root * 4 + e .unit) * 4 + flagNumber (e .forroot) * 2) (root * 16 + unit * 4 + 2) ≡ (eqb root (e .root) && eqb unit (e .unit) && e .forroot) =
       unit-wanted (e .root) (e .unit) root unit (e .forroot) (r .unit) least in
-      rw (unit-digits, in-time from, same) (shuffle (eqb root (e .root) && eqb unit (e .unit)) (e .forroot) (leb from (e .time)))
+      rw (unit-digits, same) (shuffle (eqb root (e .root) && eqb unit (e .unit)) (e .forroot) (leb from (e .time)))
 
 both-picked : (a b : Bool) (n : ℕ) → cond (a && b) n 0 ≡ cond a (cond b n 0) 0
 both-picked true b n = refl
@@ -183,7 +185,7 @@ pub sifted-most : (limit : Limit) (s : Sieve) (e : Entry) → isEntry 64 e ≡ t
 unfolding sifted
 sifted-most limit s e h =
     let r = entry-ranged 64 e h in
-    picked-most (passes s (fillNumber e)) _ _ (added-most limit (e .premium .0) (e .contracts .0) (r .premium .1) (r .contracts .1))
+    picked-most (passes s e) _ _ (added-most limit (e .premium .0) (e .contracts .0) (r .premium .1) (r .contracts .1))
 
 -- the first time is at most a day's end
 pub first-most : (kind : Kind) (time : ℕ) → firstTime kind time ≤ 86_400_000
@@ -191,11 +193,30 @@ unfolding firstTime
 first-most (Rate w) time = omega arith
 first-most Absolute time = zero-le
 
+from-is : (scope : Scope) (from : ℕ) → sieveIn scope from .from ≡ from
+unfolding sieveIn
+from-is EveryFill from = refl
+from-is (WholeRoot root) from = refl
+from-is (OneUnit root unit) from = refl
+
+-- and so is that of a rule's sieve
+pub from-most : {s : Sieve} (rule : Rule) (time : ℕ) → s ≡ sieveOf rule time → s .from ≤ 86_400_000
+unfolding sieveOf
+from-most rule time is =
+    omega (arith, ap (λ (t : Sieve). t .from) is, from-is (rule .scope) (firstTime (rule .kind) time), first-most (rule .kind) time)
+
 -- the first number of a place that is used is its entry's
 pub held-fill : {k i : ℕ} {xs : List ℕ} → Held k xs → i < k → getD xs (i * 2) 0 ≡ fillNumber (entryAt (drop (i * 2) xs))
 unfolding fillNumber entryNumbers
 held-fill {k = k} {i = i} {xs = xs} h l =
     ap (λ (ns : List ℕ). getD ns 0 0) (place-numbers xs (i * 2) (omega (arith, h .size, h .fits)) (pass-each 2 (isEntryPlace 64) k xs (h .entries) i l))
+
+-- and tells whether its entry is before a time
+pub place-since : {k : ℕ} {xs : List ℕ} (first i : ℕ) → Held k xs → i < k → first * 1024 ≤ getD xs (i * 2) 0 → isSince first (entryAt (drop (i * 2) xs)) ≡ true
+place-since first i h l t = fill-since _ (held-entry h l refl) first (omega (arith, held-fill h l))
+
+pub place-before : {k : ℕ} {xs : List ℕ} (first i : ℕ) → Held k xs → i < k → getD xs (i * 2) 0 < first * 1024 → isSince first (entryAt (drop (i * 2) xs)) ≡ false
+place-before first i h l t = fill-before _ (held-entry h l refl) first (omega (arith, held-fill h l))
 
 -- what a rule in range says of its root and its unit
 pub whole-below : {scope : Scope} {r : ℕ} → isScope 64 scope ≡ true → scope ≡ WholeRoot r → r < 64

@@ -1,20 +1,18 @@
 -- The log's entries rewritten in their places, one after the other, and the places after them set to 0. Assumes nothing.
 use Prim.Native.Nat.{ℕ, zero, suc, _+_, _*_, _-_, _≤_, _<_, zero-le}
-use mathlib.Core.Path.{_≡_, refl, sym, ap, _∙_, subst}
+use mathlib.Core.Path.{_≡_, refl, sym, ap, _∙_}
 use mathlib.Core.Logic.{_≢_}
-use mathlib.Core.Bool.{Bool, true, false, cond, _&&_}
+use mathlib.Core.Bool.{Bool, true, false, cond}
 use mathlib.Core.List.{List, [], _∷_, _++_, append-assoc, append-nil, map}
 use native.Mathlib.Numerals.{add-one}
 use native.Mathlib.Omega.{arith}
 use lib.ListN.{length, getD, take, drop, set, length-append, length-drop, drop-of-length-le}
 use lib.Seq.{sets, drop-cons, getD-append-add, getD-drop, set-at, set-comm, set-getD, append-snoc, take-at, drop-at, length-take-le}
-use lib.Dec.{leb, ltb}
-use borrow.Author.Tests.{leb-true, ltb-true, lt-ltb}
 use Rattle.laws.specs.Tests.{and-l, and-r}
 use Rattle.rules.specs.declared.Level.{Level}
-use Rattle.tables.specs.Tables.{zeros, flat, table, places}
+use Rattle.tables.specs.Tables.{zeros, flat, table}
 use Rattle.laws.specs.Folds.{every, keep}
-use Rattle.machine.specs.Entries.{isEntry, areOrdered, isRecent, recent}
+use Rattle.machine.specs.Entries.{isEntry, recent}
 use Rattle.machine.specs.declared.Entry.{Entry}
 use Rattle.machine.specs.Order.{unflagged}
 use Rattle.tables.specs.EntryPlace.{amountValues, entryAt, entryNumbers, isEntryPlace, logTable}
@@ -188,17 +186,6 @@ all-kept {k = k} {xs = xs} h same =
       most = omega arith;
       log = held-table h ∙ ap logTable (sym (rw (same, drop-of-length-le es end) (append-nil es)));
     }
-
--- in order of time, all are inside the window where the first time is
-pub ordered-kept : (window time from clock : ℕ) (es : List Entry) → time < from + window → areOrdered from clock es ≡ true → recent window time es ≡ es
-unfolding recent keep areOrdered
-ordered-kept window time from clock [] l o = refl
-ordered-kept window time from clock (e ∷ es) l o =
-    let both = and-l (leb from (e .time) && leb (e .time) clock) (areOrdered (e .time) clock es) o in
-    let later = leb-true from (e .time) (and-l (leb from (e .time)) (leb (e .time) clock) both) in
-    let inside : time < e .time + window = omega arith in
-    rw (lt-ltb time (e .time + window) inside)
-    (ap (λ (l : List Entry). e ∷ l) (ordered-kept window time (e .time) clock es inside (and-r (leb from (e .time) && leb (e .time) clock) (areOrdered (e .time) clock es) o)))
 
 pub flat-append : (p q : List Entry) → flat entryNumbers (p ++ q) ≡ flat entryNumbers p ++ flat entryNumbers q
 unfolding flat

@@ -1,3 +1,4 @@
 pub mod Log
+pub mod Newest
 pub mod Sieve
 pub mod Memo

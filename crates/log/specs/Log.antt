@@ -1,19 +1,14 @@
 -- The log in its places, and what the loops over them leave. Assumes nothing.
-use Prim.Native.Nat.{ℕ, _+_, _*_, _≤_}
+use Prim.Native.Nat.{ℕ, _+_, _*_, _-_, _≤_}
 use mathlib.Core.Path.{_≡_}
-use mathlib.Core.Bool.{Bool, true, not, cond, _&&_}
+use mathlib.Core.Bool.{Bool, true, _&&_}
 use mathlib.Core.List.{List, [], _∷_, _++_}
 use lib.ListN.{length, getD, take, drop}
-use lib.Seq.{sets}
-use lib.Dec.{leb, ltb}
-use Rattle.rules.specs.Rules.{levelOf, share}
-use Rattle.rules.specs.declared.Level.{Level}
-use Rattle.rules.specs.declared.Level.the-variants.{Firm, Root}
-use Rattle.rules.specs.declared.Rule.{Rule}
+use lib.Dec.{leb}
 use Rattle.tables.specs.Tables.{allZero, places, placesPass}
-use Rattle.tables.specs.EntryPlace.{entryAt, entryNumbers, isEntryPlace, logTable}
+use Rattle.tables.specs.EntryPlace.{entryAt, isEntryPlace, logTable}
 use Rattle.machine.specs.declared.Entry.{Entry}
-use Rattle.machine.specs.Entries.{areOrdered, isRecent, recent}
+use Rattle.machine.specs.Entries.{areOrdered, recent}
 
 -- the first k of the log's places hold entries of n roots, in order of time, none later than the clock, and the others 0
 unfoldable pub entriesHold : ℕ → ℕ → ℕ → List ℕ → Bool
@@ -54,6 +49,12 @@ logNumbers es = length es ∷ logTable es
 -- the entries after one joined: those inside a window at a time, and then the new one
 abbrev pub joined : ℕ → ℕ → Entry → List Entry → List Entry
 joined window time e log = recent window time log ++ (e ∷ [])
+
+-- of the k entries in xs the r inside a window are the last ones
+pub record Last (window time k : ℕ) (xs : List ℕ) (r : ℕ) : Type 0 where
+  pub count : r ≡ length (recent window time (entriesOf k xs))
+  pub most : r ≤ k
+  pub last : recent window time (entriesOf k xs) ≡ drop (k - r) (entriesOf k xs)
 
 -- of the k entries in xs the r inside a window stand first in ys, and the places after them are as they were
 pub record Kept (window time k : ℕ) (xs ys : List ℕ) (r : ℕ) : Type 0 where

@@ -1,19 +1,17 @@
 -- What the entries that pass a sieve count in each measure, kept for the next rule with that sieve. Assumes nothing.
-use Prim.Native.Nat.{ℕ, _+_}
+use Prim.Native.Nat.{ℕ}
 use mathlib.Core.Path.{_≡_}
 use mathlib.Core.Bool.{Bool, cond, _&&_}
-use mathlib.Core.List.{List, [], _∷_}
-use lib.ListN.{getD}
+use mathlib.Core.List.{List}
 use lib.Dec.{eqb}
 use Rattle.rules.specs.declared.Limit.{Limit}
 use Rattle.rules.specs.declared.Limit.the-variants.{Notional, Volume, Count}
 use Rattle.machine.specs.declared.Entry.{Entry}
 use Rattle.laws.specs.Folds.{sumOf}
-use Rattle.log.specs.declared.Sieve.{Sieve}
+use Rattle.log.specs.declared.sieves.Sieve.{Sieve}
 use Rattle.log.specs.declared.Memo.{Memo}
 use Rattle.log.specs.declared.Two.{Two}
-use Rattle.log.specs.Sieve.{passes, sifted}
-use Rattle.tables.specs.EntryPlace.{entryAt}
+use Rattle.log.specs.Sieve.{sifted}
 
 -- what a memo says in a limit's measure
 abbrev pub sumIn : Limit → Memo → ℕ
@@ -57,7 +55,3 @@ Right es m = (limit : Limit) → sumIn limit m ≡ sumOf (sifted limit (sieveFor
 pub record RightTwo (es : List Entry) (t : Two) : Type 0 where
   pub last : Right es (t .last)
   pub other : Right es (t .other)
-
--- the entry at a number of the log, with premium and contracts 0 unless its first number passes a sieve
-abbrev pub sievedIn : Sieve → List ℕ → ℕ → Entry
-sievedIn s xs at = entryAt (getD xs at 0 ∷ cond (passes s (getD xs at 0)) (getD xs (at + 1) 0) 0 ∷ [])

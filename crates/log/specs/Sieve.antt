@@ -1,8 +1,8 @@
--- What counts for a rule at a time, by the first number of an entry, and this number without flags. Assumes nothing.
+-- What counts for a rule at a time, by the first number of an entry and its time, and this number without flags. Assumes nothing.
 use Prim.Native.Nat.{ℕ, _+_, _*_, _-_, _/_, _%_, min}
 use mathlib.Core.Bool.{Bool, cond, _&&_}
 use lib.Bits.{bitAnd}
-use lib.Dec.{eqb, leb}
+use lib.Dec.{eqb}
 use Rattle.bits.specs.Fields.{packed}
 use Rattle.rules.specs.Rules.{added}
 use Rattle.rules.specs.declared.Level.{Level}
@@ -15,7 +15,8 @@ use Rattle.rules.specs.declared.Limit.{Limit}
 use Rattle.rules.specs.declared.Rule.{Rule}
 use Rattle.tables.specs.EntryPlace.{flagNumber, fillWidths, fillValues}
 use Rattle.machine.specs.declared.Entry.{Entry}
-use Rattle.log.specs.declared.Sieve.{Sieve}
+use Rattle.log.specs.Newest.{isSince}
+use Rattle.log.specs.declared.sieves.Sieve.{Sieve}
 
 -- the first time that still counts at this one, or a day's end if none does
 unfoldable pub firstTime : Kind → ℕ → ℕ
@@ -29,19 +30,23 @@ sieveIn (WholeRoot root) from = record { mask = 63 * 16 + 2; want = root * 16 + 
 sieveIn (OneUnit root unit) from = record { mask = 63 * 16 + 3 * 4 + 2; want = root * 16 + unit * 4 + 2; from = from }
 
 unfoldable pub sieveOf : Rule → ℕ → Sieve
-sieveOf rule time = sieveIn (rule .scope) (firstTime (rule .kind) time * 1024)
-
--- a first number passes
-unfoldable pub passes : Sieve → ℕ → Bool
-passes s fill = eqb (bitAnd fill (s .mask)) (s .want) && leb (s .from) fill
+sieveOf rule time = sieveIn (rule .scope) (firstTime (rule .kind) time)
 
 -- an entry's first number
 unfoldable pub fillNumber : Entry → ℕ
 fillNumber e = packed fillWidths (fillValues e)
 
--- what an entry counts in a limit's measure, if its first number passes
+-- a first number has the digits that are wanted
+abbrev pub isWanted : Sieve → ℕ → Bool
+isWanted s fill = eqb (bitAnd fill (s .mask)) (s .want)
+
+-- an entry passes: its first number has the digits that are wanted, and it is not before the first time
+unfoldable pub passes : Sieve → Entry → Bool
+passes s e = isWanted s (fillNumber e) && isSince (s .from) e
+
+-- what an entry counts in a limit's measure, if it passes
 unfoldable pub sifted : Limit → Sieve → Entry → ℕ
-sifted limit s e = cond (passes s (fillNumber e)) (added limit (e .premium .0) (e .contracts .0)) 0
+sifted limit s e = cond (passes s e) (added limit (e .premium .0) (e .contracts .0)) 0
 
 -- the digits of the flags of these levels in the first number of a root's entry
 unfoldable pub flagDigits : (Level → Bool) → ℕ → ℕ

@@ -22,7 +22,7 @@ part-counted-end : tie.Need-part-counted-end
 part-counted-end c = search needs
 
 counted-requires : tie.Need-counted-requires
-counted-requires c κs = let p = c .before .before .before .before .pre in (laid-held (p .0), p .1)
+counted-requires c κs = let p = c .before .before .before .before .pre in (laid-held (p .0), p .1, rw (laid-entries (p .0)) (p .2))
 
 enum-told-2 : tie.Need-enum-told-2
 enum-told-2 c = search needs

@@ -27,7 +27,7 @@ part-recalled-end : tie.Need-part-recalled-end
 part-recalled-end c = search needs
 
 recalled-requires : tie.Need-recalled-requires
-recalled-requires c κs = let p = c .before .before .before .before .pre in (laid-held (p .0), p .1, rw (laid-entries (p .0)) (p .3))
+recalled-requires c κs = let p = c .before .before .before .before .pre in (laid-held (p .0), p .1, rw (laid-entries (p .0)) (p .3), rw (laid-entries (p .0)) (p .2))
 
 enum-told-2 : tie.Need-enum-told-2
 enum-told-2 c = search needs

@@ -1,6 +1,6 @@
 -- `log::are_entries` meets its contract: what is left from place i on decides as the whole does. Assumes nothing.
 use Prim.Native.Nat.{ℕ, _+_, _-_, _*_, _/_, _%_, _≤_, _<_}
-use mathlib.Core.Path.{_≡_, refl, sym, ap, _∙_}
+use mathlib.Core.Path.{_≡_, sym, ap, _∙_}
 use mathlib.Core.Bool.{Bool, _&&_, and-assoc}
 use mathlib.Core.List.{List}
 use lib.ListN.{length, getD, take, drop, length-drop}

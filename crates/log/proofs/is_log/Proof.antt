@@ -3,35 +3,25 @@ use Rattle.log.proofs.Logs.{log-many, log-few}
 use borrow.Author.Needs.{needs}
 use Rattle.log.proofs.is_log.Statement.{statement}
 use Rattle.log.proofs.is_log.Tie as tie
-use Rattle.log.proofs.is_log.Reads as reads
-use Rattle.log.proofs.is_log.Lts as lts
-use Rattle.log.proofs.are_entries.Reads as are-entries-reads
 
--- src/lib.rt:64:13
 shared-slice-read-k : tie.Need-shared-slice-read-k
 shared-slice-read-k c = search needs
 
--- src/lib.rt:66:9
 returns : tie.Need-returns
 returns c = log-many _ _ _ (c .if1 .taken)
 
--- src/lib.rt:68:17
 sub-are-entries : tie.Need-sub-are-entries
 sub-are-entries c = search needs
 
--- src/lib.rt:68:17
 part-are-entries-start : tie.Need-part-are-entries-start
 part-are-entries-start c = search needs
 
--- src/lib.rt:68:17
 part-are-entries-end : tie.Need-part-are-entries-end
 part-are-entries-end c = search needs
 
--- src/lib.rt:68:5
 are-entries-requires : tie.Need-are-entries-requires
 are-entries-requires c κs = search needs
 
--- src/lib.rt:60:1
 returns-2 : tie.Need-returns-2
 returns-2 c = log-few _ _ _ (c .before .before .if1 .left) _ (c .are-entries .ensures)
 

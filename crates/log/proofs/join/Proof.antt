@@ -3,39 +3,28 @@ use Rattle.log.proofs.Logs.{set-table}
 use borrow.Author.Needs.{needs}
 use Rattle.log.proofs.join.Statement.{statement}
 use Rattle.log.proofs.join.Tie as tie
-use Rattle.log.proofs.join.Reads as reads
-use Rattle.log.proofs.join.Lts as lts
-use Rattle.log.proofs.join_places.Reads as join-places-reads
 
--- src/lib.rt:425:13
 slice-read-k : tie.Need-slice-read-k
 slice-read-k c = search needs
 
--- src/lib.rt:426:25
 sub-join-places : tie.Need-sub-join-places
 sub-join-places c = search needs
 
--- src/lib.rt:426:25
 part-join-places-start : tie.Need-part-join-places-start
 part-join-places-start c = search needs
 
--- src/lib.rt:426:25
 part-join-places-end : tie.Need-part-join-places-end
 part-join-places-end c = search needs
 
--- src/lib.rt:426:9
 join-places-requires : tie.Need-join-places-requires
 join-places-requires c κs = search needs
 
--- src/lib.rt:427:5
 slice-write-log : tie.Need-slice-write-log
 slice-write-log c = search needs
 
--- src/lib.rt:421:1
 same-length : tie.Need-same-length
 same-length c = search needs
 
--- src/lib.rt:421:1
 returns : tie.Need-returns
 returns c =
     let s = c .before .before .before .before .before .before in

@@ -1,25 +1,18 @@
 -- `log::recalled` meets its contract: a memo of the rule's sieve says what the rule counts. Assumes nothing.
-use mathlib.Core.Path.{_≡_, sym, _∙_}
+use mathlib.Core.Path.{sym, _∙_}
 use Rattle.log.specs.Memo.{recalledOf}
-use Rattle.log.proofs.Memos.{for-rule}
+use Rattle.log.proofs.Memos.{for-rule, memoed}
+use Rattle.log.proofs.Sifting.{from-most}
 use borrow.Author.Needs.{needs}
 use Rattle.log.proofs.recalled.Statement.{statement}
 use Rattle.log.proofs.recalled.Tie as tie
-use Rattle.log.proofs.recalled.Reads as reads
-use Rattle.log.proofs.recalled.Lts as lts
-use Rattle.log.proofs.is_for.Reads as is-for-reads
-use Rattle.log.proofs.memo_of.Reads as memo-of-reads
-use Rattle.log.proofs.sieve_of.Reads as sieve-of-reads
 
--- src/lib.rt:270:9
 sieve-of-requires : tie.Need-sieve-of-requires
 sieve-of-requires c κs = search needs
 
--- src/lib.rt:273:8
 is-for-requires : tie.Need-is-for-requires
 is-for-requires c κs = search needs
 
--- src/lib.rt:274:9
 returns : tie.Need-returns
 unfolding recalledOf
 returns c =
@@ -31,11 +24,9 @@ returns c =
       rw (← sieve, is),
     )
 
--- src/lib.rt:276:8
 is-for-requires-2 : tie.Need-is-for-requires-2
 is-for-requires-2 c κs = search needs
 
--- src/lib.rt:277:9
 returns-2 : tie.Need-returns-2
 unfolding recalledOf
 returns-2 c =
@@ -48,35 +39,34 @@ returns-2 c =
       rw (← sieve, not-last, is),
     )
 
--- src/lib.rt:282:13
 shared-slice-read-k : tie.Need-shared-slice-read-k
 shared-slice-read-k c = search needs
 
--- src/lib.rt:283:23
 sub-memo-of : tie.Need-sub-memo-of
 sub-memo-of c = search needs
 
--- src/lib.rt:283:23
 part-memo-of-start : tie.Need-part-memo-of-start
 part-memo-of-start c = search needs
 
--- src/lib.rt:283:23
 part-memo-of-end : tie.Need-part-memo-of-end
 part-memo-of-end c = search needs
 
--- src/lib.rt:283:9
 memo-of-requires : tie.Need-memo-of-requires
-memo-of-requires c κs = search needs
+memo-of-requires c κs =
+    let start = c .before .before .before .before .before .before .before .before .before .before in
+    (start .pre .0 .held, from-most (start .args .rule) (start .args .time) (c .before .before .before .before .before .before .before .before .sieve-of .ensures))
 
--- src/lib.rt:266:1
 returns-3 : tie.Need-returns-3
 unfolding recalledOf
 returns-3 c =
     let start = c .before .before .before .before .before .before .before .before .before .before .before in
-    let made = c .memo-of .ensures in (
-      record { last = made .0; other = start .pre .2 .last },
-      for-rule (start .pre .0 .held) _ _ (start .pre .1) _ (made .0) (c .before .before .before .before .before .before .before .before .before .sieve-of .ensures) (made .1),
-      rw (← (c .before .before .before .before .before .before .before .before .before .sieve-of .ensures), sym (c .before .before .before .before .before .before .is-for .ensures) ∙ c .before .before .before .before .before .if1 .left, sym (c .before .before .before .before .is-for2 .ensures) ∙ c .before .before .before .if2 .left, made .2),
+    let sieve = c .before .before .before .before .before .before .before .before .before .sieve-of .ensures in
+    let not-last = sym (c .before .before .before .before .before .before .is-for .ensures) ∙ c .before .before .before .before .before .if1 .left in
+    let not-other = sym (c .before .before .before .before .is-for2 .ensures) ∙ c .before .before .before .if2 .left in
+    let m = memoed (start .args .time) (start .pre .3) (c .memo-of .ensures) in (
+      record { last = m .right; other = start .pre .2 .last },
+      for-rule (start .pre .0 .held) _ _ (start .pre .1) _ (m .right) sieve (m .is-for),
+      rw (← sieve, not-last, not-other, m .all),
     )
 
 pub recalled-spec : {M : Type 1} → statement M

@@ -3,35 +3,25 @@ use Rattle.log.proofs.Logs.{put-unflagged}
 use borrow.Author.Needs.{needs}
 use Rattle.log.proofs.unflag.Statement.{statement}
 use Rattle.log.proofs.unflag.Tie as tie
-use Rattle.log.proofs.unflag.Reads as reads
-use Rattle.log.proofs.unflag.Lts as lts
-use Rattle.log.proofs.unflag_places.Reads as unflag-places-reads
 
--- src/lib.rt:330:13
 slice-read-k : tie.Need-slice-read-k
 slice-read-k c = search needs
 
--- src/lib.rt:331:19
 sub-unflag-places : tie.Need-sub-unflag-places
 sub-unflag-places c = search needs
 
--- src/lib.rt:331:19
 part-unflag-places-start : tie.Need-part-unflag-places-start
 part-unflag-places-start c = search needs
 
--- src/lib.rt:331:19
 part-unflag-places-end : tie.Need-part-unflag-places-end
 part-unflag-places-end c = search needs
 
--- src/lib.rt:331:5
 unflag-places-requires : tie.Need-unflag-places-requires
 unflag-places-requires c κs = search needs
 
--- src/lib.rt:326:1
 same-length : tie.Need-same-length
 same-length c = search needs
 
--- src/lib.rt:326:1
 returns : tie.Need-returns
 returns c =
     let s = c .before .before .before .before .before .before in

@@ -1,0 +1,125 @@
+// What counts for a rule at a time, and what the entries that do count.
+ghost use mathlib.Core.Path.{_≡_};
+ghost use mathlib.Core.Bool.{true, cond};
+ghost use Rattle.rules.specs.Valid.{isRule};
+ghost use Prim.Native.Nat.{_≤_};
+ghost use Rattle.log.specs.Log.{Held, entriesOf};
+ghost use Rattle.log.specs.Memo.{memoFor, isFor};
+ghost use Rattle.log.specs.Newest.{newest};
+ghost use Rattle.log.specs.Sieve.{firstTime, sieveOf, isWanted};
+use crate::Memo;
+use measures::Contracts;
+use measures::Executions;
+use measures::TenThousandths;
+use measures::Time;
+use rules::Kind;
+use rules::Rule;
+use rules::Scope;
+
+// What counts for a rule at a time: the digits of an entry's first number under a mask, which hold its root, its unit and the flag of the rule's level as
+// far as the rule asks for them, are those that are wanted, and the entry is not before a first time.
+pub(crate) struct Sieve {
+    mask: u64,
+    want: u64,
+    from: u64,
+}
+
+// The first time that still counts at this one, or a day's end if none does.
+pub(crate) fn first_time(kind: Kind, time: u64) -> u64
+    ensures { λ r. ⌜ r ≡ firstTime kind time ⌝ }
+{
+    match kind {
+        Kind::Rate(window) => {
+            if time < window {
+                return 0;
+            }
+            let past = time - window;
+            if past < Time::WINDOW_MOST {
+                past + 1
+            } else {
+                Time::WINDOW_MOST
+            }
+        }
+        Kind::Absolute => 0,
+    }
+}
+
+// The sieve of a rule at a time.
+pub(crate) fn sieve_of(rule: Rule, time: u64) -> Sieve
+    requires { ⌜ isRule 64 rule ≡ true ⌝ }
+    ensures { λ r. ⌜ r ≡ sieveOf rule time ⌝ }
+{
+    let scope = rule.scope;
+    let kind = rule.kind;
+    let from = first_time(kind, time);
+    match scope {
+        Scope::EveryFill => Sieve {
+            mask: 1,
+            want: 1,
+            from,
+        },
+        Scope::WholeRoot(root) => Sieve {
+            mask: 1010,
+            want: root * 16 + 2,
+            from,
+        },
+        Scope::OneUnit(root, unit) => Sieve {
+            mask: 1022,
+            want: root * 16 + unit * 4 + 2,
+            from,
+        },
+    }
+}
+
+// The contracts of an entry whose first number has the digits that a sieve wants, else none.
+fn sieved(s: Sieve, fill: u64, contracts: Contracts) -> Contracts
+    ensures { λ r. ⌜ r .0 ≡ cond (isWanted s fill) (contracts .0) 0 ⌝ }
+{
+    if fill & s.mask == s.want {
+        contracts
+    } else {
+        Contracts(0)
+    }
+}
+
+// Whether a memo is that of a sieve.
+pub(crate) fn is_for(s: Sieve, m: Memo) -> bool
+    ensures { λ r. ⌜ r ≡ isFor s m ⌝ }
+{
+    (m.mask == s.mask) & (m.want == s.want) & (m.from == s.from)
+}
+
+// What the entries that pass a sieve count in each measure, in one reading from the newest on, up to the first that is before the sieve's time.
+pub(crate) fn memo_of(log: &[u64], k: usize, s: Sieve) -> Memo
+    requires { ⌜ Held k (now log) × (s .from ≤ 86_400_000) ⌝ }
+    ensures { λ r. ⌜ r ≡ memoFor s (newest (s .from) (entriesOf k (now (log .entry)))) ⌝ }
+{
+    let from = s.from * 1024;
+    let mut notional = TenThousandths(0);
+    let mut volume = Contracts(0);
+    let mut count = Executions(0);
+    let mut i = k;
+    while 0 < i {
+        i -= 1;
+        let at = i * 2;
+        let fill = log[at];
+        if fill < from {
+            break;
+        }
+        let e = tables::entry_of(fill, log[at + 1]);
+        let premium = e.premium;
+        let contracts = e.contracts;
+        let counted = sieved(s, fill, contracts);
+        notional = notional.plus(premium.times(counted));
+        volume = volume.plus(counted);
+        count = count.plus(counted.executions());
+    }
+    Memo {
+        mask: s.mask,
+        want: s.want,
+        from: s.from,
+        notional,
+        volume,
+        count,
+    }
+}
