@@ -9,6 +9,7 @@ pub mod Admission
 pub mod Line
 pub mod Profile
 pub mod Made
+pub mod Output
 pub mod Log
 pub mod State
 pub mod Locks

@@ -8,13 +8,13 @@ use native.Mathlib.Decide.{decLe}
 use native.Mathlib.Omega.{arith}
 use lib.ListN.{length, take, drop, length-append}
 use lib.Seq.{sets, sets-eq, length-sets, take-all, drop-drop}
+use Rattle.text.proofs.Written.{sets-append}
 use Rattle.tables.specs.Tables.{places}
 use Rattle.profile.specs.declared.Reading.{Reading as Arming}
 use Rattle.lines.specs.Lines.{armLine, recordLine}
 use Rattle.lines.specs.Run.{Line, inFront, isArmed, openedOf, recordAnswer, recordMemory, recordCount, recordAt, firstRecords, fitting, taken, memoryAfter, linesOf, ranOf}
 use Rattle.lines.specs.declared.Opened.{Opened}
 use Rattle.lines.specs.declared.Ran.{Ran}
-use Rattle.lines.proofs.Texts.{sets-append}
 
 -- at most twelve bytes of what is left
 pub twelve : (l : List ℕ) → take (min (length l) 12) l ≡ take 12 l

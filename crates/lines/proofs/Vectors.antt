@@ -5,11 +5,11 @@ use mathlib.Core.Path.{_≡_, refl}
 use mathlib.Core.Bool.{true, false}
 use mathlib.Core.List.{List, [], _∷_, _++_}
 use Rattle.text.specs.Text.{bytes, numeral, nameNumber}
-use Rattle.made.specs.Names.{digitsUpTo, nameBytes}
+use Rattle.text.specs.Digits.{digitsUpTo, nameBytes, decimal}
 use Rattle.profile.specs.declared.Reading.the-variants.{Accepted, Refused as NotArmed}
 use Rattle.machine.specs.Judge.{numbers}
 use Rattle.machine.specs.declared.Answer.the-variants.{Refused, Judged}
-use Rattle.lines.specs.Lines.{digitBytes, decimal, spaced, armLine, recordLine}
+use Rattle.lines.specs.Lines.{spaced, armLine, recordLine}
 
 -- a line's text
 abbrev pub line : String → List ℕ
@@ -34,5 +34,5 @@ pub example : _≡_ {A = List (List ℕ)}
     ∷ line "refused 5 0"
     ∷ line "refused 11 257"
     ∷ [])
-unfolding numeral digitsUpTo nameBytes numbers digitBytes decimal spaced armLine recordLine
+unfolding numeral digitsUpTo nameBytes decimal numbers spaced armLine recordLine
 example = refl

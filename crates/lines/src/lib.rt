@@ -5,7 +5,7 @@ ghost use lib.ListN.{length};
 ghost use lib.Seq.{sets};
 ghost use Rattle.calls.specs.Calls.{armAnswer, armMemory, callAnswer, callMemory};
 ghost use Rattle.profile.specs.declared.Reading.the-variants.{Accepted, Refused as NotArmed};
-ghost use Rattle.lines.specs.Lines.{digitBytes, decimal as decimalOf, spaced, armLine, recordLine};
+ghost use Rattle.lines.specs.Lines.{spaced, armLine, recordLine};
 ghost use Rattle.lines.specs.Run.{Line, Within, Fitted, inFront, openedOf, callOf, recordAnswer, recordMemory, recordAt, fitting as fittingOf, taken, memoryAfter, linesOf, ranOf};
 use machine::Answer;
 use machine::Offer;
@@ -28,49 +28,6 @@ pub struct Ran {
     pub bytes: usize,
 }
 
-// Writes words from a place on, and answers the place after them.
-fn put_words(words: &[u8], room: &mut [u8], at: usize) -> usize
-    requires { ⌜ at + length (now words) ≤ length (now room) ⌝ }
-    ensures { λ r. ⌜ r ≡ at + length (now (words .entry)) ⌝ }
-    ensures { λ r. ⌜ now (room .exit) ≡ sets (now (room .entry)) at (now (words .entry)) ⌝ }
-{
-    let mut i = 0;
-    while i < words.len() {
-        room[at + i] = words[i];
-        i += 1;
-    }
-    at + i
-}
-
-// Writes the digits of a number from a place on, none for 0, and answers the place after them.
-fn put_digits(n: u64, base: u64, naught: u8, room: &mut [u8], at: usize) -> usize
-    requires { ⌜ 10 ≤ base ⌝ }
-    requires { ⌜ naught + base ≤ 256 ⌝ }
-    requires { ⌜ at + length (digitBytes base naught n) ≤ length (now room) ⌝ }
-    ensures { λ r. ⌜ r ≡ at + length (digitBytes base naught n) ⌝ }
-    ensures { λ r. ⌜ now (room .exit) ≡ sets (now (room .entry)) at (digitBytes base naught n) ⌝ }
-{
-    if n == 0 {
-        return at;
-    }
-    let last = (n % base) as u8;
-    let next = put_digits(n / base, base, naught, room, at);
-    room[next] = last + naught;
-    next + 1
-}
-
-// Writes a number in decimal digits from a place on, and answers the place after it.
-fn put_decimal(n: u64, room: &mut [u8], at: usize) -> usize
-    requires { ⌜ at + 20 ≤ length (now room) ⌝ }
-    ensures { λ r. ⌜ r ≡ at + length (decimalOf n) ⌝ }
-    ensures { λ r. ⌜ now (room .exit) ≡ sets (now (room .entry)) at (decimalOf n) ⌝ }
-{
-    let last = (n % 10) as u8;
-    let next = put_digits(n / 10, 10, 48, room, at);
-    room[next] = last + 48;
-    next + 1
-}
-
 // Writes numbers from a place on, a space before each and LF at the end, and answers the place after it.
 fn put_spaced(numbers: &[u64], room: &mut [u8], at: usize) -> usize
     requires { ⌜ at + length (now numbers) * 21 + 1 ≤ length (now room) ⌝ }
@@ -82,7 +39,7 @@ fn put_spaced(numbers: &[u64], room: &mut [u8], at: usize) -> usize
     let mut i = 0;
     while i < numbers.len() {
         room[to] = 32;
-        to = put_decimal(numbers[i], room, to + 1);
+        to = text::put_decimal(numbers[i], room, to + 1);
         i += 1;
     }
     room[to] = 10;
@@ -96,8 +53,8 @@ fn put_armed(firm: u64, rules: u64, roots: u64, room: &mut [u8]) -> usize
     ensures { λ r. ⌜ r ≡ length (armLine (Accepted firm rules roots)) ⌝ }
     ensures { λ r. ⌜ now (room .exit) ≡ sets (now (room .entry)) 0 (armLine (Accepted firm rules roots)) ⌝ }
 {
-    let name = put_words(b"armed ", room, 0);
-    let numbers = put_digits(firm, 256, 0, room, name);
+    let name = text::put_words(b"armed ", room, 0);
+    let numbers = text::put_name(firm, room, name);
     put_spaced(&[rules, roots], room, numbers)
 }
 
@@ -108,7 +65,7 @@ fn put_refused(number: u64, line: u64, room: &mut [u8]) -> usize
     ensures { λ r. ⌜ r ≡ length (armLine (NotArmed number line)) ⌝ }
     ensures { λ r. ⌜ now (room .exit) ≡ sets (now (room .entry)) 0 (armLine (NotArmed number line)) ⌝ }
 {
-    let numbers = put_words(b"refused", room, 0);
+    let numbers = text::put_words(b"refused", room, 0);
     put_spaced(&[number, line], room, numbers)
 }
 
@@ -144,7 +101,7 @@ fn put_line(place: u64, answer: Answer, room: &mut [u8], at: usize) -> usize
 {
     let mut row = [0u64; 5];
     rows::put_answer(answer, &mut row);
-    let next = put_decimal(place, room, at);
+    let next = text::put_decimal(place, room, at);
     put_spaced(&row, room, next)
 }
 

@@ -13,10 +13,11 @@ use Rattle.machine.specs.State.{Profile}
 use Rattle.profile.specs.Profile.{Outcome, outcomeOf}
 use Rattle.profile.specs.Lawful.{IsNameNumber, Lawful}
 use Rattle.profile.proofs.Laws.{lawful, accepted-some, accepted-named}
-use Rattle.made.specs.Names.{nameBytes, isNameNumber}
+use Rattle.text.specs.Digits.{nameBytes}
+use Rattle.made.specs.Names.{isNameNumber}
 use Rattle.made.specs.Made.{isFresh, areRoots, isMade}
-use Rattle.made.proofs.Bytes.{and-both, all-in, made-most, made-all}
-use Rattle.made.proofs.Digits.{digits-back}
+use Rattle.text.proofs.Bytes.{and-both, all-in, made-most, made-all}
+use Rattle.text.proofs.InBase.{digits-back}
 
 -- a name's number holds that name
 name-byte : (x : ℕ) → isNameByte x ≡ true → (0 < x) × (x < 256)

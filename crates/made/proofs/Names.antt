@@ -11,9 +11,10 @@ use native.Mathlib.Nat.{pow-zero, pow-suc, div-lt-iff-lt-mul, add-zero, zero-add
 use native.Mathlib.Omega.{arith}
 use Rattle.text.specs.Text.{all, made, isNameByte, nameNumber, nameOf}
 use Rattle.text.specs.declared.Number.the-variants.{Is}
-use Rattle.made.specs.Names.{digitsUpTo, nameBytes, isNameNumber}
-use Rattle.made.proofs.Bytes.{all-join, made-of, made-least, made-most, made-all}
-use Rattle.made.proofs.Digits.{digits-last, digits-none, digits-few, digits-number, digits-room}
+use Rattle.text.specs.Digits.{digitsUpTo, nameBytes}
+use Rattle.made.specs.Names.{isNameNumber}
+use Rattle.text.proofs.Bytes.{all-join, made-of, made-least, made-most, made-all}
+use Rattle.text.proofs.InBase.{digits-last, digits-none, digits-few, digits-number, digits-room}
 
 -- the bytes of a number that holds a name are read as that number; one of at least a byte is not 0
 pub name-few : (n : ℕ) → length (nameBytes n) ≤ 8

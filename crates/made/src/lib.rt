@@ -144,7 +144,7 @@ pub fn are_rules(rules: &[u64], n: u64) -> bool
 }
 
 // The rule at place i of the rules.
-fn rule_at(rules: &[u64], i: usize) -> Rule
+pub fn rule_at(rules: &[u64], i: usize) -> Rule
     requires { ⌜ (length (now rules) ≡ 512) × (i < 256) ⌝ }
     ensures { λ r. ⌜ r ≡ ruleAt (drop (i * 2) (now (rules .entry))) ⌝ }
 {

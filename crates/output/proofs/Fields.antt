@@ -21,18 +21,19 @@ use Rattle.rules.specs.declared.Limit.the-variants.{Notional, Volume, Count}
 use Rattle.rules.specs.declared.Rule.{Rule}
 use Rattle.text.specs.Text.{bytes, all, made, numeral, isNameByte, isDigit, numberOf, nameOf}
 use Rattle.text.specs.declared.Number.the-variants.{Is as Read}
+use Rattle.text.specs.Digits.{nameBytes, decimal}
+use Rattle.text.proofs.Decimal.{decimal-digits, decimal-upto, decimal-some, decimal-read}
 use Rattle.line.specs.Line.{typeOf, isAbsolute, limitsOf, limitOf, timeOf, letterOf, levelClash, unitClash, scopeOf}
 use Rattle.line.specs.declared.LimitType.{LimitType}
 use Rattle.line.specs.declared.LimitType.the-variants.{RateNtnl, RateVol, RateCount, AbsNtnl, AbsVol, AbsCount}
 use Rattle.line.specs.declared.TypeRead.the-variants.{Known}
 use Rattle.tables.specs.RulePlace.{limitNumber, windowNumber}
 use Rattle.rules.specs.Valid.{isLimit, isKind, isScope, isRule, windows}
-use Rattle.made.specs.Names.{nameBytes, isNameNumber}
+use Rattle.made.specs.Names.{isNameNumber}
 use Rattle.made.specs.Made.{areRoots}
-use Rattle.output.specs.Output.{decimal, typeName, limitText, windowText, rootText, levelText, callPutText, monthText}
-use Rattle.made.proofs.Bytes.{and-both, all-weaker, made-of, made-all}
+use Rattle.output.specs.Output.{typeName, limitText, windowText, rootText, levelText, callPutText, monthText}
+use Rattle.text.proofs.Bytes.{and-both, all-weaker, made-of, made-all}
 use Rattle.made.proofs.Names.{name-few, name-any, name-read, name-some}
-use Rattle.output.proofs.Digits.{decimal-digits, decimal-few, decimal-some, decimal-read}
 use Rattle.output.proofs.Pieces.{inField, isField}
 use Rattle.output.proofs.Roots.{root-name}
 
@@ -63,8 +64,8 @@ name-plain x h = go (isDigit x) refl h
         let most : x ≤ 90 = search tests in
         and-both (lt-ltb 44 x (omega arith)) (lt-ltb x 128 (omega arith))
 
-pub decimal-field : (n : ℕ) → isField (decimal n) ≡ true
-decimal-field n = made-of inField 0 12 (decimal n) (omega arith) (decimal-few n) (all-weaker digit-plain (decimal n) (decimal-digits n))
+pub decimal-field : (n : ℕ) → n < 10 ^ 12 → isField (decimal n) ≡ true
+decimal-field n h = made-of inField 0 12 (decimal n) (omega arith) (decimal-upto 11 n h) (all-weaker digit-plain (decimal n) (decimal-digits n))
 
 pub name-field : (least most n : ℕ) → isNameNumber least most n ≡ true → isField (nameBytes n) ≡ true
 unfolding isNameNumber
@@ -96,25 +97,23 @@ type-facts Absolute (Notional l) = search
 type-facts Absolute (Volume l) = search
 type-facts Absolute (Count l) = search
 
--- a number of a range above 0, in digits: the limit, and the window of a rate rule
+-- a number of a range, in digits: the limit, and the window of a rate rule
 pub record NumberFacts (text : List ℕ) (n : ℕ) : Type 0 where
   pub plain : isField text ≡ true
   pub some : 0 < length text
   pub read : numberOf text ≡ Read n
 
-number-facts : (r : Range) (n : ℕ) → 0 < r .least → r .most < 10 ^ 12 → isIn r n ≡ true → NumberFacts (decimal n) n
-number-facts r n least most h =
-    let low : r .least ≤ n = search tests in
+number-facts : (r : Range) (n : ℕ) → r .most < 10 ^ 12 → isIn r n ≡ true → NumberFacts (decimal n) n
+number-facts r n most h =
     let high : n ≤ r .most = search tests in
-    let above : 0 < n = omega arith in
     let below : n < 10 ^ 12 = omega arith in
-    record { plain = decimal-field n; some = decimal-some n above; read = decimal-read n above below }
+    record { plain = decimal-field n below; some = decimal-some n; read = decimal-read n below }
 
 pub limit-facts : (limit : Limit) → isLimit limit ≡ true → NumberFacts (limitText limit) (limitNumber limit)
 unfolding isLimit limitText
-limit-facts (Notional l) h = number-facts dollarLimits (l .0) (lit< tt) (lit< tt) h
-limit-facts (Volume l) h = number-facts numberLimits (l .0) (lit< tt) (lit< tt) h
-limit-facts (Count l) h = number-facts numberLimits (l .0) (lit< tt) (lit< tt) h
+limit-facts (Notional l) h = number-facts dollarLimits (l .0) (lit< tt) h
+limit-facts (Volume l) h = number-facts numberLimits (l .0) (lit< tt) h
+limit-facts (Count l) h = number-facts numberLimits (l .0) (lit< tt) h
 
 pub record WindowFacts (kind : Kind) : Type 0 where
   pub plain : isField (windowText kind) ≡ true
@@ -125,7 +124,7 @@ pub record WindowFacts (kind : Kind) : Type 0 where
 pub window-facts : (kind : Kind) → isKind kind ≡ true → WindowFacts kind
 unfolding isKind windowText timeOf isRate made all
 window-facts (Rate w) h =
-    let facts = number-facts windows w (lit< tt) (lit< tt) h in
+    let facts = number-facts windows w (lit< tt) h in
     record {
       plain = facts .plain;
       read = rw (ne-eqb (length (decimal w)) 0 (λ e. omega (arith, facts .some))) (facts .read);

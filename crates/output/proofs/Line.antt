@@ -22,7 +22,7 @@ use Rattle.made.specs.Made.{areRoots}
 use Rattle.output.specs.Output.{limitText, rootText, fieldTexts, trimmed, lineText}
 use Rattle.made.proofs.Names.{name-read}
 use Rattle.made.proofs.Order.{rule-scope}
-use Rattle.output.proofs.Pieces.{inLine, isField, fields-back, commas-bytes, commas-few, trimmed-at, trimmed-reach, trimmed-few, trimmed-every}
+use Rattle.output.proofs.Pieces.{inLine, isField, fields-back, commas-bytes, trimmed-at, trimmed-reach, trimmed-few, trimmed-every}
 use Rattle.output.proofs.Fields.{TypeFacts, RootFacts, NumberFacts, WindowFacts, LetterFacts, typeIs, nameIn, isEvery, callIn, monthIn, withName, name-field, rule-limit, rule-kind, type-facts, limit-facts, window-facts, letter-facts, root-facts}
 
 -- how each field of a line is read
@@ -99,10 +99,6 @@ module _ (firm : ℕ) (roots : List ℕ) (rule : Rule) (f : isNameNumber 1 4 fir
   pub line-bytes : all inLine (lineText firm roots rule) ≡ true
   unfolding lineText
   line-bytes = commas-bytes (trimmed (fieldTexts firm roots rule)) trimmed-fields
-
-  pub line-few : length (lineText firm roots rule) ≤ 104
-  unfolding lineText
-  line-few = omega (arith, commas-few (trimmed (fieldTexts firm roots rule)) trimmed-fields, few-texts)
 
   -- it says what it was written for
   line-says : Says (lineText firm roots rule) firm (typeIs (rule .kind) (rule .limit)) (nameIn roots (rule .scope)) (limitNumber (rule .limit))

@@ -1,4 +1,4 @@
--- The lines that are written for rules are the lines of the text, which has a line's bytes and LF, and at most 105 bytes a line. Assumes nothing.
+-- The lines that are written for rules are the lines of the text, which has a line's bytes and LF, at most 49 a line. Assumes nothing.
 use Prim.Native.Nat.{ℕ, _*_, _≤_, _<_}
 use mathlib.Core.Path.{_≡_, refl, ap, _∙_}
 use mathlib.Core.Bool.{Bool, true}
@@ -15,10 +15,11 @@ use Rattle.rules.specs.Valid.{isRule}
 use Rattle.made.specs.Names.{isNameNumber}
 use Rattle.made.specs.Made.{areRoots}
 use Rattle.output.specs.Output.{lineText, linesText}
-use Rattle.made.proofs.Bytes.{all-append, all-weaker}
+use Rattle.text.proofs.Bytes.{all-append, all-weaker}
 use Rattle.output.proofs.Every.{every-first, every-rest}
 use Rattle.output.proofs.Pieces.{inLine, piece-then}
-use Rattle.output.proofs.Line.{line-bytes, line-few}
+use Rattle.output.proofs.Longest.{line-most}
+use Rattle.output.proofs.Line.{line-bytes}
 
 -- a byte
 abbrev pub isByte : ℕ → Bool
@@ -44,13 +45,13 @@ module _ (firm : ℕ) (roots : List ℕ) (f : isNameNumber 1 4 firm ≡ true) (r
       all-append isByte (lineText firm roots rule) _ (all-weaker line-byte (lineText firm roots rule) (line-bytes firm roots rule f r one))
       (lines-bytes rules (every-rest (isRule (length roots)) rule rules h))
 
-  pub lines-few : (rules : List Rule) → every (isRule (length roots)) rules ≡ true → length (linesText firm roots rules) ≤ length rules * 105
+  pub lines-few : (rules : List Rule) → every (isRule (length roots)) rules ≡ true → length (linesText firm roots rules) ≤ length rules * 49
   unfolding linesText
   lines-few [] h = omega arith
   lines-few (rule ∷ rules) h =
       let one = every-first (isRule (length roots)) rule rules h in
       let rest = lines-few rules (every-rest (isRule (length roots)) rule rules h) in
-      omega (arith, length-append (lineText firm roots rule) (10 ∷ linesText firm roots rules), line-few firm roots rule f r one, rest)
+      omega (arith, length-append (lineText firm roots rule) (10 ∷ linesText firm roots rules), line-most firm roots rule f r one, rest)
 
 pub lines-some : (firm : ℕ) (roots : List ℕ) (rules : List Rule) → 0 < length rules → 0 < length (linesText firm roots rules)
 unfolding linesText

@@ -1,9 +1,9 @@
 -- Fields written with commas between them are the fields of the line, and dropping empty ones at its end changes none of them. Assumes nothing.
-use Prim.Native.Nat.{ℕ, zero, suc, _*_, _≤_, _<_}
+use Prim.Native.Nat.{ℕ, zero, suc, _≤_, _<_}
 use mathlib.Core.Path.{_≡_, refl, sym, ap, _∙_}
 use mathlib.Core.Bool.{Bool, true, false, _&&_, false≢true}
 use mathlib.Core.List.{List, [], _∷_, _++_}
-use lib.ListN.{length, getD, length-append, List·getD-eq-default}
+use lib.ListN.{length, getD, List·getD-eq-default}
 use lib.Dec.{eqb, leb, ltb}
 use borrow.Author.Tests.{eq-eqb, ne-eqb, ltb-true, le-leb}
 use native.Mathlib.Decide.{decLt}
@@ -12,7 +12,7 @@ use Rattle.laws.specs.Tests.{and-l, and-r}
 use Rattle.text.specs.Text.{all, made, onto, pieces, fields}
 use Rattle.laws.specs.Folds.{every}
 use Rattle.output.specs.Output.{inFront, trimmed, withCommas}
-use Rattle.made.proofs.Bytes.{and-both, all-append, all-weaker, made-most, made-all}
+use Rattle.text.proofs.Bytes.{and-both, all-append, all-weaker, made-all}
 use Rattle.output.proofs.Every.{every-first, every-rest}
 
 -- a text up to a separator is its first piece, where no byte before it is the separator
@@ -62,13 +62,6 @@ commas-bytes (f ∷ []) e = field-bytes f (every-first isField f [] e)
 commas-bytes (f ∷ g ∷ rest) e =
     all-append inLine f (44 ∷ withCommas (g ∷ rest)) (field-bytes f (every-first isField f (g ∷ rest) e))
     (commas-bytes (g ∷ rest) (every-rest isField f (g ∷ rest) e))
-
-pub commas-few : (fs : List (List ℕ)) → every isField fs ≡ true → length (withCommas fs) ≤ length fs * 13
-unfolding withCommas
-commas-few [] e = omega arith
-commas-few (f ∷ []) e = omega (arith, made-most inField 0 12 f (every-first isField f [] e))
-commas-few (f ∷ g ∷ rest) e =
-    omega (arith, length-append f (44 ∷ withCommas (g ∷ rest)), made-most inField 0 12 f (every-first isField f (g ∷ rest) e), commas-few (g ∷ rest) (every-rest isField f (g ∷ rest) e))
 
 -- trimmed fields: the same field stands at every place, none past the last that is not empty, and no field is new
 front-at : (f : List ℕ) (fs : List (List ℕ)) (k : ℕ) → getD (inFront f fs) k [] ≡ getD (f ∷ fs) k []

@@ -1,4 +1,5 @@
--- A firm, roots and rules that some accepted profile gives, written as text, are read as the same firm, roots and rules. Assumes nothing.
+-- A firm, roots and rules that some accepted profile gives, written as text, are read as the same firm, roots and rules; and how long
+-- the text can be. Assumes nothing.
 use Prim.Native.Nat.{ℕ, _≤_, _<_}
 use mathlib.Core.Path.{_≡_, refl, ap}
 use mathlib.Core.Bool.{true}
@@ -18,8 +19,8 @@ use Rattle.profile.specs.Profile.{outcomeOf}
 use Rattle.made.specs.Names.{isNameNumber}
 use Rattle.admission.specs.Admission.{areInOrder}
 use Rattle.made.specs.Made.{areRoots, isMade}
-use Rattle.output.specs.Output.{lineText, textOf}
-use Rattle.made.proofs.Bytes.{and-both, all-at}
+use Rattle.output.specs.Output.{lineText, textOf, textMost}
+use Rattle.text.proofs.Bytes.{and-both, all-at}
 use Rattle.output.proofs.Every.{every-first}
 use Rattle.output.proofs.Line.{line-firm}
 use Rattle.output.proofs.Lines.{isByte, lines-back, lines-bytes, lines-few, lines-some}
@@ -47,15 +48,21 @@ made-facts p h = record {
   order = search tests depth 14;
 }
 
--- the text has 1 to 65,536 bytes, a line for each rule, and its first line has the firm
-module _ (p : Profile) (m : MadeFacts p) where
-  text-size : isIn (1 to 65_536) (length (textOf p)) ≡ true
-  unfolding textOf
-  text-size =
-      let few = lines-few (p .firm) (p .roots) (m .firm-ok) (m .roots-ok) (p .rules) (m .rules-ok) in
-      and-both (le-leb 1 (length (textOf p)) (lines-some (p .firm) (p .roots) (p .rules) (m .rules-some)))
-      (le-leb (length (textOf p)) 65_536 (omega (arith, few, m .rules-few)))
+-- no text is longer
+pub text-bound : (p : Profile) → isMade p ≡ true → length (textOf p) ≤ textMost
+unfolding textOf
+text-bound p h =
+    let m = made-facts p h in
+    omega (arith, lines-few (p .firm) (p .roots) (m .firm-ok) (m .roots-ok) (p .rules) (m .rules-ok), m .rules-few)
 
+-- the text has 1 to 65,536 bytes, a line for each rule, and its first line has the firm
+text-size : (p : Profile) → isMade p ≡ true → isIn (1 to 65_536) (length (textOf p)) ≡ true
+unfolding textOf
+text-size p h =
+    and-both (le-leb 1 (length (textOf p)) (lines-some (p .firm) (p .roots) (p .rules) (made-facts p h .rules-some)))
+    (le-leb (length (textOf p)) 65_536 (omega (arith, text-bound p h)))
+
+module _ (p : Profile) (m : MadeFacts p) where
   text-lines : lines (textOf p) ≡ map (lineText (p .firm) (p .roots)) (p .rules)
   unfolding textOf
   text-lines = lines-back (p .firm) (p .roots) (m .firm-ok) (m .roots-ok) (p .rules) (m .rules-ok)
@@ -74,7 +81,7 @@ pub read-back : (p : Profile) → isMade p ≡ true → outcomeOf (textOf p) ≡
 unfolding outcomeOf
 read-back p h =
     let m = made-facts p h in
-    rw (text-size p m, text-lines p m, text-firm p m)
+    rw (text-size p h, text-lines p m, text-firm p m)
     (read-on (p .firm) (p .roots) (m .firm-ok) (m .roots-ok) (m .roots-few) 0 [] 0 (p .rules) (omega arith) (omega (arith, m .rules-few)) (m .rules-ok) (m .order))
 
 -- the text is bytes

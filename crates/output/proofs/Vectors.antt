@@ -11,9 +11,10 @@ use Rattle.laws.specs.Folds.{every}
 use Rattle.rules.specs.Valid.{isLimit, isKind, isScope, isRule}
 use Rattle.machine.specs.State.{Profile}
 use Rattle.admission.specs.Admission.{howMany, isFirmRule, onUnit, crowded, seenAfter, isNext, areInOrder}
-use Rattle.made.specs.Names.{digitsUpTo, nameBytes, isNameNumber}
+use Rattle.text.specs.Digits.{digitsUpTo, nameBytes, decimal}
+use Rattle.made.specs.Names.{isNameNumber}
 use Rattle.made.specs.Made.{isFresh, areRoots, isMade}
-use Rattle.output.specs.Output.{decimal, typeName, limitText, windowText, rootText, levelText, callPutText, monthText, fieldTexts, inFront, trimmed, withCommas, lineText, linesText, textOf}
+use Rattle.output.specs.Output.{typeName, limitText, windowText, rootText, levelText, callPutText, monthText, fieldTexts, inFront, trimmed, withCommas, lineText, linesText, textOf}
 
 abbrev example : Profile
 unfolding numeral

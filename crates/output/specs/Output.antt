@@ -1,8 +1,8 @@
 -- A profile written as text: a line for each rule, no leading zeros, effective windows, the time limit of an absolute rule empty, empty fields at
 -- the end of a line dropped, every line with LF. Assumes nothing.
-use Prim.Native.Nat.{ℕ, _+_}
+use Prim.Native.Nat.{ℕ}
 use mathlib.Core.Bool.{cond, _||_}
-use mathlib.Core.List.{List, [], _∷_, _++_, map}
+use mathlib.Core.List.{List, [], _∷_, _++_}
 use lib.ListN.{getD}
 use lib.Dec.{eqb, ltb}
 use Rattle.rules.specs.declared.Scope.{Scope}
@@ -13,12 +13,8 @@ use Rattle.rules.specs.declared.Limit.{Limit}
 use Rattle.rules.specs.declared.Limit.the-variants.{Notional, Volume, Count}
 use Rattle.rules.specs.declared.Rule.{Rule}
 use Rattle.text.specs.Text.{bytes}
+use Rattle.text.specs.Digits.{nameBytes, decimal}
 use Rattle.machine.specs.State.{Profile}
-use Rattle.made.specs.Names.{digitsUpTo, nameBytes}
-
--- a number in decimal digits
-unfoldable pub decimal : ℕ → List ℕ
-decimal n = map (λ d. d + 48) (digitsUpTo 10 12 n)
 
 unfoldable pub typeName : Kind → Limit → List ℕ
 typeName (Rate w) (Notional l) = bytes "rate_ntnl"
@@ -91,3 +87,7 @@ linesText firm roots (rule ∷ rules) = lineText firm roots rule ++ (10 ∷ line
 -- the whole text
 unfoldable pub textOf : Profile → List ℕ
 textOf p = linesText (p .firm) (p .roots) (p .rules)
+
+-- how many bytes it can have: a profile has at most 256 lines, and a line at most 48 bytes and LF
+abbrev pub textMost : ℕ
+textMost = 12_544

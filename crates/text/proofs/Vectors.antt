@@ -1,9 +1,11 @@
--- Texts with their lines and fields, and as a number and as a name, as one table under one theorem. Assumes nothing.
+-- Texts with their lines and fields, and as a number and as a name, as one table under one theorem; numbers with their decimal digits, and with the
+-- bytes of the name that they hold. Assumes nothing.
 use Prim.Native.Nat.{ℕ}
 use Prim.Native.String.{String}
 use mathlib.Core.Path.{_≡_, refl}
 use mathlib.Core.List.{List, [], _∷_, map}
 use Rattle.text.specs.Text.{bytes, all, onto, pieces, lines, fields, made, numeral, numberOf, nameOf}
+use Rattle.text.specs.Digits.{digitsUpTo, nameBytes, decimal}
 use Rattle.text.specs.declared.Number.{Number}
 use Rattle.text.specs.declared.Number.the-variants.{Is, Bad}
 
@@ -58,3 +60,13 @@ rows =
 right : map (λ r. read (r .text)) rows ≡ rows
 unfolding all onto pieces made numeral numberOf nameOf
 right = refl
+
+-- numbers as they are written
+written : map decimal (0 ∷ 9 ∷ 10 ∷ 100 ∷ 1009 ∷ 999_999_999_999 ∷ 18_446_744_073_709_551_615 ∷ [])
+    ≡ map bytes ("0" ∷ "9" ∷ "10" ∷ "100" ∷ "1009" ∷ "999999999999" ∷ "18446744073709551615" ∷ [])
+unfolding digitsUpTo decimal
+written = refl
+
+named : map nameBytes (0 ∷ 0x41 ∷ 0x41423132 ∷ 0x5A5A5A5A5A5A5A5A ∷ []) ≡ map bytes ("" ∷ "A" ∷ "AB12" ∷ "ZZZZZZZZ" ∷ [])
+unfolding digitsUpTo nameBytes
+named = refl

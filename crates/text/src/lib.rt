@@ -2,8 +2,10 @@
 ghost use mathlib.Core.Path.{_≡_};
 ghost use mathlib.Core.List.{[]};
 ghost use Prim.Native.Nat.{_+_, _≤_};
-ghost use lib.ListN.{getD, drop};
+ghost use lib.ListN.{length, getD, drop};
+ghost use lib.Seq.{sets};
 ghost use Rattle.laws.specs.Lists.{same};
+ghost use Rattle.text.specs.Digits.{nameBytes, decimal};
 ghost use Rattle.text.specs.Text.{fieldsFrom, indexOf, isNameByte, numberOf, nameOf};
 
 // What a field is read as: a number, or nothing that may stand there.
@@ -131,4 +133,99 @@ pub fn digits(f: &[u8]) -> Number
         i += 1;
     }
     Number::Is(v)
+}
+
+// The powers of ten that a number of 64 bits can hold.
+const POWERS: [u64; 20] = [
+    1,
+    10,
+    100,
+    1_000,
+    10_000,
+    100_000,
+    1_000_000,
+    10_000_000,
+    100_000_000,
+    1_000_000_000,
+    10_000_000_000,
+    100_000_000_000,
+    1_000_000_000_000,
+    10_000_000_000_000,
+    100_000_000_000_000,
+    1_000_000_000_000_000,
+    10_000_000_000_000_000,
+    100_000_000_000_000_000,
+    1_000_000_000_000_000_000,
+    10_000_000_000_000_000_000,
+];
+
+// How many decimal digits a number has: by its bits, give or take one, which the power of ten there decides.
+pub fn decimal_size(n: u64) -> usize
+    ensures { λ r. ⌜ r ≡ length (decimal n) ⌝ }
+{
+    if n == 0 {
+        return 1;
+    }
+    let bits = 64 - u64::leading_zeros(n);
+    let least = (bits * 1233 / 4096) as usize;
+    if POWERS[least] <= n {
+        return least + 1;
+    }
+    least
+}
+
+// How many bytes a name has that is held in one number.
+pub fn name_size(name: u64) -> usize
+    ensures { λ r. ⌜ r ≡ length (nameBytes name) ⌝ }
+{
+    let bits = 64 - u64::leading_zeros(name);
+    ((bits + 7) / 8) as usize
+}
+
+// Writes bytes from a place on, and answers the place after them.
+pub fn put_words(words: &[u8], room: &mut [u8], at: usize) -> usize
+    requires { ⌜ at + length (now words) ≤ length (now room) ⌝ }
+    ensures { λ r. ⌜ r ≡ at + length (now (words .entry)) ⌝ }
+    ensures { λ r. ⌜ now (room .exit) ≡ sets (now (room .entry)) at (now (words .entry)) ⌝ }
+{
+    let mut i = 0;
+    while i < words.len() {
+        room[at + i] = words[i];
+        i += 1;
+    }
+    at + i
+}
+
+// Writes a name that is held in one number from a place on, its last byte first, and answers the place after it.
+pub fn put_name(name: u64, room: &mut [u8], at: usize) -> usize
+    requires { ⌜ at + length (nameBytes name) ≤ length (now room) ⌝ }
+    ensures { λ r. ⌜ r ≡ at + length (nameBytes name) ⌝ }
+    ensures { λ r. ⌜ now (room .exit) ≡ sets (now (room .entry)) at (nameBytes name) ⌝ }
+{
+    let end = at + name_size(name);
+    let mut rest = name;
+    let mut i = end;
+    while at < i {
+        i -= 1;
+        room[i] = (rest % 256) as u8;
+        rest = rest / 256;
+    }
+    end
+}
+
+// Writes a number in decimal digits from a place on, its last digit first, and answers the place after it.
+pub fn put_decimal(n: u64, room: &mut [u8], at: usize) -> usize
+    requires { ⌜ at + length (decimal n) ≤ length (now room) ⌝ }
+    ensures { λ r. ⌜ r ≡ at + length (decimal n) ⌝ }
+    ensures { λ r. ⌜ now (room .exit) ≡ sets (now (room .entry)) at (decimal n) ⌝ }
+{
+    let end = at + decimal_size(n);
+    let mut rest = n;
+    let mut i = end;
+    while at < i {
+        i -= 1;
+        room[i] = (rest % 10) as u8 + 48;
+        rest = rest / 10;
+    }
+    end
 }

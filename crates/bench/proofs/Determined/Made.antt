@@ -12,6 +12,8 @@ use Rattle.made.proofs.are_totals.Kinds as are-totals-kinds
 use Rattle.made.proofs.are_totals.Reads as are-totals-reads
 use Rattle.made.proofs.has_rate.Kinds as has-rate-kinds
 use Rattle.made.proofs.has_rate.Reads as has-rate-reads
+use Rattle.made.proofs.rule_at.Kinds as rule-at-kinds
+use Rattle.made.proofs.rule_at.Reads as rule-at-reads
 
 pub is-name-number : Determines 0 is-name-number-kinds.ps is-name-number-kinds.r is-name-number-reads.Asked is-name-number-reads.Learnt
 is-name-number κs args asked x y u v p q = (one p q, refl)
@@ -27,3 +29,6 @@ are-totals κs args asked x y u v p q = (one p q, refl)
 
 pub has-rate : Determines 1 has-rate-kinds.ps has-rate-kinds.r has-rate-reads.Asked has-rate-reads.Learnt
 has-rate κs args asked x y u v p q = (one p q, refl)
+
+pub rule-at : Determines 1 rule-at-kinds.ps rule-at-kinds.r rule-at-reads.Asked rule-at-reads.Learnt
+rule-at κs args asked x y u v p q = (one p q, refl)

@@ -16,6 +16,8 @@ use Rattle.tables.proofs.entry_place.Kinds as entry-place-kinds
 use Rattle.tables.proofs.entry_place.Reads as entry-place-reads
 use Rattle.tables.proofs.is_zero.Kinds as is-zero-kinds
 use Rattle.tables.proofs.is_zero.Reads as is-zero-reads
+use Rattle.tables.proofs.limit_number.Kinds as limit-number-kinds
+use Rattle.tables.proofs.limit_number.Reads as limit-number-reads
 
 pub rule-of : Determines 0 rule-of-kinds.ps rule-of-kinds.r rule-of-reads.Asked rule-of-reads.Learnt
 rule-of κs args asked x y u v p q = (one p q, refl)
@@ -37,3 +39,6 @@ entry-place κs args asked x y u v p q = (one p q, refl)
 
 pub is-zero : Determines 1 is-zero-kinds.ps is-zero-kinds.r is-zero-reads.Asked is-zero-reads.Learnt
 is-zero κs args asked x y u v p q = (one p q, refl)
+
+pub limit-number : Determines 0 limit-number-kinds.ps limit-number-kinds.r limit-number-reads.Asked limit-number-reads.Learnt
+limit-number κs args asked x y u v p q = (one p q, refl)

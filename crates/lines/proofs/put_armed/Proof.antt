@@ -3,10 +3,11 @@ use mathlib.Core.Path.{_∙_}
 use mathlib.Core.List.{[], _∷_, _++_}
 use native.Mathlib.Nat.{zero-add}
 use native.Mathlib.Omega.{arith}
-use lib.Dec.{lit≤}
 use Rattle.text.specs.Text.{bytes}
-use Rattle.lines.specs.Lines.{digitBytes, spaced, armLine}
-use Rattle.lines.proofs.Texts.{then-written, name-digits, name-few}
+use Rattle.text.specs.Digits.{nameBytes}
+use Rattle.text.proofs.Written.{then-written}
+use Rattle.made.proofs.Names.{name-few}
+use Rattle.lines.specs.Lines.{spaced, armLine}
 use borrow.Author.Needs.{needs}
 use Rattle.lines.proofs.put_armed.Statement.{statement}
 use Rattle.lines.proofs.put_armed.Tie as tie
@@ -17,14 +18,14 @@ slice-aggregate-put-words c = search needs
 put-words-requires : tie.Need-put-words-requires
 put-words-requires c κs = search needs
 
-put-digits-requires : tie.Need-put-digits-requires
-put-digits-requires c κs = (lit≤ tt, (lit≤ tt, omega (arith, c .before .before .before .before .before .before .before .pre, c .before .before .before .put-words .ensures .0, c .before .before .before .put-words .kept .1 .0, name-few (c .before .before .before .before .before .before .before .args .firm) (c .before .before .before .before .before .before .before .fits .firm .fits))))
+put-name-requires : tie.Need-put-name-requires
+put-name-requires c κs = omega (arith, c .before .before .before .before .before .before .before .pre, c .before .before .before .put-words .ensures .0, c .before .before .before .put-words .kept .1 .0, name-few (c .before .before .before .before .before .before .before .args .firm))
 
 slice-aggregate-put-spaced : tie.Need-slice-aggregate-put-spaced
 slice-aggregate-put-spaced c = search needs
 
 put-spaced-requires : tie.Need-put-spaced-requires
-put-spaced-requires c κs = omega (arith, c .before .before .before .before .before .before .before .before .before .before .before .before .pre, c .before .before .before .before .before .before .before .before .put-words .ensures .0, c .before .before .before .before .before .before .before .before .put-words .kept .1 .0, c .before .before .before .before .put-digits .ensures .0, c .before .before .before .before .put-digits .kept .1 .1 .1 .0, name-few (c .before .before .before .before .before .before .before .before .before .before .before .before .args .firm) (c .before .before .before .before .before .before .before .before .before .before .before .before .fits .firm .fits))
+put-spaced-requires c κs = omega (arith, c .before .before .before .before .before .before .before .before .before .before .before .before .pre, c .before .before .before .before .before .before .before .before .put-words .ensures .0, c .before .before .before .before .before .before .before .before .put-words .kept .1 .0, c .before .before .before .before .put-name .ensures .0, c .before .before .before .before .put-name .kept .1 .0, name-few (c .before .before .before .before .before .before .before .before .before .before .before .before .args .firm))
 
 same-length : tie.Need-same-length
 same-length c = search needs
@@ -34,11 +35,11 @@ unfolding armLine
 returns c =
     let firm = c .before .before .before .before .before .before .before .before .before .before .before .before .before .before .before .args .firm in
     let numbers = spaced (c .before .before .before .before .before .before .before .before .before .before .before .before .before .before .before .args .rules ∷ c .before .before .before .before .before .before .before .before .before .before .before .before .before .before .before .args .roots ∷ []) in
-    let few = name-few firm (c .before .before .before .before .before .before .before .before .before .before .before .before .before .before .before .fits .firm .fits) in
-    let after = then-written (c .before .before .before .before .before .before .before .before .before .before .before .put-words .last .1 .0) (digitBytes 256 0 firm) numbers (c .before .before .before .before .before .before .before .before .before .before .before .put-words .result) (c .before .before .before .before .before .before .before .put-digits .ensures .0) (c .before .before .before .before .before .before .before .put-digits .ensures .1) (c .before .before .put-spaced .ensures .0) (c .before .before .put-spaced .ensures .1 .0) in
-    let is = then-written (c .before .before .before .before .before .before .before .before .before .before .before .before .before .before .before .args .room .now) (bytes "armed ") (digitBytes 256 0 firm ++ numbers) 0 (c .before .before .before .before .before .before .before .before .before .before .before .put-words .ensures .0) (c .before .before .before .before .before .before .before .before .before .before .before .put-words .ensures .1) (after .0) (after .1) in (
-      record { inside = omega (arith, c .before .before .put-spaced .ensures .1 .1, c .before .before .before .before .before .before .before .put-digits .ensures .0, c .before .before .before .before .before .before .before .before .before .before .before .put-words .ensures .0) },
-      rw (← name-digits firm (c .before .before .before .before .before .before .before .before .before .before .before .before .before .before .before .fits .firm .fits)) (is .0 ∙ zero-add _, is .1),
+    let few = name-few firm in
+    let after = then-written (c .before .before .before .before .before .before .before .before .before .before .before .put-words .last .1 .0) (nameBytes firm) numbers (c .before .before .before .before .before .before .before .before .before .before .before .put-words .result) (c .before .before .before .before .before .before .before .put-name .ensures .0) (c .before .before .before .before .before .before .before .put-name .ensures .1) (c .before .before .put-spaced .ensures .0) (c .before .before .put-spaced .ensures .1 .0) in
+    let is = then-written (c .before .before .before .before .before .before .before .before .before .before .before .before .before .before .before .args .room .now) (bytes "armed ") (nameBytes firm ++ numbers) 0 (c .before .before .before .before .before .before .before .before .before .before .before .put-words .ensures .0) (c .before .before .before .before .before .before .before .before .before .before .before .put-words .ensures .1) (after .0) (after .1) in (
+      record { inside = omega (arith, c .before .before .put-spaced .ensures .1 .1, c .before .before .before .before .before .before .before .put-name .ensures .0, c .before .before .before .before .before .before .before .before .before .before .before .put-words .ensures .0) },
+      (is .0 ∙ zero-add _, is .1),
     )
 
 pub put-armed-spec : {M : Type 1} → statement M
@@ -47,7 +48,7 @@ put-armed-spec =
     (tie.spec
     slice-aggregate-put-words
     put-words-requires
-    put-digits-requires
+    put-name-requires
     slice-aggregate-put-spaced
     put-spaced-requires
     same-length

@@ -5,8 +5,11 @@ use lib.ListN.{length}
 use lib.Seq.{sets}
 use native.Mathlib.Omega.{arith}
 use Rattle.machine.specs.Judge.{numbers}
-use Rattle.lines.specs.Lines.{decimal, spaced, recordLine}
-use Rattle.lines.proofs.Texts.{then-written, decimal-few, five}
+use Rattle.text.specs.Digits.{decimal}
+use Rattle.text.proofs.Decimal.{decimal-few}
+use Rattle.text.proofs.Written.{then-written}
+use Rattle.lines.specs.Lines.{spaced, recordLine}
+use Rattle.lines.proofs.Texts.{five}
 use borrow.Author.Needs.{needs}
 use Rattle.lines.proofs.put_line.Statement.{statement}
 use Rattle.lines.proofs.put_line.Tie as tie
@@ -15,13 +18,15 @@ put-answer-requires : tie.Need-put-answer-requires
 put-answer-requires c κs = search needs
 
 put-decimal-requires : tie.Need-put-decimal-requires
-put-decimal-requires c κs = search needs
+put-decimal-requires c κs =
+    let s = c .before .before .before .before in
+    omega (arith, s .pre, decimal-few (s .args .place))
 
 slice-aggregate-put-spaced : tie.Need-slice-aggregate-put-spaced
 slice-aggregate-put-spaced c = five (c .before .before .before .before .before .before .before .before .args .answer) (c .before .before .before .before .before .put-answer .ensures)
 
 put-spaced-requires : tie.Need-put-spaced-requires
-put-spaced-requires c κs = omega (arith, c .before .before .before .before .before .before .before .before .before .pre, five (c .before .before .before .before .before .before .before .before .before .args .answer) (c .before .before .before .before .before .before .put-answer .ensures), c .before .before .before .before .put-decimal .ensures .0, c .before .before .before .before .put-decimal .kept .1 .0, decimal-few (c .before .before .before .before .before .before .before .before .before .args .place) (c .before .before .before .before .before .before .before .before .before .fits .place .fits))
+put-spaced-requires c κs = omega (arith, c .before .before .before .before .before .before .before .before .before .pre, five (c .before .before .before .before .before .before .before .before .before .args .answer) (c .before .before .before .before .before .before .put-answer .ensures), c .before .before .before .before .put-decimal .ensures .0, c .before .before .before .before .put-decimal .kept .1 .0, decimal-few (c .before .before .before .before .before .before .before .before .before .args .place))
 
 same-length : tie.Need-same-length
 same-length c = search needs
@@ -31,7 +36,7 @@ unfolding recordLine
 returns c =
     let place = c .before .before .before .before .before .before .before .before .before .before .before .before .args .place in
     let row = c .before .before .before .before .before .before .before .before .before .put-answer .ensures in
-    let short = decimal-few place (c .before .before .before .before .before .before .before .before .before .before .before .before .fits .place .fits) in
+    let short = decimal-few place in
     let near = c .before .before .put-spaced .ensures .1 .1 in
     let is =
     then-written (c .before .before .before .before .before .before .before .before .before .before .before .before .args .room .now) (decimal place) (spaced (numbers (c .before .before .before .before .before .before .before .before .before .before .before .before .args .answer))) (c .before .before .before .before .before .before .before .before .before .before .before .before .args .at) (c .before .before .before .before .before .before .before .put-decimal .ensures .0) (c .before .before .before .before .before .before .before .put-decimal .ensures .1) (c .before .before .put-spaced .ensures .0 ∙ ap (λ l. c .before .before .before .before .before .before .before .put-decimal .result + length (spaced l)) row)

@@ -4,8 +4,8 @@ use mathlib.Core.List.{[], _∷_}
 use native.Mathlib.Nat.{zero-add}
 use native.Mathlib.Omega.{arith}
 use Rattle.text.specs.Text.{bytes}
+use Rattle.text.proofs.Written.{then-written}
 use Rattle.lines.specs.Lines.{spaced, armLine}
-use Rattle.lines.proofs.Texts.{then-written}
 use borrow.Author.Needs.{needs}
 use Rattle.lines.proofs.put_refused.Statement.{statement}
 use Rattle.lines.proofs.put_refused.Tie as tie

@@ -1,8 +1,9 @@
 -- `lines::put_spaced` meets its contract: the numbers from place i on are still to be written. Assumes nothing.
 use Prim.Native.Nat.{_-_}
-use lib.ListN.{length, length-set}
+use lib.ListN.{length, getD, length-set}
 use native.Mathlib.Omega.{arith}
 use borrow.Author.Needs.{needs}
+use Rattle.text.proofs.Decimal.{decimal-few}
 use Rattle.lines.proofs.Texts.{Spacing, spacing-none, spacing-on, spacing-end}
 use Rattle.lines.proofs.put_spaced.Statement.{statement}
 use Rattle.lines.proofs.put_spaced.Tie as tie
@@ -29,7 +30,7 @@ add-put-decimal : tie.Need-add-put-decimal Inv-loop μ-loop
 add-put-decimal c = omega (arith, c .before .before .before .before .before .before .pre, c .before .before .before .loop .inv .near, c .before .before .before .loop .inv .long)
 
 put-decimal-requires : tie.Need-put-decimal-requires Inv-loop μ-loop
-put-decimal-requires c κs = simp length-set (omega (arith, c .before .before .before .before .before .before .pre, c .before .before .before .loop .inv .near, c .before .before .before .loop .inv .long, c .before .before .loop-test .taken))
+put-decimal-requires c κs = simp length-set (omega (arith, c .before .before .before .before .before .before .pre, c .before .before .before .loop .inv .near, c .before .before .before .loop .inv .long, c .before .before .loop-test .taken, decimal-few (getD (c .before .before .before .before .before .before .args .numbers .now) (c .before .before .before .loop .i) 0)))
 
 add-i : tie.Need-add-i Inv-loop μ-loop
 add-i c = search needs
@@ -39,7 +40,7 @@ loop-less c = search needs
 
 loop-again : tie.Need-loop-again Inv-loop μ-loop
 loop-again c =
-    spacing-on (c .before .before .before .before .before .before .loop .inv) (c .before .before .before .before .before .loop-test .taken) (c .before .before .before .before .shared-slice-known2 .given (c .before .before .before .before .before .before .loop .i) .fits) (c .before .before .put-decimal .result) (c .before .before .put-decimal .last .1 .0) (c .before .before .put-decimal .ensures .0) (c .before .before .put-decimal .ensures .1)
+    spacing-on (c .before .before .before .before .before .before .loop .inv) (c .before .before .before .before .before .loop-test .taken) (c .before .before .put-decimal .result) (c .before .before .put-decimal .last .1 .0) (c .before .before .put-decimal .ensures .0) (c .before .before .put-decimal .ensures .1)
 
 slice-write-room-2 : tie.Need-slice-write-room-2 Inv-loop μ-loop
 slice-write-room-2 c = omega (arith, c .before .before .before .before .pre, c .before .loop .inv .near, c .before .loop .inv .long, c .before .loop .inv .within)

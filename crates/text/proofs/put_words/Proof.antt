@@ -1,13 +1,13 @@
--- `lines::put_words` meets its contract: what is left of the words is still to be written. Assumes nothing.
+-- `text::put_words` meets its contract: what is left of the words is still to be written. Assumes nothing.
 use Prim.Native.Nat.{_+_, _-_, _≤_}
 use mathlib.Core.Path.{_≡_, refl, sym, ap, _∙_}
 use lib.ListN.{length, drop, length-set}
 use lib.Seq.{sets}
 use native.Mathlib.Omega.{arith}
 use borrow.Author.Needs.{needs}
-use Rattle.lines.proofs.Texts.{words-none, words-on, words-end}
-use Rattle.lines.proofs.put_words.Statement.{statement}
-use Rattle.lines.proofs.put_words.Tie as tie
+use Rattle.text.proofs.Written.{words-none, words-on, words-end}
+use Rattle.text.proofs.put_words.Statement.{statement}
+use Rattle.text.proofs.put_words.Tie as tie
 
 abbrev Inv-loop : tie.InvT-loop
 Inv-loop words room₀ at i₀ room i = (i ≤ length words) × (length room ≡ length room₀) × (sets room₀ at words ≡ sets room (at + i) (drop i words))
