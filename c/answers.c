@@ -95,6 +95,54 @@ static void profiles(void) {
     EXPECT(mbrumzheg_try_rule(memory, MBRUMZHEG_SIZE, 6).refusal == MBRUMZHEG_UNKNOWN);
 }
 
+/* A unit's profile is this text; with too little room its size is answered, and nothing is written. */
+static void profile_is(const uint64_t *unit, const char *text) {
+    static char room[MBRUMZHEG_PROFILE_MOST + 1];
+    const size_t size = strlen(text);
+    struct mbrumzheg_written written;
+    memset(room, 9, sizeof room);
+    written = mbrumzheg_try_profile(unit, MBRUMZHEG_SIZE, room, size - 1);
+    EXPECT(written.refusal == MBRUMZHEG_NO_ROOM && written.size == size && room[0] == 9 && room[size - 2] == 9);
+    written = mbrumzheg_try_profile(unit, MBRUMZHEG_SIZE, room, size);
+    EXPECT(written.refusal == MBRUMZHEG_ACCEPTED && written.size == size && memcmp(room, text, size) == 0 && room[size] == 9);
+    memset(room, 9, sizeof room);
+    written = mbrumzheg_try_profile(unit, MBRUMZHEG_SIZE, room, sizeof room);
+    EXPECT(written.refusal == MBRUMZHEG_ACCEPTED && written.size == size && memcmp(room, text, size) == 0 && room[size] == 9);
+}
+
+/* The rules of the unit armed last, written back; what was written arms another unit with the same numbers, which then writes the same. */
+static void profiles_out(void) {
+    static const char text[] = "ABCD,rate_ntnl,Q,100000000000,100\nABCD,rate_vol,XYZ123,7,86400000,,P,T\nABCD,rate_count,,2,101,T\n"
+                               "ABCD,abs_ntnl,Q,1,,,C,F\nABCD,abs_vol,XYZ123,1000000000\nABCD,abs_count,,3,,T\n";
+    static uint64_t other[MBRUMZHEG_SIZE], before[MBRUMZHEG_SIZE];
+    char room[1] = {9};
+    struct mbrumzheg_written written = mbrumzheg_try_profile(other, MBRUMZHEG_SIZE, room, 0);
+    EXPECT(written.refusal == MBRUMZHEG_NOT_ARMED && written.size == 0);
+    written = mbrumzheg_try_profile(memory, MBRUMZHEG_SIZE - 1, room, sizeof room);
+    EXPECT(written.refusal == MBRUMZHEG_NO_ROOM && written.size == 0 && room[0] == 9);
+    memcpy(before, memory, sizeof before);
+    profile_is(memory, text);
+    EXPECT(memcmp(before, memory, sizeof before) == 0);
+    EXPECT(mbrumzheg_try_arm(other, MBRUMZHEG_SIZE, text, sizeof text - 1).refusal == MBRUMZHEG_ACCEPTED);
+    EXPECT(memcmp(other, memory, sizeof other) == 0);
+    profile_is(other, text);
+    other[MBRUMZHEG_SIZE - 1] = 600; /* a place that is not used */
+    written = mbrumzheg_try_profile(other, MBRUMZHEG_SIZE, room, 0);
+    EXPECT(written.refusal == MBRUMZHEG_UNSOUND && written.size == 0);
+}
+
+/* The longest lines that there are, as many as there may be. */
+static void longest_profile(void) {
+    static char text[MBRUMZHEG_PROFILE_MOST + 1];
+    size_t size = 0;
+    int n;
+    for (n = 0; n < MBRUMZHEG_MOST_RULES; n++)
+        size += (size_t)snprintf(text + size, sizeof text - size, "ABCD,rate_ntnl,LONG%02d,100000000000,86400000,,C,T\n", n / 6);
+    EXPECT(size == MBRUMZHEG_PROFILE_MOST && mbrumzheg_try_clear(memory, MBRUMZHEG_SIZE) == MBRUMZHEG_ACCEPTED);
+    EXPECT(arm(text).refusal == MBRUMZHEG_ACCEPTED);
+    profile_is(memory, text);
+}
+
 static void words(void) {
     struct mbrumzheg_wording wording = mbrumzheg_try_text(MBRUMZHEG_ROOT_LOCKED);
     EXPECT(wording.refusal == MBRUMZHEG_ACCEPTED && wording.length == 19 && strcmp(wording.text, "s: RiskMgmtSymLevel") == 0);
@@ -156,5 +204,7 @@ int main(void) {
     EXPECT(mbrumzheg_try_clear(memory, MBRUMZHEG_SIZE) == MBRUMZHEG_ACCEPTED);
     EXPECT(mbrumzheg_try_status(memory, MBRUMZHEG_SIZE).refusal == MBRUMZHEG_NOT_ARMED);
     profiles();
+    profiles_out();
+    longest_profile();
     return 0;
 }

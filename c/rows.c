@@ -13,7 +13,7 @@ int main(void) {
     static const char profile[] = "ABCD,abs_vol,XYZ,1000,0";
     static const uint8_t offer[MBRUMZHEG_RECORD_BYTES] = {0x40, 0, 0, 0x50, 0, 1, 0x11, 0x70, 0, 0x0C, 0x80, 0};
     uint64_t memory[MBRUMZHEG_SIZE] = {0}, event[9], rule[6];
-    uint8_t bytes[MBRUMZHEG_RECORD_BYTES] = {0}, text[MBRUMZHEG_TEXT_BYTES];
+    uint8_t bytes[MBRUMZHEG_RECORD_BYTES] = {0}, text[MBRUMZHEG_TEXT_BYTES], written[22] = {0};
 
     mbrumzheg_status(memory, MBRUMZHEG_SIZE, row);
     EXPECT(is(MBRUMZHEG_NOT_ARMED, 0, 0, 0, 0));
@@ -25,6 +25,11 @@ int main(void) {
     EXPECT(is(0, 3, 0, 0, 0) && text[0] == 'X' && text[1] == 'Y' && text[2] == 'Z');
     mbrumzheg_rule(memory, MBRUMZHEG_SIZE, 0, rule);
     EXPECT(rule[0] == 0 && rule[1] == MBRUMZHEG_ABS_VOL && rule[2] == 1000 && rule[3] == 0 && rule[4] == 0 && rule[5] == MBRUMZHEG_ALL_UNITS);
+    mbrumzheg_profile(memory, MBRUMZHEG_SIZE, written, 21, row);
+    EXPECT(is(MBRUMZHEG_NO_ROOM, 22, 0, 0, 0) && written[0] == 0);
+    mbrumzheg_profile(memory, MBRUMZHEG_SIZE, written, sizeof written, row);
+    EXPECT(is(0, 22, 0, 0, 0) && written[21] == '\n');
+    for (int i = 0; i < 21; i++) EXPECT(written[i] == (uint8_t)profile[i]);
     mbrumzheg_offer(memory, MBRUMZHEG_SIZE, 0, 0, MBRUMZHEG_CALLS_FRONT, 70000, 950, row);
     EXPECT(is(0, MBRUMZHEG_FREE, 950, 0, 0));
     mbrumzheg_remaining(memory, MBRUMZHEG_SIZE, 0, 0, row);

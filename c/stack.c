@@ -3,7 +3,8 @@
  * ends with 1 if Arm took more than MBRUMZHEG_STACK_BYTES, or another call more than MBRUMZHEG_CALL_STACK_BYTES.
  *
  * The tries: memory that is short, unarmed, unsound; armed with one rule, with 256 rules and 64 roots, with 16 covering rules and a log of 512
- * entries; profiles that are refused by their last line, and one of 65,536 bytes; every reset, level and unit. */
+ * entries; profiles that are refused by their last line, and one of 65,536 bytes; every reset, level and unit; no room for a
+ * profile, and room for the longest. */
 #define _XOPEN_SOURCE 700
 #include <inttypes.h>
 #include <stdio.h>
@@ -14,9 +15,9 @@
 
 #define ROOM (1u << 17)
 
-enum call { EMPTY, ARM, CLEAR, ORDER, LOCKOUT, OFFER, REMAINING, STATUS, ROOT_NAMED, ROOT_NAME, RULE, TEXT, READ_RECORD, WRITE_RECORD, CALLS };
+enum call { EMPTY, ARM, CLEAR, ORDER, LOCKOUT, OFFER, REMAINING, STATUS, ROOT_NAMED, ROOT_NAME, RULE, PROFILE, TEXT, READ_RECORD, WRITE_RECORD, CALLS };
 static const char *const names[CALLS] = {"empty", "arm", "clear", "order", "lockout", "offer", "remaining", "status", "root_named",
-                                         "root_name", "rule", "text", "read_record", "write_record"};
+                                         "root_name", "rule", "profile", "text", "read_record", "write_record"};
 
 /* The call that is measured, with what it is given. */
 static enum call what;
@@ -25,7 +26,7 @@ static uint64_t *memory;
 static size_t memory_len;
 static char text[MBRUMZHEG_MOST_PROFILE_BYTES + 1];
 static size_t text_len;
-static uint8_t room[MBRUMZHEG_TEXT_BYTES];
+static uint8_t room[MBRUMZHEG_TEXT_BYTES], profile_room[MBRUMZHEG_PROFILE_MOST];
 
 static _Alignas(64) unsigned char stack[ROOM];
 static ucontext_t here, there;
@@ -44,6 +45,7 @@ static void run(void) {
     case ROOT_NAMED: mbrumzheg_root_named(memory, memory_len, (const uint8_t *)"ROOT63", n[0], row); break;
     case ROOT_NAME: mbrumzheg_root_name(memory, memory_len, n[0], room, sizeof room, row); break;
     case RULE: mbrumzheg_rule(memory, memory_len, n[0], row); break;
+    case PROFILE: mbrumzheg_profile(memory, memory_len, profile_room, n[0], row); break;
     case TEXT: mbrumzheg_text(n[0], room, sizeof room, row); break;
     case READ_RECORD: mbrumzheg_read_record(room, MBRUMZHEG_RECORD_BYTES, row); break;
     case WRITE_RECORD: mbrumzheg_write_record(n[0], n[1], n[2], n[3], n[4], n[5], n[6], n[7], room, sizeof room, row); break;
@@ -102,6 +104,8 @@ static void try_calls(uint64_t *state, uint64_t time) {
             try_numbers(RULE, state, root * 4 + n, 0, 0, 0, 0);
         }
     }
+    try_numbers(PROFILE, state, 0, 0, 0, 0, 0);
+    try_numbers(PROFILE, state, sizeof profile_room, 0, 0, 0, 0);
     try_numbers(OFFER, state, time, 0, 0, 0, 1);
     try_numbers(OFFER, state, 86400000, 0, 0, 1, 1);
 }

@@ -1,5 +1,5 @@
 /* Runs the same day on several threads at the same time, each on memory of its own: each must end with the memory that the day leaves when it runs alone.
- * Then all threads read one memory at the same time, by Status and Remaining, and must get what one alone gets. Ends with 0 if it is so. */
+ * Then all threads read one memory at the same time, by Status, Remaining and Profile, and must get what one alone gets. Ends with 0 if it is so. */
 #include <pthread.h>
 #include <stdio.h>
 #include <string.h>
@@ -39,7 +39,10 @@ static void *read_all(void *sum) {
     for (uint64_t n = 0; n < EVENTS; n++) {
         const struct mbrumzheg_remains remains = mbrumzheg_try_remaining(memory, MBRUMZHEG_SIZE, time, n % 4);
         const struct mbrumzheg_standing standing = mbrumzheg_try_status(memory, MBRUMZHEG_SIZE);
+        char room[MBRUMZHEG_PROFILE_MOST] = {0};
+        const struct mbrumzheg_written written = mbrumzheg_try_profile(memory, MBRUMZHEG_SIZE, room, sizeof room);
         *(uint64_t *)sum += n * remains.amount + standing.locked + remains.refusal + standing.refusal;
+        *(uint64_t *)sum += n * (uint64_t)room[n % 100] + written.size + written.refusal;
     }
     return NULL;
 }

@@ -60,6 +60,15 @@ static void names_and_rules_are_known() {
     EXPECT(firm->type == RuleType::AbsVol && firm->limit == 5 && !firm->window && !firm->root && !firm->unit);
 }
 
+static void the_rules_are_written_back() {
+    const auto unit = arm("ABCD,rate_ntnl,Q,001000,0,,P,T\nABCD,abs_count,XYZ123,7,5,\nABCD,abs_vol,,5,,T");
+    const std::string_view text = "ABCD,rate_ntnl,Q,1000,100,,P,T\nABCD,abs_count,XYZ123,7\nABCD,abs_vol,,5,,T\n";
+    ProfileRoom room{};
+    EXPECT(*unit->profile() == text && *unit->profile(room) == text && room[text.size()] == 0);
+    const auto again = arm(*unit->profile());
+    EXPECT(again->memory() == unit->memory() && *again->profile() == text);
+}
+
 static void refusals_say_why() {
     const auto refused = arm("ABCD,abs_vol,XYZ,1000\nABCD,abs_vol,XYZ,0\n");
     EXPECT(!refused.accepted() && refused.refusal() == Refusal::OutOfRange && refused.line() == 2);
@@ -71,7 +80,7 @@ static void a_unit_moves() {
     auto unit = arm("ABCD,abs_vol,XYZ,1000");
     Unit moved = *std::move(unit);
     EXPECT(moved.offer(at(0, 1))->grant == 1);
-    EXPECT(unit->offer(at(0, 1)).refusal() == Refusal::NoRoom && unit->status().refusal() == Refusal::NoRoom);
+    EXPECT(unit->offer(at(0, 1)).refusal() == Refusal::NoRoom && unit->status().refusal() == Refusal::NoRoom && unit->profile().refusal() == Refusal::NoRoom);
     auto adopted = Unit::adopt(moved.memory());
     EXPECT(adopted.accepted() && *adopted->remaining(Time{0}, 0) == 999);
     auto saved = std::move(moved).memory();
@@ -110,6 +119,7 @@ static void events_have_records() {
 int main() {
     cuts_and_locks();
     names_and_rules_are_known();
+    the_rules_are_written_back();
     refusals_say_why();
     a_unit_moves();
     a_unit_stands_on_lent_memory();

@@ -15,8 +15,8 @@
  * const (Remaining, Status, and those that read the profile), which may run beside each other.
  *
  * Answers. A call writes a row of numbers, the refusal first, 0 for none; MBRUMZHEG_ROW_.. names the places. A refused call has zeros after
- * its refusal (but for Arm's line) and changes nothing that was lent but the row. The mbrumzheg_try_.. functions below answer a struct
- * instead, so that no row can be too short. */
+ * its refusal (but for Arm's line and the size that a profile takes) and changes nothing that was lent but the row. The mbrumzheg_try_..
+ * functions below answer a struct instead, so that no row can be too short. */
 #ifndef MBRUMZHEG_H
 #define MBRUMZHEG_H
 
@@ -46,11 +46,13 @@ extern "C" {
 #define MBRUMZHEG_VERSION_MINOR 2
 #define MBRUMZHEG_VERSION_PATCH 0
 
-/* How many 64-bit numbers the state takes, how many bytes a record has, and the room for a text and for a root's name that is asked for. */
+/* How many 64-bit numbers the state takes, how many bytes a record has, the room for a text and for a root's name that is asked for, and the most
+ * bytes that a profile written back has. */
 #define MBRUMZHEG_SIZE 1866
 #define MBRUMZHEG_RECORD_BYTES 12
 #define MBRUMZHEG_TEXT_BYTES 20
 #define MBRUMZHEG_NAME_BYTES 6
+#define MBRUMZHEG_PROFILE_MOST 12544
 
 /* How many bytes of stack Arm takes at most, and how many every other call, by measurement on x86-64 and aarch64. */
 #define MBRUMZHEG_STACK_BYTES 16384
@@ -122,8 +124,8 @@ enum { MBRUMZHEG_NO_ROOT = 64, MBRUMZHEG_ALL_UNITS = 4 };
 /* How long a row is, that of a rule, and that of a record that was read. */
 enum { MBRUMZHEG_ROW = 5, MBRUMZHEG_RULE_ROW = 6, MBRUMZHEG_EVENT_ROW = 9 };
 
-/* The places in a row: of every call, of Arm, of Order, Lockout and Offer, of Remaining, of Status, of Text and a root's name, of a root by its
- * name, of a rule, of a record that was read. */
+/* The places in a row: of every call, of Arm, of Order, Lockout and Offer, of Remaining, of Status, of Text, a root's name and a profile, of a root
+ * by its name, of a rule, of a record that was read. */
 enum mbrumzheg_place {
     MBRUMZHEG_ROW_REFUSAL = 0,
 
@@ -218,6 +220,13 @@ MBRUMZHEG_NOT_NULL void mbrumzheg_root_name(const uint64_t *memory, size_t memor
 /* A rule by its number. Row, of SIX numbers: refusal; type, enum mbrumzheg_rule_type; limit as the profile has it, in whole dollars, contracts or
  * executions; window in milliseconds, 0 for an absolute rule; root, 64 for a firm rule; unit, 4 for all four. */
 MBRUMZHEG_NOT_NULL void mbrumzheg_rule(const uint64_t *memory, size_t memory_len, uint64_t rule, uint64_t row[MBRUMZHEG_AT_LEAST(6)]);
+
+/* Writes the rules that are active as a profile's text to the front of a room, with no terminating 0: a line a rule, in their order, each ended by LF,
+ * with no leading zeros, with windows as they take effect, and with no empty fields at its end. To arm cleared memory with it gives the same rules,
+ * roots and numbers. MBRUMZHEG_PROFILE_MOST bytes are always room enough.
+ * Row: refusal; how many bytes were written or, with 1 for a room that is short, how many it takes (0 with 1 for memory that is short). */
+MBRUMZHEG_NOT_NULL void mbrumzheg_profile(const uint64_t *memory, size_t memory_len, uint8_t *room, size_t room_len,
+                                          uint64_t row[MBRUMZHEG_AT_LEAST(5)]);
 
 /* Writes the text of a rejection, for verdict 1 or 2, to the front of a room of at least 20 bytes, with no terminating 0.
  * Row: refusal, how many bytes were written: 20 or 19. */

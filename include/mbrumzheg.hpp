@@ -2,13 +2,15 @@
 //
 // A Unit exists only once a profile has armed it, or saved memory has passed the library's own check, so no order can pass a unit without rules.
 // A unit that was moved from refuses every call with NoRoom. A call's answer is a Result, which is either the answer or the refusal; to take the
-// answer of a refused call ends the program. Nothing here throws; making a Unit takes memory for its state, and no other call takes any.
+// answer of a refused call ends the program. Nothing here throws; making a Unit takes memory for its state, profile() for its text, and no
+// other call takes any.
 #ifndef MBRUMZHEG_HPP
 #define MBRUMZHEG_HPP
 
 #include <cstddef>
 #include <cstdint>
 #include <optional>
+#include <string>
 #include <string_view>
 #include <utility>
 #include <variant>
@@ -180,6 +182,21 @@ public:
         const auto terms = mbrumzheg_try_rule(numbers(), size(), number);
         if (terms.refusal != MBRUMZHEG_ACCEPTED) return detail::refused<Rule>(terms.refusal);
         return detail::rule(terms);
+    }
+
+    // The rules that are active as a profile's text, which arms another unit with the same rules, roots and numbers.
+    Result<std::string> profile() const {
+        std::string room(MBRUMZHEG_PROFILE_MOST, '\0');
+        const auto written = mbrumzheg_try_profile(numbers(), size(), room.data(), room.size());
+        if (written.refusal != MBRUMZHEG_ACCEPTED) return detail::refused<std::string>(written.refusal);
+        room.resize(written.size);
+        return room;
+    }
+    // The same into lent room, which keeps the text.
+    Result<std::string_view> profile(ProfileRoom& room) const {
+        const auto written = mbrumzheg_try_profile(numbers(), size(), room.data(), room.size());
+        if (written.refusal != MBRUMZHEG_ACCEPTED) return detail::refused<std::string_view>(written.refusal);
+        return std::string_view(room.data(), written.size);
     }
 
     // The numbers that the state is kept in, to be saved and adopted again.

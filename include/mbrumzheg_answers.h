@@ -1,6 +1,7 @@
 /* The calls of mbrumzheg.h with a struct as the answer, so that no row can be too short, and words for their numbers. Included by mbrumzheg.h.
  *
- * Each function here makes one call and gives its row names. After a refusal all other members are 0 (but for Arm's line). */
+ * Each function here makes one call and gives its row names. After a refusal all other members are 0 (but for Arm's line and the
+ * size that a profile takes). */
 #ifndef MBRUMZHEG_ANSWERS_H
 #define MBRUMZHEG_ANSWERS_H
 
@@ -67,6 +68,12 @@ struct mbrumzheg_rule_terms {
     uint64_t window;
     uint64_t root;
     uint64_t unit;
+};
+
+/* How many bytes of a profile were written; with MBRUMZHEG_NO_ROOM for a room that is short, how many it takes. */
+struct mbrumzheg_written {
+    enum mbrumzheg_refusal refusal;
+    size_t size;
 };
 
 /* The text of a rejection, here with a terminating 0, and its length without it. */
@@ -236,6 +243,16 @@ static inline struct mbrumzheg_rule_terms mbrumzheg_try_rule(const uint64_t *mem
     terms.root = row[MBRUMZHEG_ROW_RULE_ROOT];
     terms.unit = row[MBRUMZHEG_ROW_RULE_UNIT];
     return terms;
+}
+
+/* mbrumzheg_profile; the room may be any bytes, as those of a string */
+static inline struct mbrumzheg_written mbrumzheg_try_profile(const uint64_t *memory, size_t memory_len, void *room, size_t room_len) {
+    uint64_t row[MBRUMZHEG_ROW];
+    struct mbrumzheg_written written;
+    mbrumzheg_profile(memory, memory_len, MBRUMZHEG_AS(uint8_t *, room), room_len, row);
+    written.refusal = mbrumzheg_refusal_in(row);
+    written.size = MBRUMZHEG_AS(size_t, row[MBRUMZHEG_ROW_BYTES]);
+    return written;
 }
 
 /* mbrumzheg_text, into the answer itself */

@@ -94,6 +94,9 @@ struct Rule {
 
 using Record = std::array<std::uint8_t, MBRUMZHEG_RECORD_BYTES>;
 
+// Room that every profile written back fits into.
+using ProfileRoom = std::array<char, MBRUMZHEG_PROFILE_MOST>;
+
 // What a call answered, or why it was refused, for Arm with the first faulty line of the profile, from 1, or 0.
 template <class T>
 class [[nodiscard]] Result {

@@ -3,6 +3,15 @@
 use crate::explain::nearest;
 use crate::help;
 
+/// A file to write.
+#[derive(Clone, Debug, PartialEq, Eq)]
+pub struct Kept {
+    /// Its name.
+    pub file: String,
+    /// Whether one that is there already may be written over.
+    pub over: bool,
+}
+
 /// What the desk can be asked to do. Words that need the profile or the clock are kept as words.
 #[derive(Clone, Debug, PartialEq, Eq)]
 pub enum Command {
@@ -20,17 +29,14 @@ pub enum Command {
     Lock(Vec<String>),
     /// Show the rules with what is used and left.
     Remaining(Vec<String>),
+    /// Show the rules that are active as a profile's text, or write that to a file.
+    Profile(Option<Kept>),
     /// Show what is locked.
     Status,
     /// Forget everything.
     Clear,
     /// Write the day's records to a file.
-    Save {
-        /// The file to write.
-        file: String,
-        /// Whether a file that is there already may be written over.
-        over: bool,
-    },
+    Save(Kept),
     /// Pass the events of a file; `quiet` shows only what did not simply pass.
     Replay {
         /// The file of records.
@@ -67,9 +73,11 @@ pub fn read(line: &str) -> Result<Command, String> {
         "order" => Ok(Command::Order(words())),
         "lock" | "lockout" => Ok(Command::Lock(words())),
         "remaining" | "rules" => Ok(Command::Remaining(words())),
+        "profile" if rest.is_empty() => Ok(Command::Profile(None)),
+        "profile" => kept(rest, "profile").map(|kept| Command::Profile(Some(kept))),
         "status" => alone(rest, "status", Command::Status),
         "clear" => alone(rest, "clear", Command::Clear),
-        "save" => save(rest),
+        "save" => kept(rest, "save").map(Command::Save),
         "replay" => replay(rest),
         "report" => report(rest),
         "help" | "?" => Ok(Command::Help(Some(rest.to_string()).filter(|name| !name.is_empty()))),
@@ -98,10 +106,10 @@ fn replay(rest: &str) -> Result<Command, String> {
     Ok(Command::Replay { file, quiet })
 }
 
-fn save(rest: &str) -> Result<Command, String> {
+fn kept(rest: &str, command: &str) -> Result<Kept, String> {
     let (name, over) = with_last(rest, "over");
-    let file = file(name, "save FILE, or save FILE over to write over a file that is there")?;
-    Ok(Command::Save { file, over })
+    let form = format!("{command} FILE, or {command} FILE over to write over a file that is there");
+    file(name, &form).map(|file| Kept { file, over })
 }
 
 /// What stands before a last word, and whether that word is there.

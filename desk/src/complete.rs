@@ -13,7 +13,7 @@ pub fn candidates(before: &str, roots: &[String]) -> (usize, Vec<String>) {
         return (start, beginning(help::COMMANDS.iter().map(|topic| topic.name.to_string()), typed));
     };
     let command = command.to_ascii_lowercase();
-    if let ("arm" | "check" | "save" | "replay" | "report", []) = (command.as_str(), words) {
+    if let ("arm" | "check" | "profile" | "save" | "replay" | "report", []) = (command.as_str(), words) {
         return (start, files(typed));
     }
     (start, beginning(following(&command, words, roots).into_iter(), typed))
@@ -34,7 +34,7 @@ fn following(command: &str, words: &[&str], roots: &[String]) -> Vec<String> {
         ("lock" | "remaining", 0) => [levels(), all(&TIMES)].concat(),
         ("lock" | "remaining", 1) => levels(),
         ("replay", 1) => all(&["quiet"]),
-        ("save", 1) => all(&["over"]),
+        ("save" | "profile", 1) => all(&["over"]),
         ("report", 1) => all(&["from"]),
         ("report", 3) => all(&["to"]),
         _ => Vec::new(),
@@ -86,6 +86,9 @@ mod tests {
         assert_eq!(offered("help ref"), ["refusals"]);
         assert_eq!(offered("replay day.records q"), ["quiet"]);
         assert_eq!(offered("save day.records "), ["over"]);
+        assert_eq!(offered("prof"), ["profile"]);
+        assert_eq!(offered("help prof"), ["profile"]);
+        assert_eq!(offered("profile active "), ["over"]);
         assert_eq!(offered("xyz "), [""; 0]);
         assert_eq!(offered("offer 0ms é"), [""; 0]);
         assert_eq!(candidates("order now 7", &["7".to_string()]), (10, vec!["7".to_string()]));
@@ -96,6 +99,7 @@ mod tests {
         let here = env!("CARGO_MANIFEST_DIR");
         assert_eq!(offered(&format!("arm {here}/tests/scr")), [format!("{here}/tests/scripts.rs"), format!("{here}/tests/scripts/")]);
         assert_eq!(offered(&format!("check {here}/tests/scripts/faulty")), [format!("{here}/tests/scripts/faulty-profile")]);
+        assert_eq!(offered(&format!("profile {here}/tests/scripts/empty")), [format!("{here}/tests/scripts/empty-profile")]);
         assert_eq!(offered("save no/such/folder/"), [""; 0]);
     }
 }

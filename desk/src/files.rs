@@ -29,15 +29,27 @@ pub fn records(name: &str) -> Result<(Box<dyn Read>, Option<u64>), String> {
 
 /// Writes a day's records; a file that is there already stays as it is, unless `over` says that it may be written over.
 pub fn write_records(name: &str, day: &Spool, over: bool) -> Result<(), String> {
+    may_keep(name, "save", over)?;
+    let all = |to: &mut dyn Write| day.reader().and_then(|mut from| io::copy(&mut from, to)).map(drop);
+    whole(name, all).map_err(|error| cannot_write(name, &error))
+}
+
+/// Writes a profile's text; a file that is there already stays as it is, unless `over` says that it may be written over.
+pub fn write_profile(name: &str, text: &str, over: bool) -> Result<(), String> {
+    may_keep(name, "profile", over)?;
+    whole(name, |to| to.write_all(text.as_bytes())).map_err(|error| cannot_write(name, &error))
+}
+
+/// Whether a command may write to a file of this name.
+fn may_keep(name: &str, command: &str, over: bool) -> Result<(), String> {
     let there = std::fs::symlink_metadata(name);
     if there.as_ref().is_ok_and(|about| about.is_dir()) {
         return Err(cannot_write(name, &io::ErrorKind::IsADirectory.into()));
     }
     if !over && there.is_ok() {
-        return Err(format!("'{name}' is there already and is left alone; type save {name} over to write over it, or another name"));
+        return Err(format!("'{name}' is there already and is left alone; type {command} {name} over to write over it, or another name"));
     }
-    let all = |to: &mut dyn Write| day.reader().and_then(|mut from| io::copy(&mut from, to)).map(drop);
-    whole(name, all).map_err(|error| cannot_write(name, &error))
+    Ok(())
 }
 
 /// No report's beginning is longer.

@@ -27,7 +27,7 @@ pub const LOCK_FORM: &str = "lock [TIME] ROOT|firm";
 pub const REMAINING_FORM: &str = "remaining [TIME] [ROOT|firm]";
 
 /// The commands, in the order of the list.
-pub const COMMANDS: [Topic; 13] = [
+pub const COMMANDS: [Topic; 14] = [
     Topic {
         name: "arm",
         form: "arm FILE",
@@ -74,6 +74,15 @@ pub const COMMANDS: [Topic; 13] = [
         long: "Shows the rules, at the clock's time or a later one, of all, of one root or of the firm. In brackets is what the library's \
                Remaining answers: contracts, executions, or ten-thousandths of a dollar.",
         examples: &["remaining", "remaining +1s XYZ", "remaining firm"],
+    },
+    Topic {
+        name: "profile",
+        form: "profile [FILE [over]]",
+        short: "the rules that the unit runs, as a profile's text",
+        long: "Shows the active rules as the library writes them, or writes them to FILE: a line a rule, no leading zeros, windows as they take \
+               effect, no empty fields at the end. To arm with that text gives the same rules. A file that is there already is left alone, \
+               unless over is typed after its name.",
+        examples: &["profile", "profile active", "profile active over"],
     },
     Topic {
         name: "status",
@@ -181,16 +190,19 @@ pub fn on(name: &str) -> Option<String> {
     if name == "refusals" {
         return Some(refusals());
     }
-    let topic = COMMANDS.iter().chain(&OTHERS).find(|topic| topic.name == name)?;
-    let mut lines = vec![topic.form.to_string()];
-    lines.extend(wrapped(topic.long, WIDTH));
-    lines.extend(topic.examples.iter().map(|example| format!("    {example}")));
-    Some(lines.join("\n"))
+    let mut lines = Vec::new();
+    for topic in COMMANDS.iter().chain(&OTHERS).filter(|topic| topic.name == name) {
+        lines.push(topic.form.to_string());
+        lines.extend(wrapped(topic.long, WIDTH));
+        lines.extend(topic.examples.iter().map(|example| format!("    {example}")));
+    }
+    (!lines.is_empty()).then(|| lines.join("\n"))
 }
 
 /// Everything that help can be asked for.
 pub fn names() -> impl Iterator<Item = &'static str> {
-    COMMANDS.iter().chain(&OTHERS).map(|topic| topic.name).chain(["refusals"])
+    let others = OTHERS.iter().filter(|other| COMMANDS.iter().all(|command| command.name != other.name));
+    COMMANDS.iter().chain(others).map(|topic| topic.name).chain(["refusals"])
 }
 
 fn refusals() -> String {

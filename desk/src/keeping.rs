@@ -2,6 +2,7 @@
 
 use crate::answer;
 use crate::asked::Names;
+use crate::command::Kept;
 use crate::day::Day;
 use crate::desk::Desk;
 use crate::files;
@@ -60,9 +61,9 @@ impl Desk {
         Some(format!("{} {are} not saved: type save FILE, or {command} again to lose {them}", counted(lost, "event")))
     }
 
-    pub(crate) fn save(&mut self, file: &str, over: bool) -> Result<String, String> {
+    pub(crate) fn save(&mut self, Kept { file, over }: &Kept) -> Result<String, String> {
         let sitting = self.sitting()?;
-        files::write_records(file, &sitting.day, over)?;
+        files::write_records(file, &sitting.day, *over)?;
         sitting.unsaved = 0;
         let mut text = format!("saved {} to {file}", counted(sitting.day.records() as usize, "record"));
         if let Some(place) = sitting.day.filled().first() {
@@ -71,6 +72,19 @@ impl Desk {
             ));
         }
         Ok(text)
+    }
+
+    /// The rules that the unit runs, as a profile has them.
+    pub(crate) fn profile(&mut self) -> Result<String, String> {
+        let text = self.sitting()?.active()?;
+        Ok(text.trim_end().to_string())
+    }
+
+    /// Writes them to a file, which arms a unit with the same rules.
+    pub(crate) fn save_profile(&mut self, Kept { file, over }: &Kept) -> Result<String, String> {
+        let text = self.sitting()?.active()?;
+        files::write_profile(file, &text, *over)?;
+        Ok(format!("saved {} to {file}", counted(text.lines().count(), "rule")))
     }
 
     pub(crate) fn report(&mut self, file: &str, stretch: Option<(String, String)>) -> Result<String, String> {

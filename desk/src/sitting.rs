@@ -66,6 +66,11 @@ impl Sitting {
         Sitting { unit, profile, day: Spool::default(), place: 0, unsaved: 0, sources, standing, ledger }
     }
 
+    /// The rules that the unit runs as a profile's text, as the library writes it.
+    pub fn active(&self) -> Result<String, String> {
+        self.unit.profile().map_err(|refusal| refusal.to_string())
+    }
+
     /// Passes an event that was typed.
     pub fn pass(&mut self, event: Event) -> Passed {
         self.unsaved += 1;

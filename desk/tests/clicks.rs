@@ -64,6 +64,8 @@ fn by_clicks(name: &str, paper: &str) {
                 browser.click("#arm");
                 browser.wait("!document.querySelector('#work').hidden");
                 assert!(browser.text("#shown").starts_with(answer.as_str()), "{}", browser.text("#shown"));
+                browser.click("#active");
+                assert_eq!(downloaded(&browser, "active-profile"), profile.as_bytes(), "the profile is written as the library writes it");
             }
             "offer" | "order" | "lock" => {
                 clicked(&browser, line);
@@ -104,12 +106,17 @@ fn saved(browser: &Browser, place: &Path, turns: &[(String, String)]) {
     fs::write(own.join("script"), script).expect("written");
     let output = Command::new(env!("CARGO_BIN_EXE_desk")).arg("script").current_dir(&own).output().expect("the desk runs");
     assert!(output.status.success());
-    let file = browser.downloads().join("day.records");
+    assert_eq!(downloaded(browser, "day.records"), fs::read(own.join("day.records")).expect("saved"));
+}
+
+/// What the browser has saved under a name, once it is there.
+fn downloaded(browser: &Browser, name: &str) -> Vec<u8> {
+    let file = browser.downloads().join(name);
     let begun = std::time::Instant::now();
     while !file.exists() && begun.elapsed().as_secs() < 10 {
         std::thread::sleep(std::time::Duration::from_millis(20));
     }
-    assert_eq!(fs::read(file).expect("a download"), fs::read(own.join("day.records")).expect("saved"));
+    fs::read(file).expect("a download")
 }
 
 fn reported(browser: &Browser) {

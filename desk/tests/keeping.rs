@@ -38,6 +38,20 @@ impl Drop for Place {
 }
 
 #[test]
+fn a_profile_that_is_there_is_written_over_only_if_that_is_said() {
+    let place = Place::new("active");
+    let given = "ABCD,abs_vol,XYZ,0007,any";
+    fs::write(place.path("given"), given).expect("written");
+    let (said, ended) = place.run("arm @given\nlock 0ms XYZ\nprofile @given\nprofile @\n", Manner::Shown);
+    assert!(said.contains("'@given' is there already and is left alone; type profile @given over"), "{said}");
+    assert!(said.contains("(it is a folder)"), "{said}");
+    assert_eq!((fs::read_to_string(place.path("given")).expect("there").as_str(), ended.not_done), (given, 2));
+    let (said, ended) = place.run("arm @given\nlock 0ms XYZ\nprofile @given over\n", Manner::Shown);
+    assert!(said.contains("saved 1 rule to @given"), "{said}");
+    assert_eq!((fs::read_to_string(place.path("given")).expect("there").as_str(), ended.unsaved), ("ABCD,abs_vol,XYZ,7\n", 1));
+}
+
+#[test]
 fn a_file_that_is_there_is_written_over_only_if_that_is_said() {
     let place = Place::new("over");
     let typed = "arm @profile\nlock 0ms XYZ\n";

@@ -44,7 +44,7 @@ fn compare(name: &str) -> Output {
 
 #[test]
 fn scripts_print_what_is_expected() {
-    for name in ["example", "cuts", "trips", "locks", "replay", "help"] {
+    for name in ["example", "cuts", "trips", "locks", "replay", "active", "help"] {
         assert!(compare(name).status.success(), "{name}: every line was carried out");
     }
     for name in ["firm", "errors"] {
@@ -58,7 +58,7 @@ fn every_script_is_run() {
         let path = entry.as_ref().expect("a file").path();
         path.extension().is_some_and(|extension| extension == "desk")
     });
-    assert_eq!(scripts.count(), 8);
+    assert_eq!(scripts.count(), 9);
 }
 
 #[test]
@@ -77,6 +77,15 @@ fn saved_records_are_the_scope_papers() {
     let bytes = fs::read(place.join("example.records")).expect("records");
     assert_eq!(bytes.len(), 36);
     assert_eq!(bytes[12..24], [0x40, 0, 0, 0x50, 0, 0x01, 0x11, 0x70, 0, 0x0C, 0x80, 0]);
+    fs::remove_dir_all(place).expect("removed");
+}
+
+#[test]
+fn saved_profiles_are_what_the_unit_runs() {
+    let place = workplace("written");
+    desk(&place).arg("active.desk").output().expect("the desk runs");
+    let written = fs::read_to_string(place.join("written")).expect("a profile");
+    assert_eq!(written, "ABCD,rate_vol,XYZ,500,100\nABCD,abs_count,QQQ,10,,,P,F\nABCD,abs_ntnl,,100000,,T\n");
     fs::remove_dir_all(place).expect("removed");
 }
 

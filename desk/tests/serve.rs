@@ -116,11 +116,12 @@ fn bad_input_gets_an_error_and_nothing_is_lost() {
         answer.get("advice").text().to_string()
     };
     assert!(advice(post(&serving, "line", b"lock now firm")).contains("not armed"));
-    assert!(advice(post(&serving, "clear", b"")).contains("not armed"));
+    assert!(advice(post(&serving, "clear", b"")).contains("not armed") && get(&serving, "active-profile").0 == 409);
     assert!(advice(post(&serving, "back", b"")).contains("no day was cleared"));
     assert!(advice(post(&serving, "arm", b"ABCD,abs_volume,XYZ,5")).contains("the nearest is abs_vol"));
     assert_eq!(post(&serving, "arm?name=my%20profile", PROFILE.as_bytes()).0, 200);
     assert_eq!(state(&serving).get("profile").get("name").text(), "my profile");
+    assert_eq!(get(&serving, "active-profile"), (200, PROFILE.as_bytes().to_vec()));
     for line in ["offer 0ms XYZ call front 7.00 450", "order 10ms XYZ", "lock 20ms QQQ"] {
         assert_eq!(post(&serving, "line", line.as_bytes()).0, 200, "{line}");
     }
@@ -134,6 +135,7 @@ fn bad_input_gets_an_error_and_nothing_is_lost() {
         b"clear",
         b"arm profile",
         b"save x",
+        b"profile x",
         b"order 5ms",
         b"\xFF\xFE\x00",
         b"offer x XYZ put front 1 1",
@@ -226,6 +228,7 @@ fn random_requests_do_no_harm() {
         "log?to=3",
         "report.html",
         "day.records",
+        "active-profile",
         "nothing",
         "arm?name=%41%zz%",
     ];

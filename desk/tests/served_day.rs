@@ -97,3 +97,19 @@ fn what_was_replaced_is_no_source() {
     bench.go(3).expect("here");
     assert_eq!(sources(&bench), Some((vec![], 3)));
 }
+
+/// The page gives the rules that the unit runs, and a unit that is armed with them is the same.
+#[test]
+fn the_pages_active_rules_arm_the_same_unit() {
+    assert!(Bench::default().active().is_err(), "nothing is armed");
+    for seed in 0..60 {
+        let text = profile(&mut Dice::new(seed));
+        let mut bench = Bench::default();
+        bench.arm("profile", text.as_bytes()).expect("armed");
+        let written = bench.active().expect("a sound state");
+        assert_eq!(bench.line("profile"), Ok(Said::Words(written.trim_end().to_string())));
+        let again = Unit::new().arm(&written).unwrap_or_else(|refused| panic!("{refused}\n{written}"));
+        assert_eq!(again.memory(), Unit::new().arm(&text).expect("accepted").memory(), "{text}\n{written}");
+        assert_eq!(again.profile().as_ref(), Ok(&written));
+    }
+}

@@ -1,17 +1,17 @@
 //! The hand-written calls beside the pair: on every step of a day they have to answer as the library does and leave the same memory.
 
 use crate::hand;
-use crate::pair::{as_it_is, Pair};
+use crate::pair::{as_it_is, run_library, Pair};
 use crate::scripts::{Kind, Step};
 use crate::steps::Day;
 use crate::tally::Tally;
 use crate::Row;
 
 /// Changes what the hand-written calls answered or left: a wrong version of them, for trying the check itself.
-pub type Slip = fn(&Step, &mut [u64], &mut Row);
+pub type Slip = fn(&Step, &mut [u64], &mut Row, &mut [u8]);
 
 /// The hand-written calls as they are.
-pub fn no_slip(_: &Step, _: &mut [u64], _: &mut Row) {}
+pub fn no_slip(_: &Step, _: &mut [u64], _: &mut Row, _: &mut [u8]) {}
 
 /// Runs so many days from a seed; gives what came up, or the first step on which the hand-written calls differ.
 pub fn days(count: u64, seed: u64, slip: Slip) -> Result<Tally, String> {
@@ -38,15 +38,15 @@ fn run_day(seed: u64, slip: Slip, tally: &mut Tally) -> Result<(), String> {
     Ok(())
 }
 
-/// Runs a call by hand on the memory as it was, and compares the answer and every number after.
+/// Runs a call by hand on the memory as it was, and compares the answer, every number after and the room.
 fn compare(step: &Step, row: Row, mut memory: Vec<u64>, length: usize, after: &[u64], slip: Slip) -> Result<(), String> {
-    let mut rooms = [(); 2].map(|_| vec![0xA5; step.numbers[1].min(64) as usize]);
+    let mut rooms = [step.room(), step.room()];
     let [own_room, library_room] = &mut rooms;
-    let mut own = run_hand(step, &mut memory[..length], own_room);
-    slip(step, &mut memory, &mut own);
-    if step.kind == Kind::Text {
-        crate::text(step.numbers[0], library_room);
+    if !library_room.is_empty() {
+        run_library(step, &mut memory.clone()[..length], library_room);
     }
+    let mut own = run_hand(step, &mut memory[..length], own_room);
+    slip(step, &mut memory, &mut own, own_room);
     if own != row {
         return Err(format!("{step}: the library answers {row:?}, the hand-written call {own:?}"));
     }
@@ -54,7 +54,8 @@ fn compare(step: &Step, row: Row, mut memory: Vec<u64>, length: usize, after: &[
         return Err(format!("{step}: in number {place} the library leaves {}, the hand-written call {}", after[place], memory[place]));
     }
     if rooms[0] != rooms[1] {
-        return Err(format!("{step}: the rooms differ: {rooms:?}"));
+        let [own_room, library_room] = rooms.map(|room| room.escape_ascii().to_string());
+        return Err(format!("{step}: in the room the library leaves {library_room}, the hand-written call {own_room}"));
     }
     Ok(())
 }
@@ -71,6 +72,7 @@ pub fn run_hand(step: &Step, m: &mut [u64], room: &mut [u8]) -> Row {
         Kind::Remaining => hand::remaining(m, a, b),
         Kind::Status => hand::status(m),
         Kind::Text => hand::text(a, room),
+        Kind::Profile => hand::profile(m, room),
         Kind::Length | Kind::Damage => unreachable!("no call"),
     }
 }

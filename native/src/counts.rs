@@ -10,32 +10,35 @@ use crate::lines::{lines, Line};
 use crate::measure::pass;
 use crate::pair::run_library;
 
+/// Runs a line's call on a memory and a room.
+type Who = fn(&Line, &mut [u64], &mut [u8]);
+
 /// What is counted on each line.
-const WHO: [fn(&Line, &mut [u64]); 4] = [nothing, plain_pass, library, hand];
+const WHO: [Who; 4] = [nothing, plain_pass, library, hand];
 /// How many calls are counted for each.
 const CALLS: u64 = 20;
 
-fn nothing(line: &Line, _: &mut [u64]) {
+fn nothing(line: &Line, _: &mut [u64], _: &mut [u8]) {
     black_box(&line.call);
 }
 
-fn plain_pass(_: &Line, m: &mut [u64]) {
+fn plain_pass(_: &Line, m: &mut [u64], _: &mut [u8]) {
     black_box(pass(m));
 }
 
-fn library(line: &Line, m: &mut [u64]) {
-    black_box(run_library(black_box(&line.call), m, &mut []));
+fn library(line: &Line, m: &mut [u64], room: &mut [u8]) {
+    black_box(run_library(black_box(&line.call), m, room));
 }
 
-fn hand(line: &Line, m: &mut [u64]) {
-    black_box(run_hand(black_box(&line.call), m, &mut []));
+fn hand(line: &Line, m: &mut [u64], room: &mut [u8]) {
+    black_box(run_hand(black_box(&line.call), m, room));
 }
 
 /// The function whose instructions are counted.
 #[no_mangle]
 #[inline(never)]
-pub extern "C" fn mbrumzheg_counted(who: usize, line: &Line, m: &mut Vec<u64>) {
-    WHO[who](line, m);
+pub extern "C" fn mbrumzheg_counted(who: usize, line: &Line, m: &mut Vec<u64>, room: &mut Vec<u8>) {
+    WHO[who](line, m, room);
 }
 
 /// The function after which the count so far is written down.
@@ -49,10 +52,10 @@ pub extern "C" fn mbrumzheg_counted_all(who: usize) {
 pub fn run_counted() {
     for line in lines() {
         for who in 0..WHO.len() {
-            let mut m = line.state.clone();
+            let (mut m, mut room) = (line.state.clone(), line.call.room());
             for _ in 0..CALLS {
                 m.copy_from_slice(&line.state);
-                mbrumzheg_counted(black_box(who), &line, black_box(&mut m));
+                mbrumzheg_counted(black_box(who), &line, black_box(&mut m), black_box(&mut room));
             }
             mbrumzheg_counted_all(black_box(who));
         }

@@ -4,9 +4,11 @@
 mod counted;
 mod map;
 mod profile;
+mod profile_out;
 mod records;
 mod sound;
 
+pub use profile_out::profile;
 pub use records::{read_record, write_record};
 
 use counted::{counted_by, Covering, Cuts, Offer};

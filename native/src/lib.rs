@@ -17,7 +17,7 @@ pub mod shrink;
 pub mod steps;
 pub mod tally;
 
-pub use mbrumzheg::raw::{arm, clear, lockout, offer, order, remaining, status, text, write_record, Row, SIZE};
+pub use mbrumzheg::raw::{arm, clear, lockout, offer, order, profile, remaining, status, text, write_record, Row, SIZE};
 
 /// An event record read: the refusal, then kind, time, root, unit, premium, contracts, reset and level.
 #[inline]

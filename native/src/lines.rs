@@ -21,19 +21,22 @@ impl Line {
         let (mut state, mut unit) = (vec![0; SIZE], Unit::new());
         for step in before {
             let row = run_library(step, &mut state, &mut []);
-            assert_eq!((row[0], run_unit(step, &mut unit)), (0, row), "{name}: {step}");
+            assert_eq!((row[0], run_unit(step, &mut unit, &mut [])), (0, row), "{name}: {step}");
         }
         let line = Line { name, call, state, unit };
         line.check();
         line
     }
 
-    /// All three answer alike, none refuses, and by hand the memory is left as by the library.
+    /// All three answer alike and leave the same room, none refuses, and by hand the memory is left as by the library.
     fn check(&self) {
         let (mut one, mut other, mut unit) = (self.state.clone(), self.state.clone(), self.unit.clone());
-        let row = run_library(&self.call, &mut one, &mut []);
-        assert_eq!((row[0], run_hand(&self.call, &mut other, &mut [])), (0, row), "{}", self.name);
-        assert_eq!((run_unit(&self.call, &mut unit), one), (row, other), "{}", self.name);
+        let mut rooms = [(); 3].map(|_| self.call.room());
+        let [library_room, hand_room, second_room] = &mut rooms;
+        let row = run_library(&self.call, &mut one, library_room);
+        assert_eq!((row[0], run_hand(&self.call, &mut other, hand_room)), (0, row), "{}", self.name);
+        assert_eq!((run_unit(&self.call, &mut unit, second_room), one), (row, other), "{}", self.name);
+        assert!(rooms[0] == rooms[1] && rooms[0] == rooms[2], "{}", self.name);
     }
 
     /// Is it a call on a state, which has to be tested?
@@ -43,7 +46,7 @@ impl Line {
 }
 
 /// Runs a call on the second program's own state.
-pub fn run_unit(step: &Step, unit: &mut Unit) -> Row {
+pub fn run_unit(step: &Step, unit: &mut Unit, room: &mut [u8]) -> Row {
     let [a, b, c, d, e] = step.numbers;
     let first = |numbers: &[u64]| {
         let mut row = [0; 5];
@@ -58,7 +61,8 @@ pub fn run_unit(step: &Step, unit: &mut Unit) -> Row {
         Kind::Offer => unit.offer(a, b, c, d, e).numbers(),
         Kind::Remaining => first(&unit.remaining(a, b).numbers()),
         Kind::Status => unit.status().numbers(),
-        Kind::Text => first(&unit::text(a, &mut [0; 20]).numbers()),
+        Kind::Text => first(&unit::text(a, room).numbers()),
+        Kind::Profile => first(&unit.profile(room).numbers()),
         Kind::Length | Kind::Damage => unreachable!("no call"),
     }
 }
@@ -179,7 +183,18 @@ fn arms() -> Vec<Line> {
     [1, 32, 256].map(arm).into_iter().chain([clear]).collect()
 }
 
+/// Profiles out, by lines, into just enough room.
+fn profiles_out() -> Vec<Line> {
+    let out = |(lines, profile): (usize, Vec<u8>)| {
+        let mut unit = Unit::new();
+        unit.arm(&profile);
+        let size = unit.profile(&mut []).size;
+        Line::new(format!("Profile, {lines} lines"), &[Step::arm(profile)], Step::new(Kind::Profile, &[size]))
+    };
+    [(6, rates(3, 3)), (256, long(256))].map(out).into()
+}
+
 /// All lines.
 pub fn lines() -> Vec<Line> {
-    small().into_iter().chain(offers()).chain(arms()).collect()
+    small().into_iter().chain(offers()).chain(arms()).chain(profiles_out()).collect()
 }

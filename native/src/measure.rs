@@ -33,7 +33,7 @@ pub struct Times {
 }
 
 /// The average nanoseconds of a call, each after something that is not timed.
-fn round<T>(kept: &mut T, before: impl Fn(&mut T), call: impl Fn(&mut T)) -> f64 {
+fn round<T>(kept: &mut T, before: impl Fn(&mut T), mut call: impl FnMut(&mut T)) -> f64 {
     let mut spent = Duration::ZERO;
     for _ in 0..CALLS {
         before(kept);
@@ -59,10 +59,10 @@ impl Default for Least {
 impl Least {
     /// Measures a line for so long: rounds take turns, so that what disturbs one disturbs all.
     pub fn measure(&mut self, line: &Line, time: Duration) {
-        let (mut m, mut unit, start) = (line.state.clone(), line.unit.clone(), Instant::now());
-        let mut rounds = 0;
+        let (mut m, mut unit, mut room) = (line.state.clone(), line.unit.clone(), line.call.room());
+        let (mut rounds, start) = (0, Instant::now());
         while rounds < ROUNDS || start.elapsed() < time {
-            let turn = turn(line, &mut m, &mut unit);
+            let turn = turn(line, &mut m, &mut unit, &mut room);
             self.0.iter_mut().zip(turn).for_each(|(least, time)| *least = least.min(time));
             rounds += 1;
         }
@@ -76,7 +76,7 @@ impl Least {
 }
 
 /// One round of each.
-fn turn(line: &Line, m: &mut Vec<u64>, unit: &mut Unit) -> [f64; 6] {
+fn turn(line: &Line, m: &mut Vec<u64>, unit: &mut Unit, room: &mut [u8]) -> [f64; 6] {
     let restore = |m: &mut Vec<u64>| m.copy_from_slice(&line.state);
     let status = Step::new(Kind::Status, &[]);
     [
@@ -85,16 +85,16 @@ fn turn(line: &Line, m: &mut Vec<u64>, unit: &mut Unit) -> [f64; 6] {
             black_box(pass(m));
         }),
         round(m, restore, |m| {
-            black_box(run_library(black_box(&line.call), m, &mut []));
+            black_box(run_library(black_box(&line.call), m, black_box(&mut *room)));
         }),
         round(m, restore, |m| {
-            black_box(run_hand(black_box(&line.call), m, &mut []));
+            black_box(run_hand(black_box(&line.call), m, black_box(&mut *room)));
         }),
         round(
             unit,
             |unit| unit.clone_from(&line.unit),
             |unit| {
-                black_box(run_unit(black_box(&line.call), unit));
+                black_box(run_unit(black_box(&line.call), unit, black_box(&mut *room)));
             },
         ),
         round(m, restore, |m| {

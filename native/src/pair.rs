@@ -10,14 +10,13 @@ use crate::scripts::{Kind, Step};
 use crate::SIZE;
 
 /// Changes what the second program answered or left: a wrong version of it, for trying the comparison itself.
-pub type Twist = fn(&Step, &mut Lent, &mut Row);
+pub type Twist = fn(&Step, &mut Lent, &mut Row, &mut [u8]);
 
 /// The second program as it is.
-pub fn as_it_is(_: &Step, _: &mut Lent, _: &mut Row) {}
+pub fn as_it_is(_: &Step, _: &mut Lent, _: &mut Row, _: &mut [u8]) {}
 
-/// The most numbers that are lent here, and the largest room of a text.
+/// The most numbers that are lent here.
 const MOST_LENT: u64 = 200_000;
-const MOST_ROOM: u64 = 1_000;
 
 /// Where the two differ after a step.
 #[derive(Clone, Debug, PartialEq, Eq)]
@@ -92,15 +91,12 @@ impl Pair {
             }
             _ => {}
         }
-        let mut rooms = [Vec::new(), Vec::new()];
-        if step.kind == Kind::Text {
-            rooms = [(); 2].map(|_| (0..number.min(MOST_ROOM)).map(|place| place as u8 ^ 0xA5).collect());
-        }
+        let mut rooms = [step.room(), step.room()];
         let [library_room, second_room] = &mut rooms;
         let library = run_library(step, &mut self.memory[..self.second.length()], library_room);
         let answered = catch_unwind(AssertUnwindSafe(|| run_second(step, &mut self.second, second_room)));
         let Ok(mut second) = answered else { return Err(Difference::Panic { library }) };
-        (self.twist)(step, &mut self.second, &mut second);
+        (self.twist)(step, &mut self.second, &mut second, &mut rooms[1]);
         self.compare(library, second, rooms)
     }
 
@@ -143,6 +139,7 @@ pub fn run_library(step: &Step, m: &mut [u64], room: &mut [u8]) -> Row {
         Kind::Remaining => crate::remaining(m, a, b),
         Kind::Status => crate::status(m),
         Kind::Text => crate::text(a, room),
+        Kind::Profile => crate::profile(m, room),
         Kind::Length | Kind::Damage => unreachable!("no call"),
     }
 }
@@ -160,6 +157,7 @@ fn run_second(step: &Step, second: &mut Lent, room: &mut [u8]) -> Row {
         Kind::Remaining => second.ask(|unit| two(unit.remaining(a, b).numbers())),
         Kind::Status => second.ask(|unit| unit.status().numbers()),
         Kind::Text => two(unit::text(a, room).numbers()),
+        Kind::Profile => second.ask(|unit| two(unit.profile(room).numbers())),
         Kind::Length | Kind::Damage => unreachable!("no call"),
     }
 }

@@ -16,11 +16,12 @@ pub enum Kind {
     Remaining,
     Status,
     Text,
+    Profile,
 }
 
 /// Each kind with its word and how many numbers follow it: the length; place and number; none (Arm has a text instead); none; time, root and
-/// reset; time, level and root; time, root, unit, premium and contracts; time and rule; none; verdict and room.
-const WORDS: [(&str, Kind, usize); 10] = [
+/// reset; time, level and root; time, root, unit, premium and contracts; time and rule; none; verdict and room; room.
+const WORDS: [(&str, Kind, usize); 11] = [
     ("length", Kind::Length, 1),
     ("damage", Kind::Damage, 2),
     ("arm", Kind::Arm, 0),
@@ -31,7 +32,11 @@ const WORDS: [(&str, Kind, usize); 10] = [
     ("remaining", Kind::Remaining, 2),
     ("status", Kind::Status, 0),
     ("text", Kind::Text, 2),
+    ("profile", Kind::Profile, 1),
 ];
+
+/// The most bytes of room: as long as a profile may be.
+const MOST_ROOM: u64 = 65_536;
 
 /// One step of a script.
 #[derive(Clone, Debug, PartialEq, Eq)]
@@ -59,6 +64,16 @@ impl Step {
     /// Is it a call, and not a change of the memory from outside?
     pub fn is_call(&self) -> bool {
         !matches!(self.kind, Kind::Length | Kind::Damage)
+    }
+
+    /// A room as the call is lent one, no two neighbours of its bytes alike; empty for a call that writes no text.
+    pub fn room(&self) -> Vec<u8> {
+        let bytes = match self.kind {
+            Kind::Text => self.numbers[1],
+            Kind::Profile => self.numbers[0],
+            _ => 0,
+        };
+        (0..bytes.min(MOST_ROOM)).map(|place| place as u8 ^ 0xA5).collect()
     }
 
     /// The kind's own numbers.

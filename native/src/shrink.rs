@@ -2,6 +2,7 @@
 
 use std::time::{Duration, Instant};
 
+use crate::pair::{as_it_is, Pair};
 use crate::scripts::{Kind, Step};
 
 /// How long a script may be worked on.
@@ -11,6 +12,40 @@ const PATIENCE: Duration = Duration::from_secs(120);
 pub fn shrink(mut script: Vec<Step>, mut differs: impl FnMut(&[Step]) -> Option<usize>) -> Vec<Step> {
     let end = Instant::now() + PATIENCE;
     let mut keeps = |script: &[Step]| if Instant::now() < end { differs(script) } else { None };
+    if let Some(spare) = spare_room(&script) {
+        let shorter = shorten(script, &mut |script| keeps(&with_spare_room(script, spare)));
+        script = with_spare_room(&shorter, spare);
+    }
+    shorten(script, &mut keeps)
+}
+
+/// How many bytes the text needs that a profile out writes after these steps.
+fn size_after(steps: &[Step]) -> u64 {
+    let mut pair = Pair::new(as_it_is);
+    for step in steps {
+        // a difference was seen before, and the state of the second program is enough here
+        drop(pair.step(step));
+    }
+    pair.second().unit().profile(&mut []).size
+}
+
+/// How much more room than it needs a profile out at the end of a script has, below 0 if less; none at another end.
+fn spare_room(script: &[Step]) -> Option<i64> {
+    let (last, before) = script.split_last()?;
+    (last.kind == Kind::Profile).then(|| last.numbers[0].wrapping_sub(size_after(before)) as i64)
+}
+
+/// The script with so much more room than it needs for a profile out at its end: a shorter text then leaves as much.
+fn with_spare_room(script: &[Step], spare: i64) -> Vec<Step> {
+    let mut script = script.to_vec();
+    if let Some((last, before)) = script.split_last_mut().filter(|(last, _)| last.kind == Kind::Profile) {
+        last.numbers[0] = size_after(before).saturating_add_signed(spare);
+    }
+    script
+}
+
+/// Shortens the script while `keeps` gives the place of a step that shows what is wanted.
+fn shorten(mut script: Vec<Step>, keeps: &mut dyn FnMut(&[Step]) -> Option<usize>) -> Vec<Step> {
     loop {
         let before = script.clone();
         if let Some(place) = keeps(&script) {

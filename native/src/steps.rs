@@ -53,16 +53,21 @@ impl Day {
         day
     }
 
-    /// Arms with wide limits, and fills the log or leaves a place or two.
+    /// Arms with wide limits, and fills the log or leaves a place or two; often the next offers come before the oldest entry leaves, and then.
     fn fill_the_log(&mut self) {
         let [window, other] = [(); 2].map(|_| self.random.pick(&[100, 101, 1_000, 60_000, 600_000, 86_400_000]));
         let count = self.random.pick(&[511, 512, 513, 1_000_000_000]);
         let profile = format!("FULL,rate_vol,X,1000000000,{window}\nFULL,rate_count,,{count},{other},T\nFULL,abs_vol,Y,600,,,C,F");
         self.queue.push_back(Step::arm(profile.into_bytes()));
         let mut time = self.random.below(1_000);
+        let leaves = time + window.max(other);
         for _ in 0..self.random.between(509, 514) {
-            time += u64::from(self.random.once_in(20));
             self.queue.push_back(Step::new(Kind::Offer, &[time, self.random.below(2), self.random.below(4), 1, 1]));
+            time += u64::from(self.random.once_in(20));
+        }
+        if !self.random.once_in(3) {
+            let times = [leaves - 1, leaves + self.random.below(2)];
+            self.queue.extend(times.map(|time| Step::new(Kind::Offer, &[time, 0, 0, 1, 1])));
         }
     }
 
@@ -110,7 +115,15 @@ impl Day {
             Call::Remaining { time, rule } => Step::new(Kind::Remaining, &[time, rule]),
             Call::Status => Step::new(Kind::Status, &[]),
             Call::Text { verdict, room } => Step::new(Kind::Text, &[verdict, room]),
+            Call::Profile { room } => Step::new(Kind::Profile, &[room]),
         }
+    }
+
+    /// A profile out: room for it to the byte, for one byte less or more, for any part of it, for more, or none.
+    fn profile(&mut self, second: &mut Lent) -> Step {
+        let size = second.unit().profile(&mut []).size;
+        let [part, more] = [self.random.below(size.max(1)), size + self.random.between(2, 300)];
+        Step::new(Kind::Profile, &[self.random.pick(&[0, part, size.saturating_sub(1), size, size, size + 1, more])])
     }
 
     /// An offer on a full log at the time at which its oldest entry leaves, or one millisecond beside it; other calls as they are.
@@ -150,16 +163,22 @@ impl Day {
             let step = self.usual(second);
             self.queue.extend([step, Step::new(kind, &[])]);
         }
+        let profile = self.profile(second);
+        self.queue.push_back(profile);
         self.queue.push_back(Step::arm(gen::profile(self.random.number())));
         self.queue.push_back(Step::new(Kind::Length, &[size + self.random.pick(&[0, 0, 1, 1, 7, 100])]));
     }
 
-    /// Damages the state and looks at it; what takes the damage back is kept.
+    /// Damages the state and looks at it, at its rules too at times; what takes the damage back is kept.
     fn damage(&mut self, second: &mut Lent) {
         for (place, number) in damage(&mut self.random, second) {
             self.queue.push_back(Step::new(Kind::Damage, &[place as u64, number]));
             self.repair.push(Step::new(Kind::Damage, &[place as u64, second.numbers()[place]]));
         }
         self.queue.push_back(Step::new(Kind::Status, &[]));
+        if self.random.once_in(2) {
+            let profile = self.profile(second);
+            self.queue.push_back(profile);
+        }
     }
 }

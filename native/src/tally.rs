@@ -9,8 +9,8 @@ use crate::scripts::{Kind, Step};
 use crate::SIZE;
 
 /// What has to come up at least once, beside each refusal from 1 to 15, in groups that are printed a line each.
-const WANTED: [(&str, &[&str]); 10] = [
-    ("calls", &["arm", "clear", "order", "lockout", "offer", "remaining", "status", "text"]),
+const WANTED: [(&str, &[&str]); 11] = [
+    ("calls", &["arm", "clear", "order", "lockout", "offer", "remaining", "status", "text", "profile"]),
     ("offers", &["granted whole", "cut above 0", "cut to 0", "under a locked firm", "under a locked root"]),
     ("trips", &["of a root", "of the firm", "of both", "of an absolute rule just reached"]),
     ("resets", &["none", "SYMBOL", "FIRM", "BOTH"]),
@@ -20,6 +20,7 @@ const WANTED: [(&str, &[&str]); 10] = [
     ("damaged states", &["sound", "unsound", "with mark 0", "taken back"]),
     ("offers on a full log when the oldest entry", &["left 1 ms ago", "leaves", "leaves in 1 ms"]),
     ("lent numbers", &["0", "1", "1865", "other short", "1866", "1867", "more"]),
+    ("profiles out", &["into just enough room", "into more", "room one byte short", "shorter", "short memory", "not armed", "unsound"]),
 ];
 /// The groups by their places.
 const CALLS: usize = 0;
@@ -32,6 +33,7 @@ const PROFILES: usize = 6;
 const DAMAGED: usize = 7;
 const OLDEST: usize = 8;
 const LENT: usize = 9;
+const OUT: usize = 10;
 
 /// Counts of what came up.
 #[derive(Default)]
@@ -40,7 +42,7 @@ pub struct Tally {
     refusals: [u64; 16],
     /// Offers that left a log of 512 entries.
     full_logs: u64,
-    seen: [[u64; 8]; WANTED.len()],
+    seen: [[u64; 9]; WANTED.len()],
     /// Was a number changed from outside since the last call, and was the state unsound before?
     damaged: Option<bool>,
 }
@@ -86,6 +88,7 @@ impl Tally {
         self.refusals[row[0] as usize] += 1;
         self.see(CALLS, step.kind as usize - Kind::Arm as usize);
         match step.kind {
+            Kind::Profile => self.see(OUT, out_place(step.numbers[0], row)),
             _ if row[0] != 0 => {}
             Kind::Arm => self.see_profile(second),
             Kind::Order => self.see(RESETS, step.numbers[2] as usize),
@@ -165,6 +168,17 @@ fn lent_place(length: usize) -> usize {
         length if length + 1 == SIZE => 2,
         length if length < SIZE => 3,
         length => 4 + (length - SIZE).min(2),
+    }
+}
+
+/// The place of a profile out in its group, by its room and row.
+fn out_place(room: u64, [refusal, size, ..]: Row) -> usize {
+    match refusal {
+        0 => usize::from(room > size),
+        1 if size == 0 => 4,
+        1 => 2 + usize::from(room + 1 < size),
+        4 => 5,
+        _ => 6,
     }
 }
 

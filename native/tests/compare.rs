@@ -55,6 +55,7 @@ fn each_single_bit_of_a_state_is_judged_alike() {
             agree(&mut pair, Step::new(Kind::Damage, &[place, number ^ 1 << bit]));
             refused += u64::from(agree(&mut pair, Step::new(Kind::Status, &[]))[0] == 2);
             agree(&mut pair, Step::new(Kind::Order, &[u64::MAX, 0, 0]));
+            agree(&mut pair, Step::new(Kind::Profile, &[200]));
             agree(&mut pair, Step::new(Kind::Damage, &[place, number]));
         }
     }
@@ -91,6 +92,7 @@ fn any_length_and_any_filling_is_answered() {
         let arming = if refusal == 1 { 1 } else { 3 };
         assert_eq!(agree(&mut pair, Step::new(Kind::Status, &[]))[0], refusal);
         assert_eq!(agree(&mut pair, profile())[0], arming);
+        assert_eq!(agree(&mut pair, Step::new(Kind::Profile, &[200]))[0], refusal);
         for place in 0..length {
             agree(&mut pair, Step::new(Kind::Damage, &[place, u64::MAX]));
         }

@@ -3,7 +3,8 @@
 use native::beside::{days, no_slip, Slip};
 use native::profiles::clashing;
 use native::records::{compare, Records};
-use native::{arm, hand, offer, order, status, SIZE};
+use native::scripts::Kind;
+use native::{arm, hand, offer, order, profile, status, SIZE};
 use second::gen::{self, Random};
 use second::place::CLOCK;
 
@@ -22,19 +23,24 @@ const CALLS: u64 = 200_000;
 
 #[test]
 fn slips_are_found() {
-    let slips: [Slip; 4] = [
-        |_, _, row| row[2] -= u64::from(row[2] > 1_000),
-        |step, m, row| {
+    let slips: [Slip; 5] = [
+        |_, _, row, _| row[2] -= u64::from(row[2] > 1_000),
+        |step, m, row, _| {
             if row[0] == 0 && step.numbers[2] == 1 && m.len() >= SIZE {
                 m[SIZE - 1] |= 1
             }
         },
-        |_, m, row| {
+        |_, m, row, _| {
             if row[0] == 15 {
                 m[CLOCK] += 1
             }
         },
-        |_, _, row| row[0] = if row[0] == 2 { 0 } else { row[0] },
+        |_, _, row, _| row[0] = if row[0] == 2 { 0 } else { row[0] },
+        |step, _, row, room| {
+            if let (Kind::Profile, Some(past)) = (step.kind, room.get_mut(row[1] as usize)) {
+                *past = b'\n'
+            }
+        },
     ];
     for slip in slips {
         assert!(days(DAYS, SEED, slip).is_err());
@@ -62,6 +68,9 @@ fn each_single_bit_of_a_state_is_judged_alike_by_hand() {
             let row = status(&m);
             assert_eq!(hand::status(&m), row, "bit {bit} of number {place}");
             refused += u64::from(row[0] == 2);
+            let mut rooms = [[0xA5; 300]; 2];
+            assert_eq!(profile(&m, &mut rooms[0]), hand::profile(&m, &mut rooms[1]), "bit {bit} of number {place}");
+            assert_eq!(rooms[0], rooms[1], "bit {bit} of number {place}");
             let (mut one, mut other) = (m.clone(), m.clone());
             assert_eq!(order(&mut one, 1_000, 0, bit & 3), hand::order(&mut other, 1_000, 0, bit & 3));
             assert_eq!(one, other, "bit {bit} of number {place}");

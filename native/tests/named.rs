@@ -48,9 +48,9 @@ impl Both {
 }
 
 /// Good calls of each kind but Arm, Clear and Text.
-const GOOD: [&str; 5] = ["order 50 0 0", "lockout 50 0 0", "offer 50 0 0 1 1", "remaining 50 0", "status"];
+const GOOD: [&str; 6] = ["order 50 0 0", "lockout 50 0 0", "offer 50 0 0 1 1", "remaining 50 0", "status", "profile 14"];
 /// The same with every number wrong.
-const BAD: [&str; 4] = ["order 86400000 64 4", "lockout 86400000 2 64", "offer 86400000 64 4 0 0", "remaining 86400000 256"];
+const BAD: [&str; 5] = ["order 86400000 64 4", "lockout 86400000 2 64", "offer 86400000 64 4 0 0", "remaining 86400000 256", "profile 0"];
 
 #[test]
 fn refusal_1_short_memory_and_short_room() {
@@ -62,6 +62,8 @@ fn refusal_1_short_memory_and_short_room() {
         }
     }
     Both::new().refuses(1, &["text 1 19", "text 2 19", "text 1 0", "text 2 1"]);
+    let mut both = Both::armed("A,abs_vol,Q,005");
+    both.says("profile 13", &[1, 14]).says("profile 0", &[1, 14]).says("profile 14", &[0, 14]).says("profile 65536", &[0, 14]);
 }
 
 #[test]

@@ -22,7 +22,7 @@ fn found(twist: Twist) -> (String, Difference) {
 }
 
 /// Grants one contract too many where a firm rule cuts.
-fn grants_too_much(step: &Step, _: &mut Lent, row: &mut Row) {
+fn grants_too_much(step: &Step, _: &mut Lent, row: &mut Row, _: &mut [u8]) {
     if step.kind == Kind::Offer && row[4] == 1 && row[2] > 0 && row[2] < step.numbers[4] {
         row[2] += 1;
     }
@@ -40,7 +40,7 @@ fn a_wrong_grant_is_found_and_made_short() {
 }
 
 /// Leaves the clock one too late after a reset of both levels past the first second.
-fn moves_the_clock(step: &Step, second: &mut Lent, row: &mut Row) {
+fn moves_the_clock(step: &Step, second: &mut Lent, row: &mut Row, _: &mut [u8]) {
     if step.kind == Kind::Order && row[0] == 0 && step.numbers[2] == 3 && step.numbers[0] > 1_000 {
         second.numbers_mut()[CLOCK] += 1;
     }
@@ -56,7 +56,7 @@ fn a_wrong_number_in_memory_is_found_and_made_short() {
 }
 
 /// Counts a fill of one millisecond too long ago in Remaining.
-fn counts_too_long(step: &Step, second: &mut Lent, row: &mut Row) {
+fn counts_too_long(step: &Step, second: &mut Lent, row: &mut Row, _: &mut [u8]) {
     let [time, rule, ..] = step.numbers;
     let Some(armed) = &second.unit().armed else { return };
     let window = armed.profile.rules.get(rule as usize).and_then(|rule| rule.window);
@@ -76,7 +76,7 @@ fn times_that_hang_together_are_lowered_together() {
 }
 
 /// Takes a state whose firm mark is 2 for a sound one.
-fn overlooks_a_mark(step: &Step, second: &mut Lent, row: &mut Row) {
+fn overlooks_a_mark(step: &Step, second: &mut Lent, row: &mut Row, _: &mut [u8]) {
     if step.kind == Kind::Status && row[0] == 2 && second.numbers()[FIRM_TRIPPED] == 2 {
         row[0] = 0;
     }
@@ -91,14 +91,48 @@ fn a_wrong_judgement_of_damage_is_found_and_made_short() {
     assert_eq!(*lines.last().expect("a step"), "status");
 }
 
+/// Leaves a zero after the text of a profile out.
+fn ends_the_text_with_zero(step: &Step, _: &mut Lent, row: &mut Row, room: &mut [u8]) {
+    if let (Kind::Profile, 0, Some(past)) = (step.kind, row[0], room.get_mut(row[1] as usize)) {
+        *past = 0;
+    }
+}
+
+#[test]
+fn a_wrong_byte_past_a_text_is_found_and_made_short() {
+    let (text, difference) = found(ends_the_text_with_zero);
+    let Difference::Room { library, second } = difference else { panic!("{difference}") };
+    assert!(library[..library.len() - 1] == second[..library.len() - 1] && second.last() == Some(&0), "{text}");
+    let lines: Vec<&str> = text.lines().collect();
+    assert!(lines.len() == 2 && lines[0].starts_with("arm ") && lines[0].len() < 30, "{text}");
+    assert_eq!(lines[1], format!("profile {}", library.len()));
+}
+
+/// Takes room for a profile out that is one byte short for enough.
+fn takes_too_little_room(step: &Step, _: &mut Lent, row: &mut Row, _: &mut [u8]) {
+    if step.kind == Kind::Profile && row[0] == 1 && row[1] == step.numbers[0] + 1 {
+        row[0] = 0;
+    }
+}
+
+#[test]
+fn a_wrong_refusal_for_room_is_found_and_made_short() {
+    let (text, difference) = found(takes_too_little_room);
+    let Difference::Answer { library: [1, size, 0, 0, 0], second: [0, answered, 0, 0, 0] } = difference else { panic!("{difference}") };
+    assert_eq!(size, answered);
+    let lines: Vec<&str> = text.lines().collect();
+    assert!(lines.len() == 2 && lines[0].starts_with("arm ") && lines[0].len() < 30, "{text}");
+    assert_eq!(lines[1], format!("profile {}", size - 1));
+}
+
 #[test]
 fn a_script_is_read_as_it_was_written() {
     let text = "length 1867\narm A,abs_vol,Q,5,\\x00\\xff\\\\\\'\\\"\\r\\t,x\\n\narm\nclear\norder 20 0 1\nlockout 1 0 2\n\
-                offer 10 0 0 70000 200\nremaining 10 0\nstatus\ntext 1 20\ndamage 5 18446744073709551615\n";
+                offer 10 0 0 70000 200\nremaining 10 0\nstatus\ntext 1 20\nprofile 40\ndamage 5 18446744073709551615\n";
     let script = parse(text).expect("a script");
     assert_eq!(script[1].profile, b"A,abs_vol,Q,5,\x00\xff\\'\"\r\t,x\n");
     assert_eq!(print(&script), text);
-    for bad in ["offer 1 2 3 4", "offer 1 2 3 4 5 6", "order 1 -2 3", "orders 1 2 3", "arm \\", "arm \\xg0", "status 1"] {
+    for bad in ["offer 1 2 3 4", "offer 1 2 3 4 5 6", "order 1 -2 3", "orders 1 2 3", "arm \\", "arm \\xg0", "status 1", "profile"] {
         assert!(parse(bad).is_err(), "{bad}");
     }
 }

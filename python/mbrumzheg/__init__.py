@@ -13,7 +13,7 @@ free
 
 from . import raw
 from .event import RECORD_SIZE, Answer, Event, Lockout, Offer, Order, from_record, records
-from .raw import SIZE
+from .raw import PROFILE_MOST, SIZE
 from .refusal import Refusal, Refused
 from .rule import Measure, Rule, Scope
 from .unit import Status, Unit
@@ -23,6 +23,7 @@ from .view import Marks
 __version__ = "0.2.0"
 
 __all__ = [
+    "PROFILE_MOST",
     "RECORD_SIZE",
     "SIZE",
     "Answer",

@@ -31,6 +31,7 @@ _FUNCTIONS = {
     "mbrumzheg_root_named": [Numbers, Length, Bytes, Length, Numbers],
     "mbrumzheg_root_name": [Numbers, Length, Number, Room, Length, Numbers],
     "mbrumzheg_rule": [Numbers, Length, Number, Numbers],
+    "mbrumzheg_profile": [Numbers, Length, Room, Length, Numbers],
     "mbrumzheg_text": [Number, Room, Length, Numbers],
     "mbrumzheg_read_record": [Bytes, Length, Numbers],
     "mbrumzheg_write_record": [Number] * 8 + [Room, Length, Numbers],

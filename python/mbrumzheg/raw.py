@@ -26,6 +26,8 @@ TEXT_SIZE = 20
 """How many bytes of room Text asks for."""
 NAME_SIZE = 6
 """How many bytes of room a root's name asks for."""
+PROFILE_MOST = 12_544
+"""The most bytes that a profile written back has."""
 
 Row = Tuple[int, int, int, int, int]
 """An answer: five numbers, the refusal first (0 if the call was not refused)."""
@@ -133,6 +135,14 @@ def rule(lent: Memory, number: int) -> RuleRow:
     _library.mbrumzheg_rule(lent, len(lent), _u64(number), row)
     refusal, rule_type, limit, window, root, unit = row
     return refusal, rule_type, limit, window, root, unit
+
+
+def profile(lent: Memory, into: Room) -> Row:
+    """Writes the rules that are active as a profile's text to the front of a room: refusal, how many bytes; with 1 for a room that is short, how many it
+    takes."""
+    row = _Row()
+    _library.mbrumzheg_profile(lent, len(lent), into, len(into), row)
+    return _numbers(row)
 
 
 def text(verdict: int, into: Room) -> Row:

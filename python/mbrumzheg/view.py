@@ -1,5 +1,5 @@
-"""What may be asked of an armed unit beside its events: clock, names, marks and rules. The library answers for roots' names and rules; the rest is
-read from the memory by the map in docs/MEMORY.md, which is tested against the second program, not proved."""
+"""What may be asked of an armed unit beside its events: clock, names, marks, rules and their text. The library answers for roots' names, rules and text; the
+rest is read from the memory by the map in docs/MEMORY.md, which is tested against the second program, not proved."""
 
 from __future__ import annotations
 
@@ -99,6 +99,20 @@ class View:
         if refusal:
             raise Refused(Refusal(refusal))
         return Root(root)
+
+    def profile(self) -> str:
+        """The rules that are active as a profile's text: a line a rule, in their order, with no leading zeros, with windows as they take effect, and with no
+        empty fields at its end. A unit armed with it has the same rules, roots and numbers.
+
+        >>> from mbrumzheg import Unit
+        >>> Unit().arm("ABCD,rate_vol,XYZ,0500,\\nABCD,abs_ntnl,,20000,any,T").profile()
+        'ABCD,rate_vol,XYZ,500,100\\nABCD,abs_ntnl,,20000,,T\\n'
+        """
+        room = raw.room(raw.PROFILE_MOST)
+        refusal, size = raw.profile(self._memory, room)[:2]
+        if refusal:
+            raise Refused(Refusal(refusal))
+        return bytes(room[:size]).decode("ascii")
 
     @property
     def firm_marks(self) -> Marks:

@@ -77,6 +77,8 @@ class Pair:
         numbers = list(map(int, rest))
         if word == "text":
             return raw.text(numbers[0], raw.room(numbers[1]))
+        if word == "profile":
+            return raw.profile(self.memory, raw.room(numbers[0]))
         call: Callable[..., raw.Row] = getattr(raw, word)
         return call(self.memory, *numbers)
 
@@ -88,6 +90,9 @@ class Pair:
             self.unit.clear()
         elif word == "status":
             self.same(self.status, row)
+        elif word == "profile":
+            # the class has room enough, so it answers where the call alone was short of room
+            self.same(lambda: [0, len(self.unit.profile()), 0, 0, 0], (0, *row[1:]) if row[0] == Refusal.NO_ROOM else row)
         elif word == "remaining" and int(rest[0]) <= Time.MOST:
             self.same(lambda: [0, self.unit.remaining(Time(int(rest[0])), int(rest[1])), 0, 0, 0], row)
         elif word in ("order", "lockout", "offer"):
@@ -105,6 +110,8 @@ class Pair:
         lines = text.decode("latin-1").rstrip("\n").split("\n")
         self.test.assertEqual([fields(rule, names) for rule in self.unit.rules()], list(map(written, lines)))
         self.test.assertEqual([self.unit.root_named(name) for name in names], list(range(len(names))))
+        again = Unit().arm(self.unit.profile())
+        self.test.assertEqual((again.memory(), again.profile()), (self.unit.memory(), self.unit.profile()))
         return [0, 0, int.from_bytes(self.unit.firm.encode(), "big"), self.unit.rule_count, self.unit.root_count]
 
     def status(self) -> list[int]:
@@ -170,7 +177,7 @@ class Second(unittest.TestCase):
                 pair.stands(line)
             else:
                 pair.call(line)
-        wanted = ["arm 0", "arm 3", "clear 0", "remaining 0", "remaining 12", "status 0", "status 4", "text 0", "text 1"]
+        wanted = ["arm 0", "arm 3", "clear 0", "remaining 0", "remaining 12", "status 0", "status 4", "text 0", "text 1", "profile 0", "profile 1", "profile 4"]
         wanted += [f"offer {refusal}" for refusal in (0, 4, 12, 13, 14, 15)] + ["lockout 0", "order 0", "typed", "stands armed"]
         self.assertEqual((seen["day"], [word for word in wanted if not seen[word]]), (420, []), seen)
 

@@ -7,7 +7,7 @@ import unittest
 from pathlib import Path
 
 from mbrumzheg import Contracts, Event, Level, Lockout, Marks, Offer, Order, Premium, Refusal, Refused, Reset, Root, Status, Time, Unit, UnitOfRoot, Verdict
-from mbrumzheg import SIZE, __version__, from_record, raw, records
+from mbrumzheg import PROFILE_MOST, SIZE, __version__, from_record, raw, records
 
 EXAMPLE = "ABCD,abs_vol,XYZ,1000,0"
 REPOSITORY = Path(__file__).parents[2]
@@ -100,6 +100,30 @@ class Units(unittest.TestCase):
         self.assertEqual((unit.firm_marks, unit.order(Time(9), Root(1))), (Marks(False, True), Verdict.FIRM_LOCKED))
         self.assertEqual(repr(unit), "<Unit of firm ABCD, rules: 3, roots: 3, clock 00:00:00.009>")
 
+    def test_the_rules_are_written_back(self) -> None:
+        given = "AB,rate_ntnl,Q,100000000000,,<any>\nAB,abs_count,XYZ123,0007,any,,P,F\nAB,rate_count,,2,00101,T,,\nAB,abs_ntnl,,1,,T"
+        written = "AB,rate_ntnl,Q,100000000000,100\nAB,abs_count,XYZ123,7,,,P,F\nAB,rate_count,,2,101,T\nAB,abs_ntnl,,1,,T\n"
+        unit = Unit().arm(given)
+        self.assertEqual(unit.profile(), written)
+        again = Unit().arm(written)
+        self.assertEqual((again.memory(), again.profile()), (unit.memory(), written))
+        unit.offer(offer(5, 1))
+        before = unit.memory()
+        self.assertEqual((unit.profile(), unit.memory()), (written, before))
+        self.refused(Refusal.NOT_ARMED, Unit().profile)
+
+    def test_room_for_a_profile_is_asked_for_by_its_size(self) -> None:
+        lent, room = raw.memory(), raw.room(22)
+        self.assertEqual(raw.profile(lent, raw.room(0)), (4, 0, 0, 0, 0))
+        raw.arm(lent, EXAMPLE.encode())
+        self.assertEqual(raw.profile(raw.memory(SIZE - 1), room), (1, 0, 0, 0, 0))
+        self.assertEqual((raw.profile(lent, raw.room(21)), raw.profile(lent, raw.room(0))), ((1, 22, 0, 0, 0), (1, 22, 0, 0, 0)))
+        self.assertEqual((raw.profile(lent, room), bytes(room)), ((0, 22, 0, 0, 0), b"ABCD,abs_vol,XYZ,1000\n"))
+        longest = "".join(f"ABCD,rate_ntnl,LONG{n // 6:02},100000000000,86400000,,C,T\n" for n in range(256))
+        self.assertEqual((Unit().arm(longest).profile(), len(longest)), (longest, PROFILE_MOST))
+        lent[SIZE - 1] = 7
+        self.assertEqual(raw.profile(lent, raw.room(0)), (2, 0, 0, 0, 0))
+
     def test_records_of_all_kinds_come_back(self) -> None:
         events: list[Event] = [Order(Time(1), Root(63), Reset.BOTH), offer(86_399_999, 1_000_000, 63), Lockout(Time(2), Level(Root(5))), Lockout(Time(3), Level())]
         for event in events:
@@ -119,4 +143,5 @@ class Units(unittest.TestCase):
         self.assertEqual([named[case.name] for case in [*UnitOfRoot, *Verdict]], [*UnitOfRoot, *Verdict])
         self.assertEqual([named[f"RESET_{case.name}"] for case in Reset], list(Reset))
         self.assertIn(f"#define MBRUMZHEG_SIZE {SIZE}\n", header)
+        self.assertIn(f"#define MBRUMZHEG_PROFILE_MOST {PROFILE_MOST}\n", header)
         self.assertIn(f'#define MBRUMZHEG_VERSION "{__version__}"\n', header)

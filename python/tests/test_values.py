@@ -8,7 +8,7 @@ import unittest
 from typing import Any
 
 import mbrumzheg
-from mbrumzheg import Contracts, Level, ParseError, Premium, Refusal, Refused, Reset, Root, Time, UnitOfRoot, Verdict, raw, unit, values
+from mbrumzheg import Contracts, Level, ParseError, Premium, Refusal, Refused, Reset, Root, Time, UnitOfRoot, Verdict, raw, unit, values, view
 
 
 class Values(unittest.TestCase):
@@ -78,7 +78,7 @@ class Values(unittest.TestCase):
         self.assertEqual(raw.offer(memory, 0, 0, 0, 10_000, (1 << 64) - 1), (14, 0, 0, 0, 0))
 
     def test_the_examples_in_the_texts_run(self) -> None:
-        for module in (mbrumzheg, unit, values):
+        for module in (mbrumzheg, unit, values, view):
             done = doctest.testmod(module)
             self.assertEqual(done.failed, 0)
             self.assertGreater(done.attempted, 0)

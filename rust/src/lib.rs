@@ -45,8 +45,8 @@
 //! ```
 //!
 //! Every number goes in and comes out as a `u64`. With the feature `std`, which is on unless it is turned off, records can be written to anything
-//! that takes bytes; with `alloc`, which `std` brings, units can have memory of their own; without both the crate is `no_std` and units stand
-//! on lent memory.
+//! that takes bytes; with `alloc`, which `std` brings, units can have memory of their own, and a profile is written back to a
+//! string; without both the crate is `no_std`, and units stand on lent memory.
 
 #![no_std]
 
@@ -63,6 +63,7 @@ struct Paper;
 mod event;
 mod memory;
 mod place;
+mod profile;
 pub mod raw;
 mod record;
 mod refusal;
@@ -74,11 +75,12 @@ mod words;
 
 pub use event::{Answer, Event, Offer};
 pub use memory::Memory;
+pub use profile::PROFILE_MOST;
 pub use raw::SIZE;
 #[cfg(feature = "std")]
 pub use record::RecordWriter;
 pub use record::{Records, RECORD_SIZE};
-pub use refusal::{ArmRefusal, Refusal, Refused};
+pub use refusal::{ArmRefusal, Refusal, Refused, RoomRefusal};
 pub use rule::{Measure, Rule, Scope};
 pub use unit::{Adopted, Armed, Status, Unarmed, Unit};
 pub use values::{Contracts, Level, Premium, Reset, Root, Time, UnitOfRoot, Verdict, VerdictText};

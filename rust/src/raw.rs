@@ -30,6 +30,7 @@ mod exported {
         pub fn mbrumzheg_root_named(m: *const u64, len: usize, name: *const u8, name_len: usize, row: *mut Row);
         pub fn mbrumzheg_root_name(m: *const u64, len: usize, root: u64, room: *mut u8, room_len: usize, row: *mut Row);
         pub fn mbrumzheg_rule(m: *const u64, len: usize, rule: u64, row: *mut RuleRow);
+        pub fn mbrumzheg_profile(m: *const u64, len: usize, room: *mut u8, room_len: usize, row: *mut Row);
         pub fn mbrumzheg_text(verdict: u64, room: *mut u8, len: usize, row: *mut Row);
         pub fn mbrumzheg_read_record(bytes: *const u8, len: usize, row: *mut Reading);
         pub fn mbrumzheg_write_record(
@@ -130,6 +131,15 @@ pub fn root_name(memory: &[u64], root: u64, room: &mut [u8]) -> Row {
 pub fn rule(memory: &[u64], rule: u64) -> RuleRow {
     let mut row = [0; 6];
     unsafe { exported::mbrumzheg_rule(memory.as_ptr(), memory.len(), rule, &mut row) };
+    row
+}
+
+/// Writes the rules that are active as a profile's text to the front of a room: refusal, how many bytes; with 1 for a room that is short, how many
+/// it takes.
+#[inline]
+pub fn profile(memory: &[u64], room: &mut [u8]) -> Row {
+    let mut row = [0; 5];
+    unsafe { exported::mbrumzheg_profile(memory.as_ptr(), memory.len(), room.as_mut_ptr(), room.len(), &mut row) };
     row
 }
 

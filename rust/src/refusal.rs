@@ -165,6 +165,35 @@ impl From<ArmRefusal> for Refusal {
     }
 }
 
+/// A refused text: the refusal and, where the room alone is short, how many bytes it takes.
+#[derive(Clone, Copy, Debug, PartialEq, Eq, Hash)]
+pub struct RoomRefusal {
+    /// Why.
+    pub refusal: Refusal,
+    /// How many bytes of room are needed, if it is the room that is short.
+    pub needed: Option<usize>,
+}
+
+impl fmt::Display for RoomRefusal {
+    fn fmt(&self, f: &mut fmt::Formatter<'_>) -> fmt::Result {
+        self.refusal.fmt(f)?;
+        self.needed.map_or(Ok(()), |bytes| write!(f, " (it takes {bytes} bytes)"))
+    }
+}
+
+impl Error for RoomRefusal {
+    /// The refusal itself.
+    fn source(&self) -> Option<&(dyn Error + 'static)> {
+        Some(&self.refusal)
+    }
+}
+
+impl From<RoomRefusal> for Refusal {
+    fn from(why: RoomRefusal) -> Refusal {
+        why.refusal
+    }
+}
+
 /// A refusal together with what was handed in, so that nothing is lost by it. `?` turns it into the refusal alone.
 ///
 /// ```

@@ -210,7 +210,7 @@ impl<M, S> fmt::Debug for Unit<M, S> {
 ///
 /// # Panics
 /// On a refusal number above 16 or an answer outside its range, which a library that meets its contract does not give.
-fn accepted(row: Row) -> Result<Row, Refusal> {
+pub(crate) fn accepted(row: Row) -> Result<Row, Refusal> {
     match row[0] {
         0 => Ok(row),
         number => Err(Refusal::from_number(number).expect("the library refuses with 1 to 16")),

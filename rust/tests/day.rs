@@ -179,6 +179,21 @@ fn records_of_all_kinds_come_back() {
 }
 
 #[test]
+fn a_profile_written_back_arms_the_same_unit() {
+    let written = "AB,rate_ntnl,Q,100000000000,100\nAB,abs_count,XYZ123,7,,,P,F\nAB,rate_count,,2,101,T\nAB,abs_ntnl,,1,,T\nAB,rate_vol,Q,5,86400000,,C,T\n";
+    let given = "AB,rate_ntnl,Q,100000000000,,<any>\nAB,abs_count,XYZ123,0007,any,,P,F\nAB,rate_count,,2,00101,T,,\nAB,abs_ntnl,,1,,T\nAB,rate_vol,Q,5,86400000,,C,T";
+    let mut unit = armed(given);
+    assert_eq!(unit.profile().as_deref(), Ok(written));
+    let again = armed(written);
+    assert_eq!((again.memory(), again.profile().as_deref()), (unit.memory(), Ok(written)));
+
+    assert_eq!(fill(&mut unit, 5, 1, 3), (1, false, true));
+    let before = unit.memory().to_vec();
+    assert_eq!(unit.profile().as_deref(), Ok(written), "a day changes no rule");
+    assert_eq!(unit.memory(), before, "and writing changes no number");
+}
+
+#[test]
 fn a_unit_stands_on_its_own_or_on_lent_memory() {
     fn sendable<T: Send>(value: T) -> T {
         value

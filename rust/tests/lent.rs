@@ -1,5 +1,5 @@
 //! What there is without an allocator: a unit on lent memory, records, and values as text. It runs with every choice of features.
-use mbrumzheg::{Adopted, Event, Level, Records, Refusal, Reset, Time, Unit, Verdict, RECORD_SIZE, SIZE};
+use mbrumzheg::{Adopted, Event, Level, Records, Refusal, Reset, RoomRefusal, Time, Unit, Verdict, PROFILE_MOST, RECORD_SIZE, SIZE};
 
 #[test]
 fn a_day_on_lent_memory() {
@@ -16,4 +16,17 @@ fn a_day_on_lent_memory() {
     assert_eq!(lent[SIZE], 9, "what is lent beyond the state is untouched");
     assert!(matches!(Unit::adopt(&mut lent[..]), Ok(Adopted::Armed(_))));
     assert_eq!(Unit::adopt(&mut lent[..SIZE - 1]).map(|_| ()).map_err(|refused| refused.why), Err(Refusal::NoRoom));
+}
+
+#[test]
+fn the_rules_are_written_to_lent_room() {
+    const TEXT: &str = "ABCD,rate_vol,XYZ,500,100\nABCD,abs_vol,,7,,T\n";
+    let mut lent = [0; SIZE];
+    let unit = Unit::cleared(&mut lent[..]).expect("long enough").arm("ABCD,rate_vol,XYZ,0500,0\nABCD,abs_vol,,7,5,T").expect("accepted");
+    let mut room = [9; PROFILE_MOST];
+    let refused = unit.profile_into(&mut room[..TEXT.len() - 1]).expect_err("one byte is missing");
+    assert_eq!(refused, RoomRefusal { refusal: Refusal::NoRoom, needed: Some(TEXT.len()) });
+    assert_eq!(room, [9; PROFILE_MOST], "a refusal writes nothing");
+    assert_eq!(unit.profile_into(&mut room[..TEXT.len()]), Ok(TEXT));
+    assert_eq!(room[TEXT.len()..], [9; PROFILE_MOST][TEXT.len()..], "what is lent beyond the text is untouched");
 }

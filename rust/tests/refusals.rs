@@ -52,6 +52,23 @@ fn short_memory_is_refused_with_1_and_given_back() {
     assert_eq!((refused.why, refused.kept.len()), (Refusal::NoRoom, SIZE - 1));
     assert_eq!(short, vec![5; SIZE - 1]);
     assert_eq!(raw::text(1, &mut [0; 19]), [1, 0, 0, 0, 0]);
+    assert_eq!(raw::profile(&short, &mut []), [1, 0, 0, 0, 0]);
+}
+
+#[test]
+fn room_that_is_short_for_a_profile_is_refused_with_1_and_the_size_after_4_and_2() {
+    let mut memory = Unit::new().arm(EXAMPLE).expect("accepted").into_memory();
+    let mut room = [9; 22];
+    assert_eq!(raw::profile(&memory, &mut []), [1, 22, 0, 0, 0]);
+    assert_eq!((raw::profile(&memory, &mut room[..21]), room), ([1, 22, 0, 0, 0], [9; 22]));
+    assert_eq!((raw::profile(&memory, &mut room), &room), ([0, 22, 0, 0, 0], b"ABCD,abs_vol,XYZ,1000\n"));
+    let unit = Unit::new().arm(EXAMPLE).expect("accepted");
+    let refused = unit.profile_into(&mut room[..21]).expect_err("one byte is missing");
+    assert_eq!((Refusal::from(refused), refused.needed), (Refusal::NoRoom, Some(22)));
+    assert_eq!(refused.to_string(), format!("{} (it takes 22 bytes)", Refusal::NoRoom));
+    memory[SIZE - 1] = 7;
+    assert_eq!(raw::profile(&memory, &mut []), [2, 0, 0, 0, 0]);
+    assert_eq!(raw::profile(&[0; SIZE], &mut []), [4, 0, 0, 0, 0]);
 }
 
 #[test]

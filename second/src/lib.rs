@@ -2,12 +2,18 @@
 //!
 //! It keeps its state in ordinary Rust values and favours plain steps over speed.
 
+mod answers;
+mod calls;
+mod counting;
 pub mod gen;
 pub mod lent;
 pub mod memory;
 pub mod place;
 pub mod profile;
+pub mod profile_out;
 pub mod records;
+mod rule;
+mod state;
 pub mod unit;
 
 /// The last millisecond of the day.

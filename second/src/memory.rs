@@ -4,13 +4,13 @@ use std::collections::VecDeque;
 
 use crate::place::*;
 use crate::profile::{self, Level, Measure, Profile, Rule, UNITS};
+use crate::profile_out;
+use crate::rule::DOLLAR;
 use crate::unit::{Armed, Entry, Marks, LOG_PLACES};
 use crate::{is_contracts, is_premium, is_time};
 
 /// The largest total of a rule.
 const MOST_TOTAL: u64 = 1_000_000_000_000_000;
-/// Ten-thousandths in a dollar.
-const DOLLAR: u64 = 10_000;
 
 /// What the state's numbers hold.
 #[derive(Clone, Debug, PartialEq, Eq)]
@@ -90,10 +90,10 @@ fn parted<const N: usize>(number: u64, widths: [u32; N]) -> [u64; N] {
 
 /// The two numbers of a rule.
 fn rule_numbers(rule: &Rule) -> [u64; 2] {
-    let (measure, limit) = match rule.measure {
-        Measure::Notional => (0, rule.limit / DOLLAR),
-        Measure::Volume => (1, rule.limit),
-        Measure::Count => (2, rule.limit),
+    let measure = match rule.measure {
+        Measure::Notional => 0,
+        Measure::Volume => 1,
+        Measure::Count => 2,
     };
     let (scope, root, unit) = match rule.level {
         Level::Firm => (0, 0, 0),
@@ -101,7 +101,7 @@ fn rule_numbers(rule: &Rule) -> [u64; 2] {
         Level::Root { root, unit: Some(unit) } => (2, root, unit),
     };
     let kind = u64::from(rule.window.is_none());
-    let first = joined(&[(limit, 37), (rule.window.unwrap_or(0), 27)]);
+    let first = joined(&[(rule.limit_value(), 37), (rule.window.unwrap_or(0), 27)]);
     [first, joined(&[(measure, 2), (kind, 1), (scope, 2), (root, 6), (unit, 2)])]
 }
 
@@ -150,8 +150,18 @@ fn profile_of(firm: u64, roots: &[u64], rules: &[u64]) -> Option<Profile> {
     let roots: Vec<Vec<u8>> = roots.iter().map(|name| name_of(*name)).collect();
     let rules = rules.chunks(2).map(rule_of).collect::<Option<Vec<Rule>>>()?;
     let stored = Profile { firm: name_of(firm), roots, rules };
-    let text = text_of(&stored)?;
-    profile::read(&text).ok().filter(|profile| *profile == stored)
+    if !stored.rules.iter().all(|rule| speaks_of_known_root(rule, stored.roots.len())) {
+        return None;
+    }
+    profile::read(&profile_out::text(&stored)).ok().filter(|profile| *profile == stored)
+}
+
+/// Is the rule the firm's, or of one of so many roots?
+fn speaks_of_known_root(rule: &Rule, roots: usize) -> bool {
+    match rule.level {
+        Level::Firm => true,
+        Level::Root { root, .. } => root < roots as u64,
+    }
 }
 
 /// The rule of two numbers, if its fields mean something; whether a profile can have it is judged elsewhere.
@@ -176,31 +186,6 @@ fn rule_of(numbers: &[u64]) -> Option<Rule> {
         _ => return None,
     };
     (spare == 0).then_some(Rule { measure, window, limit, level })
-}
-
-/// A profile as text, one line a rule; none if a rule speaks of a root that is not there.
-fn text_of(profile: &Profile) -> Option<Vec<u8>> {
-    let mut text = Vec::new();
-    for rule in &profile.rules {
-        let kind = if rule.window.is_some() { "rate" } else { "abs" };
-        let (measure, limit) = match rule.measure {
-            Measure::Notional => ("ntnl", rule.limit / DOLLAR),
-            Measure::Volume => ("vol", rule.limit),
-            Measure::Count => ("count", rule.limit),
-        };
-        let (root, tail) = match rule.level {
-            Level::Firm => (&b""[..], "T,,"),
-            Level::Root { root, unit } => {
-                let units = unit.map_or(",,", |unit| [",C,F", ",C,T", ",P,F", ",P,T"][unit as usize]);
-                (&profile.roots.get(root as usize)?[..], units)
-            }
-        };
-        text.extend_from_slice(&profile.firm);
-        text.extend_from_slice(format!(",{kind}_{measure},").as_bytes());
-        text.extend_from_slice(root);
-        text.extend_from_slice(format!(",{limit},{},{tail}\n", rule.window.unwrap_or(0)).as_bytes());
-    }
-    Some(text)
 }
 
 /// May the rule have this total? A rate rule has none, so its place holds 0.

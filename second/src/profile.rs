@@ -1,5 +1,8 @@
 //! The profile text: one rule a line, fields by comma.
 
+pub use crate::rule::{Level, Measure, Profile, Rule, UNITS};
+use crate::rule::{DOLLAR, TYPES, UNIT_LETTERS};
+
 /// The longest profile that is read, in bytes.
 pub const MOST_BYTES: usize = 65_536;
 /// The most rules of a profile.
@@ -10,8 +13,6 @@ pub const MOST_FIRM_RULES: usize = 10;
 pub const MOST_UNIT_RULES: usize = 6;
 /// The most roots of a profile.
 pub const MOST_ROOTS: usize = 64;
-/// The units of a root.
-pub const UNITS: u64 = 4;
 
 /// The shortest window of a rate rule.
 const LEAST_WINDOW: u64 = 100;
@@ -21,80 +22,6 @@ const MOST_WINDOW: u64 = 86_400_000;
 const MOST_DOLLARS: u64 = 100_000_000_000;
 /// The largest volume or count limit.
 const MOST_VOLUME_OR_COUNT: u64 = 1_000_000_000;
-/// Ten-thousandths in a dollar.
-const DOLLAR: u64 = 10_000;
-
-/// What a rule counts.
-#[derive(Clone, Copy, Debug, PartialEq, Eq)]
-pub enum Measure {
-    /// Premium times contracts, in ten-thousandths of a dollar.
-    Notional,
-    /// Contracts.
-    Volume,
-    /// Executions.
-    Count,
-}
-
-/// Whom a rule stands for.
-#[derive(Clone, Copy, Debug, PartialEq, Eq)]
-pub enum Level {
-    /// Every fill of the firm.
-    Firm,
-    /// A root, numbered from 0, and one of its units or all four together.
-    Root { root: u64, unit: Option<u64> },
-}
-
-/// One rule of the profile.
-#[derive(Clone, Debug, PartialEq, Eq)]
-pub struct Rule {
-    pub measure: Measure,
-    /// The window in milliseconds of a rate rule; an absolute rule has none.
-    pub window: Option<u64>,
-    /// The limit in the rule's own measure: ten-thousandths, contracts or executions.
-    pub limit: u64,
-    pub level: Level,
-}
-
-impl Rule {
-    /// Does the rule cover a fill on this root and unit?
-    pub fn covers(&self, root: u64, unit: u64) -> bool {
-        match self.level {
-            Level::Firm => true,
-            Level::Root { root: own, unit: None } => own == root,
-            Level::Root { root: own, unit: Some(own_unit) } => own == root && own_unit == unit,
-        }
-    }
-
-    /// Is it a firm rule?
-    pub fn is_firm(&self) -> bool {
-        self.level == Level::Firm
-    }
-
-    /// Is it a rule of this root, whichever units it covers?
-    pub fn is_of_root(&self, root: u64) -> bool {
-        matches!(self.level, Level::Root { root: own, .. } if own == root)
-    }
-}
-
-/// What an accepted profile gives.
-#[derive(Clone, Debug, PartialEq, Eq)]
-pub struct Profile {
-    pub firm: Vec<u8>,
-    pub roots: Vec<Vec<u8>>,
-    pub rules: Vec<Rule>,
-}
-
-impl Profile {
-    /// The longest window of all rate rules, if there is a rate rule.
-    pub fn longest_window(&self) -> Option<u64> {
-        self.rules.iter().filter_map(|rule| rule.window).max()
-    }
-
-    /// The firm's bytes as one number, base 256.
-    pub fn firm_number(&self) -> u64 {
-        self.firm.iter().fold(0, |number, byte| number * 256 + u64::from(*byte))
-    }
-}
 
 /// The fields of one line that passed the check for 6.
 struct Line<'a> {
@@ -186,16 +113,8 @@ fn read_fields(bytes: &[u8]) -> Option<Line<'_>> {
 }
 
 /// Is it a rate type, and what does it count?
-fn limit_type(name: &[u8]) -> Option<(bool, Measure)> {
-    match name {
-        b"rate_ntnl" => Some((true, Measure::Notional)),
-        b"rate_vol" => Some((true, Measure::Volume)),
-        b"rate_count" => Some((true, Measure::Count)),
-        b"abs_ntnl" => Some((false, Measure::Notional)),
-        b"abs_vol" => Some((false, Measure::Volume)),
-        b"abs_count" => Some((false, Measure::Count)),
-        _ => None,
-    }
+fn limit_type(field: &[u8]) -> Option<(bool, Measure)> {
+    TYPES.iter().find(|(name, _, _)| *name == field).map(|(_, is_rate, measure)| (*is_rate, *measure))
 }
 
 /// Has the field capitals and digits alone?
@@ -244,10 +163,7 @@ fn window_of(line: &Line) -> Option<Option<u64>> {
 fn unit_of(side: Option<u8>, month: Option<u8>) -> Option<Option<u64>> {
     match (side, month) {
         (None, None) => Some(None),
-        (Some(b'C'), Some(b'F')) => Some(Some(0)),
-        (Some(b'C'), Some(b'T')) => Some(Some(1)),
-        (Some(b'P'), Some(b'F')) => Some(Some(2)),
-        (Some(b'P'), Some(b'T')) => Some(Some(3)),
+        (Some(side), Some(month)) => UNIT_LETTERS.iter().position(|letters| *letters == [side, month]).map(|unit| Some(unit as u64)),
         _ => None,
     }
 }

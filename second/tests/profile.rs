@@ -1,24 +1,9 @@
-//! Profile texts: fields, refusals 5 to 11 with their lines, and readings 1 to 8.
+//! Profile texts: fields, refusals 5 to 11 with their lines, and readings 1 to 6.
 
-use second::profile::{read, Level, Measure, Profile};
+mod common;
 
-/// Reads a text that is a good one.
-fn good(text: &[u8]) -> Profile {
-    match read(text) {
-        Ok(profile) => profile,
-        Err(refusal) => panic!("{:?} got {:?}", String::from_utf8_lossy(text), refusal),
-    }
-}
-
-/// Asserts the refusal and the line of a text.
-fn refused(text: &[u8], refusal: u64, line: u64) {
-    assert_eq!(read(text), Err((refusal, line)), "{:?}", String::from_utf8_lossy(&text[..text.len().min(200)]));
-}
-
-/// So many lines of the same text.
-fn times(line: &str, number: usize) -> String {
-    format!("{line}\n").repeat(number)
-}
+use common::profile::{good, refused};
+use second::profile::{Level, Measure};
 
 #[test]
 fn reads_all_fields() {
@@ -213,47 +198,4 @@ fn refusal_10_unit_fields() {
     refused(b"A,abs_vol,X,1,,,,T", 10, 1);
     refused(b"A,abs_vol,,1,,T,C,F", 10, 1);
     refused(b"A,abs_vol,,1,,T,,F", 10, 1);
-}
-
-#[test]
-fn refusal_11_rules() {
-    let text: String = (0..257).map(|place| format!("A,abs_vol,R{},1\n", place % 64)).collect();
-    refused(text.as_bytes(), 11, 257);
-}
-
-#[test]
-fn refusal_11_firm_rules() {
-    good(times("A,abs_vol,,1,,T", 10).as_bytes());
-    refused(times("A,abs_vol,,1,,T", 11).as_bytes(), 11, 11);
-}
-
-#[test]
-fn refusal_11_roots() {
-    let roots = |number: usize| -> String { (0..number).map(|place| format!("A,abs_vol,R{place},1\n")).collect() };
-    good(roots(64).as_bytes());
-    refused(roots(65).as_bytes(), 11, 65);
-}
-
-#[test]
-fn refusal_11_rules_on_a_unit() {
-    good(times("A,abs_vol,X,1", 6).as_bytes());
-    refused(times("A,abs_vol,X,1", 7).as_bytes(), 11, 7);
-    refused(times("A,abs_vol,X,1,,,P,F", 7).as_bytes(), 11, 7);
-    let mixed = times("A,abs_vol,X,1", 4) + &times("A,abs_vol,X,1,,,P,F", 2);
-    refused((mixed.clone() + "A,abs_vol,X,1,,,P,F").as_bytes(), 11, 7);
-    good((mixed + "A,abs_vol,X,1,,,P,T\nA,abs_vol,Y,1").as_bytes());
-}
-
-#[test]
-fn reading_7_one_full_unit_stops_a_rule_of_all_units() {
-    let one_full = times("A,abs_vol,X,1,,,C,T", 6);
-    refused((one_full.clone() + "A,abs_vol,X,1").as_bytes(), 11, 7);
-    good((one_full + "A,abs_vol,X,1,,,C,F").as_bytes());
-    let each: String = ["C,F", "C,T", "P,F", "P,T"].map(|unit| times(&format!("A,abs_vol,X,1,,,{unit}"), 6)).concat();
-    assert_eq!(good(each.as_bytes()).rules.len(), 24);
-}
-
-#[test]
-fn reading_8_equal_rules_are_two() {
-    assert_eq!(good(times("A,abs_vol,X,1", 2).as_bytes()).rules.len(), 2);
 }

@@ -4,6 +4,7 @@ pub mod Runs
 pub mod Computed
 pub mod Bench
 pub mod Tried
+pub mod Rewritten
 pub mod Contracts
 pub mod Witness
 pub mod ShutOut

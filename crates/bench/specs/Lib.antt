@@ -3,4 +3,5 @@ pub mod Library
 pub mod Rows
 pub mod Table
 pub mod Tried
+pub mod Rewritten
 pub mod Determines

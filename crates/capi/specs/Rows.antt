@@ -9,6 +9,8 @@ use Rattle.calls.specs.declared.Wording.{Wording}
 use Rattle.calls.specs.declared.Wording.the-variants.{Written, Refused as NotSaid}
 use Rattle.views.specs.declared.Found.{Found}
 use Rattle.views.specs.declared.Found.the-variants.{Root, Refused as NotFound}
+use Rattle.views.specs.declared.Listing.{Listing}
+use Rattle.views.specs.declared.Listing.the-variants.{Written as Listed, Short, Refused as NotListed}
 use Rattle.views.specs.declared.Told.{Told}
 use Rattle.views.specs.declared.Told.the-variants.{Rule, Refused as NotTold}
 use lib.ListN.{take}
@@ -43,6 +45,12 @@ foundRow (NotFound number) = number ∷ 0 ∷ 0 ∷ 0 ∷ 0 ∷ []
 unfoldable pub ruleRow : Told → List ℕ
 ruleRow (Rule ruletype limit window root unit) = 0 ∷ ruletype ∷ limit ∷ window ∷ root ∷ unit ∷ []
 ruleRow (NotTold number) = number ∷ 0 ∷ 0 ∷ 0 ∷ 0 ∷ 0 ∷ []
+
+-- the profile as text: refusal, the size written, or with 1 for room the size needed
+unfoldable pub listingRow : Listing → List ℕ
+listingRow (Listed size) = 0 ∷ size ∷ 0 ∷ 0 ∷ 0 ∷ []
+listingRow (Short size) = 1 ∷ size ∷ 0 ∷ 0 ∷ 0 ∷ []
+listingRow (NotListed number) = number ∷ 0 ∷ 0 ∷ 0 ∷ 0 ∷ []
 
 -- an event record read: refusal, kind, time, root, unit, premium, contracts, reset, level
 unfoldable pub eventRow : Event → List ℕ

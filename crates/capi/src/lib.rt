@@ -3,10 +3,10 @@ ghost use mathlib.Core.Path.{_≡_};
 ghost use Rattle.machine.specs.Calls.{Call};
 ghost use Rattle.machine.specs.Judge.{numbers};
 ghost use Rattle.calls.specs.Calls.{armAnswer, armMemory, clearAnswer, clearMemory, callAnswer, callMemory, textAnswer, textMemory};
-ghost use Rattle.views.specs.Views.{rootNamed, rootName, rootNameRoom, ruleTold};
+ghost use Rattle.views.specs.Views.{rootNamed, rootName, rootNameRoom, ruleTold, profileAnswer, profileRoom};
 ghost use lib.ListN.{length};
 ghost use Rattle.records.specs.Event.{eventIn, readOf};
-ghost use Rattle.capi.specs.Rows.{armRow, clearRow, textRow, foundRow, ruleRow, eventRow, fieldsOf, roomOf, writingOf, writingRow};
+ghost use Rattle.capi.specs.Rows.{armRow, clearRow, textRow, foundRow, ruleRow, listingRow, eventRow, fieldsOf, roomOf, writingOf, writingRow};
 use calls::Clearing;
 use calls::Wording;
 use machine::Offer;
@@ -14,6 +14,7 @@ use profile::Reading;
 use records::Reading as Event;
 use records::Writing;
 use views::Found;
+use views::Listing;
 use views::Told;
 
 // Arms memory from a profile: refusal, line, firm, rules, roots.
@@ -91,6 +92,27 @@ pub extern "C" fn mbrumzheg_root_name(m: &[u64], root: u64, room: &mut [u8], row
 {
     let wording = views::root_name(m, root, room);
     put_wording(wording, row)
+}
+
+// Writes the row of what became of a profile's text.
+fn put_listing(listing: Listing, row: &mut [u64; 5])
+    ensures { λ _. ⌜ now (row .exit) ≡ listingRow listing ⌝ }
+{
+    match listing {
+        Listing::Written(size) => rows::put_row(row, 0, size, 0, 0, 0),
+        Listing::Short(size) => rows::put_row(row, 1, size, 0, 0, 0),
+        Listing::Refused(number) => rows::put_row(row, number, 0, 0, 0, 0),
+    }
+}
+
+// Writes the profile that the unit runs as text: refusal, the size written, or with 1 for room the size needed.
+#[no_mangle]
+pub extern "C" fn mbrumzheg_profile(m: &[u64], room: &mut [u8], row: &mut [u64; 5])
+    ensures { λ _. ⌜ now (room .exit) ≡ profileRoom (now (m .entry)) (now (room .entry)) ⌝ }
+    ensures { λ _. ⌜ now (row .exit) ≡ listingRow (profileAnswer (now (m .entry)) (now (room .entry))) ⌝ }
+{
+    let listing = views::profile(m, room);
+    put_listing(listing, row)
 }
 
 // A rule by its number: refusal, type, limit, window, root, unit.

@@ -14,3 +14,4 @@ pub mod Kept
 pub mod Moved
 pub mod Goes
 pub mod Day
+pub mod Written

@@ -22,7 +22,7 @@ use Rattle.calls.specs.declared.Wording.the-variants.{Written, Refused as NotSa
 use Rattle.views.specs.declared.Found.the-variants.{Root, Refused as NotFound}
 use Rattle.views.specs.declared.Told.the-variants.{Refused as NotTold}
 use Rattle.views.specs.Views.{asked, placeOf, rootNamed, nameAnswer, nameRoom, rootName, rootNameRoom, termsOf, ruleTold}
-use Rattle.views.proofs.Profile.{laid, rules-are, roots-named, rule-is}
+use Rattle.views.proofs.Held.{laid, rules-are, roots-named, rule-is}
 
 -- the memory meets a refusal
 module _ (xs : List ℕ) (n : ℕ) (e : n ≡ memoryRefusal xs) (h : n ≡ 0 → ⊥) where

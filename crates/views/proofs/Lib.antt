@@ -1,3 +1,4 @@
 pub mod Names
-pub mod Profile
+pub mod Held
 pub mod Answers
+pub mod Listed

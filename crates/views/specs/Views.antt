@@ -1,4 +1,4 @@
--- What is answered of a unit's profile: a root's number by its name, a root's name by its number, a rule by its number. Assumes nothing.
+-- What is answered of a unit's profile: a root's number by its name, a root's name by its number, a rule by its number, and the whole as text. Assumes nothing.
 use Prim.Native.Nat.{ℕ, _+_, _*_}
 use mathlib.Core.Bool.{cond}
 use mathlib.Core.List.{List, _++_}
@@ -16,12 +16,15 @@ use Rattle.tables.specs.RulePlace.{limitNumber, measureNumber, windowNumber, ki
 use Rattle.machine.specs.State.{Profile}
 use Rattle.machine.specs.Remaining.{noAccount}
 use Rattle.made.specs.Names.{nameBytes}
+use Rattle.output.specs.Output.{textOf}
 use Rattle.state.specs.State.{decode}
 use Rattle.calls.specs.Calls.{memoryRefusal}
 use Rattle.calls.specs.declared.Wording.{Wording}
 use Rattle.calls.specs.declared.Wording.the-variants.{Written, Refused as NotSaid}
 use Rattle.views.specs.declared.Found.{Found}
 use Rattle.views.specs.declared.Found.the-variants.{Root, Refused as NotFound}
+use Rattle.views.specs.declared.Listing.{Listing}
+use Rattle.views.specs.declared.Listing.the-variants.{Written as Listed, Short, Refused as NotListed}
 use Rattle.views.specs.declared.Told.{Told}
 use Rattle.views.specs.declared.Told.the-variants.{Rule as Terms, Refused as NotTold}
 
@@ -77,3 +80,17 @@ termsOf rule = Terms (typeNumber (rule .kind) (rule .limit)) (limitNumber (rule 
 -- a rule by its number, 13 for one that is not known
 unfoldable pub ruleTold : List ℕ → ℕ → Told
 ruleTold xs rule = asked xs NotTold (λ p. cond (ltb rule (length (p .rules))) (termsOf (getD (p .rules) rule (noAccount .rule))) (NotTold 13))
+
+-- the whole profile as text: 1 for room below the text's size, with the size that is needed; else the size that is written
+unfoldable pub listAnswer : Profile → List ℕ → Listing
+listAnswer p room = cond (ltb (length room) (length (textOf p))) (Short (length (textOf p))) (Listed (length (textOf p)))
+
+-- the text in front of the room, and the room after it untouched; with a refusal the whole room is
+unfoldable pub listRoom : Profile → List ℕ → List ℕ
+listRoom p room = cond (ltb (length room) (length (textOf p))) room (textOf p ++ drop (length (textOf p)) room)
+
+unfoldable pub profileAnswer : List ℕ → List ℕ → Listing
+profileAnswer xs room = asked xs NotListed (λ p. listAnswer p room)
+
+unfoldable pub profileRoom : List ℕ → List ℕ → List ℕ
+profileRoom xs room = asked xs (λ number. room) (λ p. listRoom p room)

@@ -1,4 +1,4 @@
-// The public calls that read an armed unit's profile: a root's number by its name, a root's name by its number, a rule by its number.
+// The public calls that read an armed unit's profile: a root's number by its name, a root's name by its number, a rule by its number, and the whole as text.
 ghost use mathlib.Core.Path.{_≡_};
 ghost use mathlib.Core.List.{_++_};
 ghost use Prim.Native.Nat.{_+_, _≤_, _<_};
@@ -10,7 +10,7 @@ ghost use Rattle.made.specs.Names.{nameBytes};
 ghost use Rattle.state.specs.State.{decode};
 ghost use Rattle.calls.specs.Calls.{memoryRefusal};
 ghost use Rattle.views.specs.declared.Told.the-variants.{Rule as Terms};
-ghost use Rattle.views.specs.Views.{placeOf, rootNamed, rootName, rootNameRoom, typeNumber, termsOf, ruleTold};
+ghost use Rattle.views.specs.Views.{placeOf, rootNamed, rootName, rootNameRoom, typeNumber, termsOf, ruleTold, profileAnswer, profileRoom};
 use calls::Wording;
 use rules::Kind;
 use rules::Limit;
@@ -33,6 +33,13 @@ pub enum Told {
         root: u64,
         unit: u64,
     },
+    Refused(u64),
+}
+
+// What writing the profile answers: the size that was written; the size that is needed where the room is short, which is refusal 1; or a refusal.
+pub enum Listing {
+    Written(u64),
+    Short(u64),
     Refused(u64),
 }
 
@@ -197,4 +204,24 @@ pub fn rule(m: &[u64], rule: u64) -> Told
         return Told::Refused(13);
     }
     terms(state::rule_in(m, rule as usize))
+}
+
+// Writes the profile that a unit runs as text to the front of a room.
+pub fn profile(m: &[u64], room: &mut [u8]) -> Listing
+    ensures { λ r. ⌜ r ≡ profileAnswer (now (m .entry)) (now (room .entry)) ⌝ }
+    ensures { λ r. ⌜ now (room .exit) ≡ profileRoom (now (m .entry)) (now (room .entry)) ⌝ }
+{
+    let refusal = calls::memory_refusal(m);
+    if refusal != 0 {
+        return Listing::Refused(refusal);
+    }
+    let firm = m[state::FIRM];
+    let roots = &m[state::ROOTS..state::RULES];
+    let rules = &m[state::RULES..state::TOTALS];
+    let size = output::text_size(firm, roots, rules);
+    if room.len() < size {
+        return Listing::Short(size as u64);
+    }
+    let written = output::write_text(firm, roots, rules, room);
+    Listing::Written(written as u64)
 }

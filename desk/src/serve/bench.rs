@@ -47,6 +47,8 @@ pub enum Said {
     Words(String),
 }
 
+/// What can be typed here.
+const TYPED: &str = "offer, order, lock, remaining, profile, status or help";
 const ARM_FIRST: &str = "the unit is not armed, so nothing can be passed or asked (refusal 4); arm it first";
 
 impl Bench {
@@ -101,14 +103,15 @@ impl Bench {
             Command::Order(words) => names.order(&words)?,
             Command::Lock(words) => names.lockout(&words)?,
             Command::Status => return table::status(sitting).map(Said::Words).map_err(|refusal| refusal.to_string()),
+            Command::Profile(None) => return sitting.active().map(|text| Said::Words(text.trim_end().to_string())),
             Command::Remaining(words) => {
                 let (time, shown) = names.table(&words)?;
                 return table::rules(sitting, time, shown).map(Said::Words).map_err(|refusal| refusal.to_string());
             }
             Command::Help(None) => return Ok(Said::Words(help::list())),
             Command::Help(Some(name)) => return help::on(&name).map(Said::Words).ok_or_else(|| format!("there is no help on '{name}'")),
-            Command::Nothing => return Err("type offer, order, lock, remaining, status or help".to_string()),
-            _ => return Err("here this is done by a button; type offer, order, lock, remaining, status or help".to_string()),
+            Command::Nothing => return Err(format!("type {TYPED}")),
+            _ => return Err(format!("here this is done by a button; type {TYPED}")),
         };
         self.event(event).map(Said::Event)
     }
@@ -200,6 +203,11 @@ impl Bench {
         let bytes = self.bytes()?;
         self.saved = self.sitting.as_ref().map(|sitting| sitting.day.sum());
         Ok(bytes)
+    }
+
+    /// The rules that the unit runs, as a profile's text.
+    pub fn active(&self) -> Result<String, String> {
+        self.armed()?.active()
     }
 
     /// Whether there are events that no saved file has.

@@ -41,6 +41,10 @@ fn shown(bench: &mut Bench, request: &Request) -> Reply {
             Ok(bytes) => with(Reply::of("application/octet-stream", bytes), "Content-Disposition: attachment; filename=\"day.records\""),
             Err(advice) => Reply::text(409, &advice),
         },
+        "active-profile" => match bench.active() {
+            Ok(text) => with(Reply::of("text/plain; charset=utf-8", text), "Content-Disposition: attachment; filename=\"active-profile\""),
+            Err(advice) => Reply::text(409, &advice),
+        },
         "report.html" => report(bench, "report.html", HTML).map_or_else(|reply| reply, |reply| with(reply, OF_REPORT)),
         "report.json" => report(bench, "report.json", JSON).unwrap_or_else(|reply| reply),
         "report.csv" => report(bench, "report.csv", "text/csv; charset=utf-8").unwrap_or_else(|reply| reply),

@@ -1,5 +1,5 @@
 //! The crate and the header for C have the same names for the same numbers.
-use mbrumzheg::{Level, Refusal, Reset, Root, UnitOfRoot, Verdict, SIZE};
+use mbrumzheg::{Level, Refusal, Reset, Root, UnitOfRoot, Verdict, PROFILE_MOST, SIZE};
 
 /// A name as C spells it: `NoRoom` is `MBRUMZHEG_NO_ROOM`.
 fn in_c(name: &str) -> String {
@@ -30,4 +30,5 @@ fn rust_and_c_have_the_same_names_and_numbers() {
     has("LevelRoot".to_string(), Level::Root(Root::new(5).expect("a root number")).number());
     has("LevelFirm".to_string(), Level::Firm.number());
     assert!(header.contains(&format!("#define MBRUMZHEG_SIZE {SIZE}\n")));
+    assert!(header.contains(&format!("#define MBRUMZHEG_PROFILE_MOST {PROFILE_MOST}\n")));
 }

@@ -1,5 +1,6 @@
-//! The typed calls against the independent second program, on random days: answers, Remaining, Status, clock, names and marks.
-use mbrumzheg::{Armed, Contracts, Event, Level, Offer, Premium, Reset, Root, Scope, Time, Unit, UnitOfRoot};
+//! The typed calls against the independent second program, on random days: answers, Remaining, Status, clock, names, marks
+//! and the profile that is written back.
+use mbrumzheg::{Armed, Contracts, Event, Level, Offer, Premium, Reset, Root, Scope, Time, Unit, UnitOfRoot, PROFILE_MOST};
 use second::profile::Level as SecondLevel;
 
 /// Numbers that look random and are the same on every run.
@@ -104,6 +105,21 @@ fn same_rules(unit: &Unit<Box<[u64]>, Armed>, other: &second::unit::Unit) {
     }
 }
 
+/// The rules are written back as the second program writes them, and one byte of room less is refused with the size.
+fn same_text(unit: &Unit<Box<[u64]>, Armed>, other: &second::unit::Unit) -> String {
+    let mut room = [0; PROFILE_MOST];
+    let answer = other.profile(&mut room);
+    let text = unit.profile().expect("a sound state");
+    assert_eq!((0, text.as_bytes()), (answer.refusal, &room[..answer.size as usize]));
+    assert_eq!(unit.profile_into(&mut [0; PROFILE_MOST]), Ok(text.as_str()));
+    let refused = unit.profile_into(&mut room[..text.len() - 1]).expect_err("one byte is missing");
+    assert_eq!(
+        [refused.refusal.number(), refused.needed.map_or(0, |size| size as u64)],
+        other.profile(&mut vec![0; text.len() - 1]).numbers()
+    );
+    text
+}
+
 #[test]
 fn random_days_are_answered_as_the_second_program_answers_them() {
     let mut seen = [0; 5];
@@ -124,6 +140,7 @@ fn random_days_are_answered_as_the_second_program_answers_them() {
             compare(&unit, &other);
             seen.iter_mut().zip(row).for_each(|(count, number)| *count += u64::from(number > 0));
         }
+        same_text(&unit, &other);
     }
     assert!(seen.iter().all(|count| *count > 100), "refusals, verdicts, grants and trips came up: {seen:?}");
 }
@@ -137,6 +154,8 @@ fn the_rules_of_generated_profiles_are_the_second_programs() {
         assert_eq!(other.arm(&text).refusal, 0);
         let unit = Unit::new().arm(&text).unwrap_or_else(|refused| panic!("{refused}"));
         same_rules(&unit, &other);
+        let again = Unit::new().arm(same_text(&unit, &other)).unwrap_or_else(|refused| panic!("{refused}"));
+        assert_eq!(again.memory(), unit.memory(), "what is written back arms the same unit");
         let lines = text.split(|byte| *byte == b'\n');
         for (rule, line) in unit.rules().zip(lines) {
             let named = line.split(|byte| *byte == b',').nth(1).expect("a type");

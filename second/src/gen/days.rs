@@ -2,7 +2,8 @@
 
 use std::fmt::Write;
 
-use super::events::{events_near, Call};
+use super::call::Call;
+use super::events::events_near;
 use super::profiles::{profile, valid_profile};
 use crate::unit::{Armed, Marks, Unit};
 
@@ -41,6 +42,7 @@ fn words(call: Call) -> String {
         Call::Remaining { time, rule } => format!("remaining {time} {rule}"),
         Call::Status => "status".to_string(),
         Call::Text { verdict, room } => format!("text {verdict} {room}"),
+        Call::Profile { room } => format!("profile {room}"),
     }
 }
 

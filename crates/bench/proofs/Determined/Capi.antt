@@ -28,6 +28,8 @@ use Rattle.capi.proofs.mbrumzheg_read_record.Kinds as mbrumzheg-read-record-kin
 use Rattle.capi.proofs.mbrumzheg_read_record.Reads as mbrumzheg-read-record-reads
 use Rattle.capi.proofs.mbrumzheg_write_record.Kinds as mbrumzheg-write-record-kinds
 use Rattle.capi.proofs.mbrumzheg_write_record.Reads as mbrumzheg-write-record-reads
+use Rattle.capi.proofs.mbrumzheg_profile.Kinds as mbrumzheg-profile-kinds
+use Rattle.capi.proofs.mbrumzheg_profile.Reads as mbrumzheg-profile-reads
 
 pub mbrumzheg-arm : Determines 3 mbrumzheg-arm-kinds.ps mbrumzheg-arm-kinds.r mbrumzheg-arm-reads.Asked mbrumzheg-arm-reads.Learnt
 mbrumzheg-arm κs args asked x y u v p q = (refl, λ i. (one (p .0) (q .0) i, (v .1 .0, (one (p .1) (q .1) i, v .1 .1 .1))))
@@ -67,3 +69,6 @@ mbrumzheg-read-record κs args asked x y u v p q = (refl, λ i. (v .0, (one p q 
 
 pub mbrumzheg-write-record : Determines 2 mbrumzheg-write-record-kinds.ps mbrumzheg-write-record-kinds.r mbrumzheg-write-record-reads.Asked mbrumzheg-write-record-reads.Learnt
 mbrumzheg-write-record κs args asked x y u v p q = (refl, λ i. (v .0, (v .1 .0, (v .1 .1 .0, (v .1 .1 .1 .0, (v .1 .1 .1 .1 .0, (v .1 .1 .1 .1 .1 .0, (v .1 .1 .1 .1 .1 .1 .0, (v .1 .1 .1 .1 .1 .1 .1 .0, (one (p .0) (q .0) i, (one (p .1) (q .1) i, v .1 .1 .1 .1 .1 .1 .1 .1 .1 .1)))))))))))
+
+pub mbrumzheg-profile : Determines 3 mbrumzheg-profile-kinds.ps mbrumzheg-profile-kinds.r mbrumzheg-profile-reads.Asked mbrumzheg-profile-reads.Learnt
+mbrumzheg-profile κs args asked x y u v p q = (refl, λ i. (v .0, (one (p .0) (q .0) i, (one (p .1) (q .1) i, v .1 .1 .1))))

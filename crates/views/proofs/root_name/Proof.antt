@@ -2,7 +2,7 @@
 use native.Mathlib.Omega.{arith}
 use mathlib.Core.Path.{sym, ap, _∙_}
 use Rattle.calls.specs.declared.Wording.the-variants.{Written}
-use Rattle.views.proofs.Profile.{laid, name-short}
+use Rattle.views.proofs.Held.{laid, name-short}
 use Rattle.views.proofs.Answers.{name-refused, name-unknown, name-unsaid, name-said}
 use borrow.Author.Needs.{needs}
 use Rattle.views.proofs.root_name.Statement.{statement}

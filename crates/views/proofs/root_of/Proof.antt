@@ -1,6 +1,6 @@
 -- `views::root_of` meets its contract: the names of the roots stand in their places. Assumes nothing.
 use native.Mathlib.Omega.{arith}
-use Rattle.views.proofs.Profile.{laid, few-roots}
+use Rattle.views.proofs.Held.{laid, few-roots}
 use Rattle.views.proofs.Answers.{place-known, place-unknown}
 use borrow.Author.Needs.{needs}
 use Rattle.views.proofs.root_of.Statement.{statement}

@@ -1,7 +1,7 @@
 -- `views::rule` meets its contract: the rules of the accounts are those of the profile. Assumes nothing.
 use native.Mathlib.Omega.{arith}
 use mathlib.Core.Path.{sym, _∙_}
-use Rattle.views.proofs.Profile.{laid}
+use Rattle.views.proofs.Held.{laid}
 use Rattle.views.proofs.Answers.{rule-refused, rule-unknown, rule-told}
 use borrow.Author.Needs.{needs}
 use Rattle.views.proofs.rule.Statement.{statement}

@@ -1,0 +1,91 @@
+//! The calls on an armed state: their checks in order, then what they do and answer.
+
+use crate::answers::{EventAnswer, StatusAnswer};
+use crate::counting::Offer;
+use crate::profile::UNITS;
+use crate::state::{Armed, Marks, OPEN};
+use crate::{is_contracts, is_premium};
+
+/// The lowest locked root of Status if no root is locked.
+pub const NO_ROOT: u64 = 64;
+
+impl Armed {
+    /// Order: the reset first, then the verdict.
+    pub(crate) fn order(&mut self, time: u64, root: u64, reset: u64) -> Result<EventAnswer, u64> {
+        self.check_time(time)?;
+        if !self.knows_root(root) || reset > 3 {
+            return Err(13);
+        }
+        self.clock = time;
+        if reset == 1 || reset == 3 {
+            self.reset_root(root);
+        }
+        if reset == 2 || reset == 3 {
+            self.reset_firm();
+        }
+        Ok(EventAnswer::verdict(self.verdict(root)))
+    }
+
+    /// Lockout of a root or of the firm.
+    pub(crate) fn lockout(&mut self, time: u64, level: u64, root: u64) -> Result<EventAnswer, u64> {
+        self.check_time(time)?;
+        match level {
+            0 if self.knows_root(root) => self.roots[root as usize].user = true,
+            1 if root == 0 => self.firm.user = true,
+            _ => return Err(13),
+        }
+        self.clock = time;
+        Ok(EventAnswer::verdict(OPEN))
+    }
+
+    /// Offer: the grant, and which levels trip.
+    pub(crate) fn offer(&mut self, offer: Offer) -> Result<EventAnswer, u64> {
+        self.check_time(offer.time)?;
+        if !self.knows_root(offer.root) || offer.unit >= UNITS {
+            return Err(13);
+        }
+        if !is_premium(offer.premium) || !is_contracts(offer.contracts) {
+            return Err(14);
+        }
+        let verdict = self.verdict(offer.root);
+        if verdict != OPEN {
+            self.clock = offer.time;
+            return Ok(EventAnswer::verdict(verdict));
+        }
+        let allowances = self.allowances(&offer);
+        let grant = allowances.iter().map(|(_, allowance)| *allowance).min().unwrap_or(offer.contracts);
+        if grant > 0 && self.log_is_full(offer.time) {
+            return Err(15);
+        }
+        self.clock = offer.time;
+        if grant > 0 {
+            self.fill(&offer, grant);
+        }
+        let (root_trip, firm_trip) = self.trips(&allowances, grant, offer.contracts);
+        self.roots[offer.root as usize].tripped |= root_trip;
+        self.firm.tripped |= firm_trip;
+        Ok(EventAnswer { refusal: 0, verdict: OPEN, grant, root_trip: root_trip.into(), firm_trip: firm_trip.into() })
+    }
+
+    /// What a rule leaves at a time.
+    pub(crate) fn remaining(&self, time: u64, rule: u64) -> Result<u64, u64> {
+        self.check_time(time)?;
+        if rule >= self.profile.rules.len() as u64 {
+            return Err(13);
+        }
+        let place = rule as usize;
+        Ok(self.profile.rules[place].limit.saturating_sub(self.counted(place, time)))
+    }
+
+    /// How many roots are marked, and the lowest that is locked.
+    pub(crate) fn status(&self) -> StatusAnswer {
+        let how_many = |is: fn(&Marks) -> bool| self.roots.iter().filter(|marks| is(marks)).count() as u64;
+        StatusAnswer {
+            refusal: 0,
+            tripped: how_many(|marks| marks.tripped),
+            user: how_many(|marks| marks.user),
+            locked: how_many(Marks::locked),
+            lowest: self.roots.iter().position(Marks::locked).map_or(NO_ROOT, |root| root as u64),
+        }
+    }
+}
