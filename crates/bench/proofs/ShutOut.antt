@@ -15,15 +15,14 @@ use Rattle.machine.specs.Locks.{verdictOf}
 use Rattle.machine.specs.Offers.{grantOf, covering}
 use Rattle.machine.specs.Remaining.{accountAt, leftOf, standing}
 use Rattle.machine.specs.Judge.{grantedSo, offered as offeredSo, judged, step, isRefusal}
-use Rattle.tables.proofs.Tables.{length-zeros}
+use Rattle.shapes.proofs.Tables.{length-zeros}
 use Rattle.profile.specs.Profile.{outcomeOf}
 use Rattle.state.specs.State.{size, decode}
 use Rattle.machine.specs.declared.Offer.{Offer}
 use Rattle.machine.specs.declared.Answer.the-variants.{Refused, Judged, Left, Standing as Stand}
 use Rattle.machine.proofs.Grants.{grant-largest}
-use Rattle.calls.specs.Calls.{memoryRefusal, callAnswer}
+use Rattle.calls.specs.Calls.{memoryRefusal, callAnswer, refusalIn}
 use Rattle.calls.proofs.Armed.{refusal-unarmed}
-use Rattle.promises.specs.Refusals.{refusalBy}
 use Rattle.promises.proofs.Holds.{ready-holds, holds-ready}
 use Rattle.promises.proofs.Answered.{acted-answer, refused-by, by-refused, taken}
 use Rattle.bench.specs.Lent.{Memory, Text, Verdict, numbersIn, Sent, Offered, sent}
@@ -65,7 +64,7 @@ module _ (l : Library) (meets : Meets l) where
   -- ---- what holds on every memory
 
   -- a call is refused with a number exactly if that number's condition is the first that holds
-  pub refused-exactly : (m : Memory) (c : Sent) (n : ℕ) → (l .call m c .answer ≡ Refused (suc n)) ↔ (refusalBy (m .now) (c .call) ≡ suc n)
+  pub refused-exactly : (m : Memory) (c : Sent) (n : ℕ) → (l .call m c .answer ≡ Refused (suc n)) ↔ (refusalIn (m .now) (c .call) ≡ suc n)
   refused-exactly m c n = (
     λ e. by-refused (m .now) (c .call) (suc n) (sym (meets .callAnswers m c) ∙ e),
     λ e. meets .callAnswers m c ∙ refused-by (m .now) (c .call) n e,
@@ -93,13 +92,13 @@ module _ (l : Library) (meets : Meets l) where
   arm-stores m t u ok = let h = arm-leaves l meets m t u ok in (holds-ready h, h .state)
 
   -- Remaining is the limit less the counted amount, or 0 if that is below 0
-  pub remaining-is : (m : Memory) (c : Sent) (time rule : ℕ) → c .call ≡ remaining time rule → refusalBy (m .now) (remaining time rule) ≡ 0
+  pub remaining-is : (m : Memory) (c : Sent) (time rule : ℕ) → c .call ≡ remaining time rule → refusalIn (m .now) (remaining time rule) ≡ 0
       → l .call m c .answer ≡ Left (leftOf (decode (m .now)) time (accountAt (decode (m .now) .part .accounts) rule))
   unfolding judged
   remaining-is m c time rule is e = meets .callAnswers m c ∙ ap (callAnswer (m .now)) is ∙ acted-answer (m .now) (remaining time rule) e
 
   -- Status is how the two words stand
-  pub status-is : (m : Memory) (c : Sent) → c .call ≡ status → refusalBy (m .now) status ≡ 0
+  pub status-is : (m : Memory) (c : Sent) → c .call ≡ status → refusalIn (m .now) status ≡ 0
       → l .call m c .answer ≡ Stand (standing (decode (m .now) .part .locks))
   unfolding judged
   status-is m c is e = meets .callAnswers m c ∙ ap (callAnswer (m .now)) is ∙ acted-answer (m .now) status e

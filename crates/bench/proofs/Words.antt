@@ -32,8 +32,8 @@ use Rattle.tables.proofs.RulePlace.{limit-fit, scope-fit}
 use Rattle.tables.proofs.EntryPlace.{fill-fit, amount-fit}
 use Rattle.made.specs.Names.{nameBytes, isNameNumber}
 use Rattle.made.specs.Made.{areRoots}
-use Rattle.made.proofs.Bytes.{made-most}
-use Rattle.made.proofs.Digits.{digits-room}
+use Rattle.text.proofs.Bytes.{made-most}
+use Rattle.text.proofs.InBase.{digits-room}
 use Rattle.state.specs.State.{size, number, marksOf, locksShape, linesOf, profileShape, totalsShape, partShape, numbersShape, totalsIn, numbersOf, encode, stored}
 use Rattle.state.specs.Sound.{SoundState}
 use Rattle.state.proofs.Exactly.{MadeParts}

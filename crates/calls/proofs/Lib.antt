@@ -1,4 +1,5 @@
 pub mod Cases
 pub mod Armed
+pub mod Timed
 pub mod Steps
 pub mod Offers

@@ -2,10 +2,10 @@
 use Prim.Native.Nat.{ℕ, zero, suc, _≤_, _<_, min, zero-le}
 use native.Mathlib.Omega.{arith}
 use native.Mathlib.Nat.{suc-ne-zero}
-use mathlib.Core.Path.{_≡_, refl, sym, ap, _∙_}
+use mathlib.Core.Path.{_≡_, refl, sym, _∙_}
 use mathlib.Core.Bool.{Bool, true, false, not, cond, _&&_, and-assoc, and-false}
 use mathlib.Core.List.{List}
-use lib.ListN.{length, getD, set}
+use lib.ListN.{length}
 use lib.Dec.{eqb, leb, ltb}
 use borrow.Author.Tests.{ne-eqb, lt-leb, lt-ltb, leb-true, leb-false, ltb-true, not-false}
 use Rattle.laws.specs.Tests.{and-l, and-r}
@@ -37,9 +37,10 @@ use Rattle.grant.specs.Grant.{Asked, AreCuts, Ready, HasRoom}
 use Rattle.grant.specs.declared.Cuts.{Cuts}
 use Rattle.grant.proofs.Trip.{grant-cuts}
 use Rattle.grant.proofs.Windows.{rate-longest}
-use Rattle.calls.specs.Calls.{memoryRefusal, refusalIn, offerRefusal, callAnswer, callMemory, isFull, Met, Granting}
+use Rattle.calls.specs.Calls.{memoryRefusal, timedRefusal, refusalIn, offerRefusal, callAnswer, callMemory, isFull, Met, Granting}
 use Rattle.calls.proofs.Armed.{sound-memory}
-use Rattle.calls.proofs.Steps.{done, laid, time-is, acts}
+use Rattle.calls.proofs.Steps.{done, laid, acts}
+use Rattle.calls.proofs.Timed.{timed-refused, timed-met}
 
 -- the log is full: not without a rate rule, else as the entries inside the longest window are counted
 module _ (xs : List ℕ) (h : Laid xs) (o : Offer) (n : ℕ) (e : n ≡ longest (rulesIn (decode xs))) where
@@ -79,7 +80,7 @@ module _ (xs : List ℕ) (o : Offer) (g : Granting xs o) (grant : ℕ) (is : gra
 
   pub refusal-is : (b : Bool) → (ltb 0 grant && isFull (decode xs) o) ≡ b → refusalOf logPlaces (decode xs) (offer o) ≡ cond b 15 0
   unfolding refusalOf firstOf
-  refusal-is b t = rw (g .timely, g .known, g .priced, full-is, t)
+  refusal-is b t = rw (g .met .timely, g .met .known, g .met .priced, full-is, t)
 
   pub has-room : (ltb 0 grant && isFull (decode xs) o) ≡ false → HasRoom (decode xs) o grant
   unfolding isFull used
@@ -93,13 +94,13 @@ module _ (xs : List ℕ) (o : Offer) (g : Granting xs o) (grant : ℕ) (is : gra
       → (Judged 0 grant a b ≡ callAnswer xs (offer o)) × (stored (after (filling granted o grant) (decode xs)) xs ≡ callMemory xs (offer o))
   unfolding judged offered grantedSo isRefusal
   granted-is a b p q t =
-      let d = acts xs (g .ready) (offer o) (refusal-is false t) (rw (g .free)) in
+      let d = acts xs (g .met .ready) (offer o) (refusal-is false t) (rw (g .free)) in
       (rw (p, q, is) (rw (g .free) at (d .0)), rw is (rw (g .free) at (d .1)))
 
   pub ready-is : (cuts : Cuts) → AreCuts xs o cuts → (ltb 0 grant && isFull (decode xs) o) ≡ false → Ready xs o grant cuts
   ready-is cuts k t = record {
     asked = g .asked;
-    totals = sound-decode xs (sound-memory xs (g .ready)) .totals;
+    totals = sound-decode xs (sound-memory xs (g .met .ready)) .totals;
     levels = k;
     least = is;
     room = has-room t;
@@ -108,29 +109,25 @@ module _ (xs : List ℕ) (o : Offer) (g : Granting xs o) (grant : ℕ) (is : gra
 pub least-is : (xs : List ℕ) (o : Offer) (cuts : Cuts) → AreCuts xs o cuts → (n : ℕ) → n ≡ min (cuts .root) (cuts .firm) → n ≡ grantOf (decode xs .log) o (decode xs .part .accounts)
 least-is xs o cuts k n e = rw (e, k .root, k .firm) (sym (grant-cuts (decode xs .log) o (decode xs .part .accounts)))
 
--- an offer's refusal by its numbers, as it was read
-module _ (xs : List ℕ) (ready : memoryRefusal xs ≡ 0) (o : Offer) (clock : ℕ) (clock-is : clock ≡ decode xs .part .clock) (late : Bool)
-    (is-late : late ≡ not (isIn times (o .time) && leb clock (o .time))) where
-  late-is : badTime (decode xs .part) (o .time) ≡ late
-  late-is = time-is xs ready clock clock-is (o .time) late is-late
-
-  pub offer-late : late ≡ true → 12 ≡ offerRefusal xs o
+-- an offer's refusal by its numbers, after that by the memory and the time
+module _ (xs : List ℕ) (o : Offer) where
+  pub offer-timed : (n : ℕ) → n ≡ timedRefusal xs (o .time) → (n ≡ 0 → ⊥) → n ≡ offerRefusal xs o
   unfolding offerRefusal firstOf
-  offer-late e = rw (ready, late-is, e)
+  offer-timed n e h = timed-refused xs (o .time) _ n e h
 
-  module _ (timely : late ≡ false) (roots : ℕ) (roots-is : roots ≡ rootsIn (decode xs)) (u : Bool) (unit-is : u ≡ isIn units (o .unit)) where
+  module _ (e : timedRefusal xs (o .time) ≡ 0) (roots : ℕ) (roots-is : roots ≡ rootsIn (decode xs)) (u : Bool) (unit-is : u ≡ isIn units (o .unit)) where
     known-is : not (isRoot (decode xs .part) (o .root) && isIn units (o .unit)) ≡ not (ltb (o .root) roots && u)
     unfolding isRoot rootsIn
     known-is = rw (← roots-is, unit-is)
 
     pub offer-unknown : not (ltb (o .root) roots && u) ≡ true → 13 ≡ offerRefusal xs o
     unfolding offerRefusal firstOf
-    offer-unknown t = rw (ready, late-is, timely, known-is, t)
+    offer-unknown t = rw (known-is ∙ t) (timed-met xs (o .time) 13 e)
 
     pub offer-priced : not (ltb (o .root) roots && u) ≡ false → (p : Bool) → p ≡ (isIn premiums (o .premium) && isIn offers (o .contracts))
         → cond (not p) 14 0 ≡ offerRefusal xs o
     unfolding offerRefusal firstOf
-    offer-priced known p priced-is = rw (ready, late-is, timely, known-is, known, ← priced-is)
+    offer-priced known p priced-is = rw (known-is ∙ known, ← priced-is) (timed-met xs (o .time) (cond (not p) 14 0) e)
 
 -- an offer that its numbers refuse is refused, and one that they do not refuse has met all that they ask
 abbrev isPriced : Offer → Bool
@@ -140,10 +137,6 @@ abbrev isKnown : List ℕ → Offer → Bool
 isKnown xs o = isRoot (decode xs .part) (o .root) && isIn units (o .unit)
 
 module _ (xs : List ℕ) (o : Offer) where
-  pub offer-memory : (n : ℕ) → n ≡ memoryRefusal xs → (n ≡ 0 → ⊥) → n ≡ offerRefusal xs o
-  unfolding offerRefusal
-  offer-memory n e h = rw (← e, ne-eqb n 0 h)
-
   pub offer-refused : (n : ℕ) → n ≡ offerRefusal xs o → (n ≡ 0 → ⊥) → n ≡ refusalIn xs (offer o)
   unfolding offerRefusal refusalIn refusalOf firstOf
   offer-refused n e h =
@@ -192,7 +185,7 @@ module _ (xs : List ℕ) (o : Offer) (m : Met xs o) where
   met-low = omega (arith, met-asked .root, met-asked .laid .fits .roots)
 
   pub met-free : verdictOf (decode xs .part .locks) (o .root) ≡ 0 → Granting xs o
-  met-free v = record { ready = m .ready; asked = met-asked; timely = m .timely; known = m .known; priced = m .priced; free = v }
+  met-free v = record { met = m; asked = met-asked; free = v }
 
   -- an offer that is locked out moves the clock alone
   pub locked-out : (v : ℕ) → v ≡ verdictOf (decode xs .part .locks) (o .root) → (v ≡ 0 → ⊥)

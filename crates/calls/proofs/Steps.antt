@@ -3,18 +3,17 @@ use Prim.Native.Nat.{ℕ, zero, suc, _≤_, _<_}
 use native.Mathlib.Omega.{arith}
 use native.Mathlib.Nat.{suc-ne-zero}
 use mathlib.Core.Path.{_≡_, refl, sym, _∙_, subst, ap}
-use mathlib.Core.Bool.{Bool, true, false, not, cond, _&&_, _||_, false≢true}
+use mathlib.Core.Bool.{Bool, true, false, not, cond, _&&_}
 use mathlib.Core.List.{List}
-use lib.ListN.{length, getD}
+use lib.ListN.{length}
 use lib.Dec.{eqb, leb, ltb}
-use borrow.Author.Tests.{ne-eqb, lt-leb, ltb-true, eqb-true}
+use borrow.Author.Tests.{ne-eqb, ltb-true, eqb-true}
 use Rattle.laws.specs.Folds.{every}
-use Rattle.measures.specs.Ranges.{isIn, times}
 use Rattle.rules.specs.Valid.{isRule}
 use Rattle.machine.specs.State.{Profile, State, rootsIn}
 use Rattle.machine.specs.Calls.{Call, order, lockout, remaining, status}
 use Rattle.machine.specs.Deeds.{resetting}
-use Rattle.machine.specs.Effects.{effectOf, lastReset}
+use Rattle.machine.specs.Effects.{effectOf}
 use Rattle.machine.specs.Refusals.{firstOf, badTime, isRoot, refusalOf}
 use Rattle.machine.specs.Step.{after}
 use Rattle.machine.specs.Judge.{logPlaces, judged, ordered, unless, judge, stepIn, step, isRefusal}
@@ -49,56 +48,8 @@ module _ (xs : List ℕ) (ready : memoryRefusal xs ≡ 0) where
     unfolding callAnswer callMemory step stepIn judge unless
     acts e f = (rw (ready, e), rw (ready, e, f))
 
-  -- the refusal that a call meets on such memory
-  pub meets : (call : Call) (n : ℕ) → refusalOf logPlaces (decode xs) call ≡ n → n ≡ refusalIn xs call
-  unfolding refusalIn
-  meets call n e = rw (ready, e)
-
-  -- 12, then 13, of the calls with a time, by the clock, the roots and the accounts that were read
-  module _ (clock : ℕ) (clock-is : clock ≡ decode xs .part .clock) (time : ℕ) (late : Bool) (is-late : late ≡ not (isIn times time && leb clock time)) where
-    pub time-is : badTime (decode xs .part) time ≡ late
-    unfolding badTime
-    time-is = rw (← clock-is) (sym is-late)
-
-    pub order-late : (root reset : ℕ) → late ≡ true → refusalOf logPlaces (decode xs) (order time root reset) ≡ 12
-    unfolding refusalOf firstOf
-    order-late root reset e = rw (time-is, e)
-
-    pub order-known : (root reset : ℕ) → late ≡ false → (roots : ℕ) → roots ≡ rootsIn (decode xs) → (b : Bool) → not (ltb root roots && leb reset lastReset) ≡ b
-        → refusalOf logPlaces (decode xs) (order time root reset) ≡ cond b 13 0
-    unfolding refusalOf firstOf isRoot rootsIn
-    order-known root reset e roots r b f = rw (time-is, e, ← r, f)
-
-    pub lockout-late : (level root : ℕ) → late ≡ true → refusalOf logPlaces (decode xs) (lockout time level root) ≡ 12
-    unfolding refusalOf firstOf
-    lockout-late level root e = rw (time-is, e)
-
-    pub remaining-late : (rule : ℕ) → late ≡ true → refusalOf logPlaces (decode xs) (remaining time rule) ≡ 12
-    unfolding refusalOf firstOf
-    remaining-late rule e = rw (time-is, e)
-
-    pub remaining-known : (rule : ℕ) → late ≡ false → (accounts : ℕ) → accounts ≡ length (decode xs .part .accounts) → (b : Bool) → not (ltb rule accounts) ≡ b → refusalOf logPlaces (decode xs) (remaining time rule) ≡ cond b 13 0
-    unfolding refusalOf firstOf
-    remaining-known rule e accounts r b f = rw (time-is, e, ← r, f)
-
-    either-level : (level : ℕ) (a c : Bool) → (eqb level 0 && a || eqb level 1 && c) ≡ (leb level 1 && cond (eqb level 0) a c)
-    either-level zero true c = refl
-    either-level zero false c = refl
-    either-level (suc zero) a c = refl
-    either-level (suc (suc n)) a c =
-        rw (ne-eqb (suc (suc n)) 0 (λ e. omega arith), ne-eqb (suc (suc n)) 1 (λ e. omega arith), lt-leb (suc (suc n)) 1 (omega arith))
-
-    pub lockout-known : (level root : ℕ) → late ≡ false → (roots : ℕ) → roots ≡ rootsIn (decode xs) → (b : Bool) → not (eqb level 0 && ltb root roots || eqb level 1 && eqb root 0) ≡ b
-        → refusalOf logPlaces (decode xs) (lockout time level root) ≡ cond b 13 0
-    unfolding refusalOf firstOf isRoot rootsIn
-    lockout-known level root e roots r b f = rw (time-is, e, ← r, ← either-level level (ltb root roots) (eqb root 0), f)
-
 -- a call on any memory: it is refused by the number that it meets, and meets none on sound memory alone, where the machine takes it
 module _ (xs : List ℕ) (call : Call) where
-  pub meets-memory : (n : ℕ) → n ≡ memoryRefusal xs → (n ≡ 0 → ⊥) → n ≡ refusalIn xs call
-  unfolding refusalIn
-  meets-memory n e h = rw (← e, ne-eqb n 0 h)
-
   pub refused-by : (n : ℕ) → n ≡ refusalIn xs call → (n ≡ 0 → ⊥) → (Refused n ≡ callAnswer xs call) × (xs ≡ callMemory xs call)
   unfolding refusalIn
   refused-by n e h = go (memoryRefusal xs) refl n e h

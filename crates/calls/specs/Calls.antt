@@ -14,7 +14,7 @@ use Rattle.state.specs.State.{size, decode, stored}
 use Rattle.machine.specs.State.{State, rulesIn, armed}
 use Rattle.rules.specs.Valid.{hasRate}
 use Rattle.machine.specs.Calls.{Call}
-use Rattle.machine.specs.Refusals.{firstOf, badTime, isRoot, used, refusalOf}
+use Rattle.machine.specs.Refusals.{firstOf, badTime, isRoot, used, offerFaults, refusalOf}
 use Rattle.machine.specs.Judge.{step, logPlaces, isRefusal}
 use Rattle.machine.specs.Locks.{verdictOf}
 use Rattle.state.specs.Sound.{isSound}
@@ -58,9 +58,17 @@ clearMemory xs = cond (isShort xs) xs (zeros size ++ drop size xs)
 unfoldable pub memoryRefusal : List ℕ → ℕ
 memoryRefusal xs = firstOf ((isShort xs, 1) ∷ (eqb (markOf xs) 0, 4) ∷ (not (isSound xs), 2) ∷ [])
 
+-- the memory's refusal; where it meets none, a number
+abbrev pub memoryOr : List ℕ → ℕ → ℕ
+memoryOr xs number = cond (eqb (memoryRefusal xs) 0) number (memoryRefusal xs)
+
 -- the refusal that a call meets, 0 for none: that of the memory, else that of the machine
 unfoldable pub refusalIn : List ℕ → Call → ℕ
-refusalIn xs call = cond (eqb (memoryRefusal xs) 0) (refusalOf logPlaces (decode xs) call) (memoryRefusal xs)
+refusalIn xs call = memoryOr xs (refusalOf logPlaces (decode xs) call)
+
+-- the part of it that every call with a time has in front: that of the memory, else 12
+unfoldable pub timedRefusal : List ℕ → ℕ → ℕ
+timedRefusal xs time = memoryOr xs (firstOf ((badTime (decode xs .part) time, 12) ∷ []))
 
 unfoldable pub callAnswer : List ℕ → Call → Answer
 callAnswer xs call = cond (eqb (memoryRefusal xs) 0) (step (decode xs) call .answer) (Refused (memoryRefusal xs))
@@ -71,14 +79,7 @@ callMemory xs call = cond (isRefusal (callAnswer xs call)) xs (stored (step (dec
 
 -- an offer's refusal by its numbers, before the log is looked at
 unfoldable pub offerRefusal : List ℕ → Offer → ℕ
-offerRefusal xs o =
-    cond (eqb (memoryRefusal xs) 0)
-    (firstOf
-    ((badTime (decode xs .part) (o .time), 12)
-    ∷ (not (isRoot (decode xs .part) (o .root) && isIn units (o .unit)), 13)
-    ∷ (not (isIn premiums (o .premium) && isIn offers (o .contracts)), 14)
-    ∷ []))
-    (memoryRefusal xs)
+offerRefusal xs o = memoryOr xs (firstOf (offerFaults (decode xs .part) o))
 
 -- the profile has a rate rule, and the log's places hold entries inside the longest window
 unfoldable pub isFull : State → Offer → Bool
@@ -93,11 +94,8 @@ pub record Met (xs : List ℕ) (o : Offer) : Type 0 where
 
 -- and that is not locked out
 pub record Granting (xs : List ℕ) (o : Offer) : Type 0 where
-  pub ready : memoryRefusal xs ≡ 0
+  pub met : Met xs o
   pub asked : Asked xs o
-  pub timely : badTime (decode xs .part) (o .time) ≡ false
-  pub known : not (isRoot (decode xs .part) (o .root) && isIn units (o .unit)) ≡ false
-  pub priced : not (isIn premiums (o .premium) && isIn offers (o .contracts)) ≡ false
   pub free : verdictOf (decode xs .part .locks) (o .root) ≡ 0
 
 -- words said: 1 for room below 20 bytes, else they stand in front and the room after them is untouched

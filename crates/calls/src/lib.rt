@@ -1,16 +1,15 @@
 // The public calls over lent memory.
 ghost use mathlib.Core.Path.{_≡_};
 ghost use mathlib.Core.Bool.{true, not, _&&_};
-ghost use mathlib.Core.List.{_++_};
 ghost use lib.Dec.{leb};
 ghost use Rattle.measures.specs.Ranges.{isIn, times, premiums, offers};
-ghost use Prim.Native.Nat.{_≤_, min};
-ghost use lib.ListN.{length, drop};
+ghost use Prim.Native.Nat.{_≤_};
+ghost use lib.ListN.{length};
 ghost use Rattle.machine.specs.Entries.{areOrdered};
 ghost use Rattle.machine.specs.Calls.{Call};
 ghost use Rattle.state.specs.State.{decode};
 ghost use Rattle.state.specs.Laid.{Laid};
-ghost use Rattle.calls.specs.Calls.{isFull, Granting, memoryRefusal, refusalIn, offerRefusal, callAnswer, callMemory, armAnswer, armMemory, clearAnswer, clearMemory, sayAnswer, sayMemory, textAnswer, textMemory};
+ghost use Rattle.calls.specs.Calls.{isFull, Granting, memoryRefusal, timedRefusal, refusalIn, offerRefusal, callAnswer, callMemory, armAnswer, armMemory, clearAnswer, clearMemory, sayAnswer, sayMemory, textAnswer, textMemory};
 use machine::Answer;
 use machine::Offer;
 use measures::Contracts;
@@ -105,9 +104,9 @@ fn bad_time(time: u64, clock: u64) -> bool
     !(measures::is_in(time, 0, Time::MOST) & (clock <= time))
 }
 
-// The refusal that an order meets, 0 for none.
-fn order_refusal(m: &[u64], time: u64, root: u64, reset: u64) -> u64
-    ensures { λ r. ⌜ r ≡ refusalIn (now (m .entry)) (Call.order time root reset) ⌝ }
+// The refusal that every call with a time meets first, by the memory and by its time, 0 for none.
+fn timed_refusal(m: &[u64], time: u64) -> u64
+    ensures { λ r. ⌜ r ≡ timedRefusal (now (m .entry)) time ⌝ }
 {
     let refusal = memory_refusal(m);
     if refusal != 0 {
@@ -115,6 +114,17 @@ fn order_refusal(m: &[u64], time: u64, root: u64, reset: u64) -> u64
     }
     if bad_time(time, state::clock_in(m)) {
         return 12;
+    }
+    0
+}
+
+// The refusal that an order meets, 0 for none.
+fn order_refusal(m: &[u64], time: u64, root: u64, reset: u64) -> u64
+    ensures { λ r. ⌜ r ≡ refusalIn (now (m .entry)) (Call.order time root reset) ⌝ }
+{
+    let refusal = timed_refusal(m, time);
+    if refusal != 0 {
+        return refusal;
     }
     if !((root < state::roots_in(m)) & (reset <= 3)) {
         return 13;
@@ -145,12 +155,9 @@ pub fn order(m: &mut [u64], time: u64, root: u64, reset: u64) -> Answer
 fn lockout_refusal(m: &[u64], time: u64, level: u64, root: u64) -> u64
     ensures { λ r. ⌜ r ≡ refusalIn (now (m .entry)) (Call.lockout time level root) ⌝ }
 {
-    let refusal = memory_refusal(m);
+    let refusal = timed_refusal(m, time);
     if refusal != 0 {
         return refusal;
-    }
-    if bad_time(time, state::clock_in(m)) {
-        return 12;
     }
     if !((level == 0) & (root < state::roots_in(m)) | (level == 1) & (root == 0)) {
         return 13;
@@ -218,13 +225,6 @@ fn is_full(m: &[u64], o: Offer) -> bool
     log::PLACES <= log::recent_entries(&m[state::LOG..state::SIZE], longest, o.time)
 }
 
-// The lesser of two numbers.
-fn least(a: u64, b: u64) -> u64
-    ensures { λ r. ⌜ r ≡ min a b ⌝ }
-{
-    if a <= b { a } else { b }
-}
-
 // An offer that is neither refused by its numbers nor locked out: the log may be full, else it is granted what every rule in force allows.
 fn granted(m: &mut [u64], o: Offer) -> Answer
     requires { ⌜ Granting (now m) o ⌝ }
@@ -232,7 +232,7 @@ fn granted(m: &mut [u64], o: Offer) -> Answer
     ensures { λ r. ⌜ now (m .exit) ≡ callMemory (now (m .entry)) (Call.offer o) ⌝ }
 {
     let cuts = grant::cuts_of(m, o);
-    let grant = least(cuts.root, cuts.firm);
+    let grant = numbers::least(cuts.root, cuts.firm);
     if (0 < grant) & is_full(m, o) {
         return Answer::Refused(15);
     }
@@ -249,12 +249,9 @@ fn granted(m: &mut [u64], o: Offer) -> Answer
 fn offer_refusal(m: &[u64], o: Offer) -> u64
     ensures { λ r. ⌜ r ≡ offerRefusal (now (m .entry)) o ⌝ }
 {
-    let refusal = memory_refusal(m);
+    let refusal = timed_refusal(m, o.time);
     if refusal != 0 {
         return refusal;
-    }
-    if bad_time(o.time, state::clock_in(m)) {
-        return 12;
     }
     if !((o.root < state::roots_in(m)) & measures::is_in(o.unit, 0, 3)) {
         return 13;
@@ -291,12 +288,9 @@ pub fn offer(m: &mut [u64], o: Offer) -> Answer
 fn remaining_refusal(m: &[u64], time: u64, rule: u64) -> u64
     ensures { λ r. ⌜ r ≡ refusalIn (now (m .entry)) (Call.remaining time rule) ⌝ }
 {
-    let refusal = memory_refusal(m);
+    let refusal = timed_refusal(m, time);
     if refusal != 0 {
         return refusal;
-    }
-    if bad_time(time, state::clock_in(m)) {
-        return 12;
     }
     if !(rule < state::accounts_in(m) as u64) {
         return 13;
@@ -316,18 +310,6 @@ pub fn remaining(m: &[u64], time: u64, rule: u64) -> Answer
     Answer::Left(left.number())
 }
 
-// Writes words to the front of a room.
-fn put(words: &[u8], room: &mut [u8])
-    requires { ⌜ length (now words) ≤ length (now room) ⌝ }
-    ensures { λ _. ⌜ now (room .exit) ≡ now (words .entry) ++ drop (length (now (words .entry))) (now (room .entry)) ⌝ }
-{
-    let mut i = 0;
-    while i < words.len() {
-        room[i] = words[i];
-        i += 1;
-    }
-}
-
 // Writes words of at most 20 bytes to a room of at least 20, and answers how many they are.
 fn say(words: &[u8], room: &mut [u8]) -> Wording
     requires { ⌜ length (now words) ≤ 20 ⌝ }
@@ -337,8 +319,8 @@ fn say(words: &[u8], room: &mut [u8]) -> Wording
     if room.len() < 20 {
         return Wording::Refused(1);
     }
-    put(words, room);
-    Wording::Written(words.len() as u64)
+    let size = text::put_words(words, room, 0);
+    Wording::Written(size as u64)
 }
 
 // Writes the text for verdict 1 or 2, and answers how many bytes it has.

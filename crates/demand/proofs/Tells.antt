@@ -7,7 +7,8 @@ use mathlib.Core.List.{List, [], _∷_, map}
 use lib.ListN.{length, getD}
 use lib.Dec.{eqb}
 use Rattle.bits.specs.Locks.{bit, either, standingOf}
-use Rattle.bits.proofs.Words.{bit-cases, count-ext, first-ext}
+use Rattle.bits.proofs.Words.{bit-cases}
+use Rattle.bits.proofs.Counting.{count-ext, first-ext}
 use Rattle.rules.specs.Rules.{ceiling}
 use Rattle.rules.specs.Allowance.{All}
 use Rattle.rules.specs.declared.Level.{Level}

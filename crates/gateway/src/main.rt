@@ -1,6 +1,5 @@
 // Arms a unit from the file `profile`, answers the event records of standard input, and prints a line for each.
-ghost use mathlib.Core.Path.{_≡_};
-ghost use Prim.Native.Nat.{_≤_, min};
+ghost use Prim.Native.Nat.{_≤_};
 ghost use lib.ListN.{length};
 ghost use Rattle.io.specs.Counts.{Counts};
 use libc::STDIN_FILENO;
@@ -65,13 +64,6 @@ fn answer_rest(
     next
 }
 
-// The lesser of two numbers.
-fn least(a: usize, b: usize) -> usize
-    ensures { λ r. ⌜ r ≡ min a b ⌝ }
-{
-    if a <= b { a } else { b }
-}
-
 // Answers what one read of the input brings, the first record at a place, and prints its lines before it waits for anything more. Answers the
 // place after it, or 0 where the input or the output ends.
 fn answer_read(memory: &mut [u64], place: u64, input: &mut [u8], output: &mut [u8]) -> u64 {
@@ -86,7 +78,7 @@ fn answer_read(memory: &mut [u64], place: u64, input: &mut [u8], output: &mut [u
     if (part == 0) | (next == 0) {
         return next;
     }
-    let end = least(whole + 12, input.len());
+    let end = numbers::least((whole + 12) as u64, input.len() as u64) as usize;
     answer_rest(memory, next, &mut input[whole..end], part, output)
 }
 

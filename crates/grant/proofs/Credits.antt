@@ -16,7 +16,7 @@ use Rattle.machine.specs.declared.Offer.{Offer}
 use Rattle.machine.specs.Offers.{coversOffer, sameLevel, credited}
 use Rattle.machine.specs.Remaining.{noAccount}
 use Rattle.machine.proofs.Totals.{isPaid}
-use Rattle.tables.proofs.Tables.{every-at}
+use Rattle.laws.specs.Every.{every-at}
 use Rattle.state.specs.State.{stored, decode}
 use Rattle.state.specs.Laid.{accountIn, withTotal}
 use Rattle.state.proofs.Done.{isMeasured, Fair, changeAt}

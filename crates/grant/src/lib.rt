@@ -1,7 +1,7 @@
 // An offer's grant: what the rules of each level allow of it, and what a fill leaves in memory.
 ghost use mathlib.Core.Path.{_≡_};
 ghost use mathlib.Core.Bool.{true, not};
-ghost use Prim.Native.Nat.{_≤_, _<_, min, max};
+ghost use Prim.Native.Nat.{_≤_, _<_};
 ghost use lib.ListN.{length};
 ghost use Rattle.measures.specs.Ranges.{premiums, offers};
 ghost use Rattle.rules.specs.Rules.{levelOf, isRate};
@@ -38,20 +38,6 @@ pub struct Reached {
 pub struct Trips {
     pub root: bool,
     pub firm: bool,
-}
-
-// The lesser of two numbers.
-fn least(a: u64, b: u64) -> u64
-    ensures { λ r. ⌜ r ≡ min a b ⌝ }
-{
-    if a <= b { a } else { b }
-}
-
-// The greater of two numbers.
-fn greatest(a: u64, b: u64) -> u64
-    ensures { λ r. ⌜ r ≡ max a b ⌝ }
-{
-    if a <= b { b } else { a }
 }
 
 // Whether a rule counts for the firm.
@@ -110,7 +96,7 @@ fn lower(m: &[u64], o: Offer, i: usize, cuts: Cuts, memos: Two) -> Lowering
     if is_firm(rule) {
         let lowered = Cuts {
             root: cuts.root,
-            firm: least(most.0, cuts.firm),
+            firm: numbers::least(most.0, cuts.firm),
         };
         return Lowering {
             cuts: lowered,
@@ -118,7 +104,7 @@ fn lower(m: &[u64], o: Offer, i: usize, cuts: Cuts, memos: Two) -> Lowering
         };
     }
     let lowered = Cuts {
-        root: least(most.0, cuts.root),
+        root: numbers::least(most.0, cuts.root),
         firm: cuts.firm,
     };
     Lowering {
@@ -158,7 +144,7 @@ pub fn longest_window(m: &[u64]) -> u64
     let mut i: usize = 0;
     while i < accounts {
         let rule = state::rule_in(m, i);
-        longest = greatest(window(rule), longest);
+        longest = numbers::greatest(window(rule), longest);
         i += 1;
     }
     longest

@@ -18,9 +18,9 @@ use Rattle.text.proofs.Lists.{Cursor, cursor-step, cursor-there, cursor-gone}
 use Rattle.line.specs.Line.{limitsOf, limitOf, kindOf, isAbsolute, typeIn, limitIn, timeIn, rootIn, isFirmLevel, callPut, month, malformed, otherFirm, outOfRange, levelClash, unitClash, faultOf, scopeOf, ruleOf, lineOf}
 use Rattle.line.specs.Parts.{limitRead, HeadSays, TailSays}
 use Rattle.line.specs.declared.LimitType.{LimitType}
-use Rattle.line.specs.declared.LimitRead.the-variants.{Is as Ranged, Out}
-use Rattle.line.specs.declared.Head.{Head}
-use Rattle.line.specs.declared.Tail.{Tail}
+use Rattle.line.specs.declared.limits.LimitRead.the-variants.{Is as Ranged, Out}
+use Rattle.line.specs.declared.fields.Head.{Head}
+use Rattle.line.specs.declared.fields.Tail.{Tail}
 use Rattle.line.specs.declared.Line.{Line}
 use Rattle.line.specs.declared.Line.the-variants.{Is, Refused}
 

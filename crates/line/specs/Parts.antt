@@ -10,10 +10,10 @@ use Rattle.text.specs.Text.{fields, field}
 use Rattle.text.proofs.Lists.{Cursor}
 use Rattle.line.specs.Line.{limitsOf, limitOf, timeOf, isKnown, isRead, theNumber, firmField, typeField, rootField, limitField, isFirmLevel, callPut, month, firmIn, typeIn, rootIn, limitIn}
 use Rattle.line.specs.declared.LimitType.{LimitType}
-use Rattle.line.specs.declared.LimitRead.{LimitRead}
-use Rattle.line.specs.declared.LimitRead.the-variants.{Is, Out}
-use Rattle.line.specs.declared.Head.{Head}
-use Rattle.line.specs.declared.Tail.{Tail}
+use Rattle.line.specs.declared.limits.LimitRead.{LimitRead}
+use Rattle.line.specs.declared.limits.LimitRead.the-variants.{Is, Out}
+use Rattle.line.specs.declared.fields.Head.{Head}
+use Rattle.line.specs.declared.fields.Tail.{Tail}
 
 -- a number as a type's limit, if it is in range
 unfoldable pub limitRead : LimitType → ℕ → LimitRead

@@ -1,6 +1,6 @@
 // The program's lines: what arming and each event record of an input print, and the memory that they leave.
 ghost use mathlib.Core.Path.{_≡_};
-ghost use Prim.Native.Nat.{_+_, _*_, _≤_, _<_, min};
+ghost use Prim.Native.Nat.{_+_, _*_, _≤_, _<_};
 ghost use lib.ListN.{length};
 ghost use lib.Seq.{sets};
 ghost use Rattle.calls.specs.Calls.{armAnswer, armMemory, callAnswer, callMemory};
@@ -151,15 +151,8 @@ fn record_at(s: &[u8], j: usize) -> &[u8]
 {
     let from = j * 12;
     let left = s.len() - from;
-    let to = from + least(left, 12);
+    let to = from + numbers::least(left as u64, 12) as usize;
     &s[from..to]
-}
-
-// The lesser of two numbers.
-fn least(a: usize, b: usize) -> usize
-    ensures { λ r. ⌜ r ≡ min a b ⌝ }
-{
-    if a <= b { a } else { b }
 }
 
 // How many records of so many bytes surely find room, from a place on.
@@ -167,9 +160,8 @@ fn fitting(place: u64, bytes: usize, room: usize) -> usize
     ensures { λ r. ⌜ r ≡ fittingOf place bytes room ⌝ }
 {
     let records = bytes / 12 + (bytes % 12 + 11) / 12;
-    let lines = least(records, room / 126);
-    let places = (u64::MAX - place) as usize;
-    least(lines, places)
+    let lines = numbers::least(records as u64, (room / 126) as u64);
+    numbers::least(lines, u64::MAX - place) as usize
 }
 
 // Answers the records of a piece of input, the first at a place, and writes their lines to the front of a room: as many as surely find room.

@@ -1,6 +1,5 @@
 // The locks in lent memory, four numbers: how they change, and what they tell.
 ghost use mathlib.Core.Path.{_≡_};
-ghost use mathlib.Core.Bool.{cond};
 ghost use Prim.Native.Nat.{_<_};
 ghost use Rattle.machine.specs.Effects.{lifting};
 ghost use Rattle.machine.specs.Locks.{verdictOf, lifted, trippedBy, lockedOut};
@@ -19,13 +18,6 @@ const FIRM_BY_USER: usize = 1;
 const TRIPPED: usize = 2;
 
 const BY_USER: usize = 3;
-
-// One of two numbers, by a test.
-fn pick(test: bool, a: u64, b: u64) -> u64
-    ensures { λ r. ⌜ r ≡ cond test a b ⌝ }
-{
-    if test { a } else { b }
-}
 
 // The verdict on an order for a root: 1 if the firm is locked, else 2 if the root is, else 0.
 pub fn verdict(locks: &[u64], root: u64) -> u64
@@ -66,12 +58,12 @@ pub fn lift(locks: &mut [u64], root: u64, effect: Effect)
     requires { ⌜ AreLocks (now locks) × (root < 64) ⌝ }
     ensures { λ _. ⌜ now (locks .exit) ≡ locksNumbers (lifted (lifting effect root) root (locksIn (now (locks .entry)))) ⌝ }
 {
-    let firm = pick(effect.liftfirm, 0, locks[FIRM_TRIPPED]);
-    let user = pick(effect.liftfirm, 0, locks[FIRM_BY_USER]);
+    let firm = numbers::pick(effect.liftfirm, 0, locks[FIRM_TRIPPED]);
+    let user = numbers::pick(effect.liftfirm, 0, locks[FIRM_BY_USER]);
     let tripped = locks[TRIPPED];
-    let trips = pick(effect.liftroot, bits::unmark(tripped, root), tripped);
+    let trips = numbers::pick(effect.liftroot, bits::unmark(tripped, root), tripped);
     let locked = locks[BY_USER];
-    let users = pick(effect.liftroot, bits::unmark(locked, root), locked);
+    let users = numbers::pick(effect.liftroot, bits::unmark(locked, root), locked);
     locks[FIRM_TRIPPED] = firm;
     locks[FIRM_BY_USER] = user;
     locks[TRIPPED] = trips;
@@ -83,9 +75,9 @@ pub fn trip(locks: &mut [u64], root: u64, roottrips: bool, firmtrips: bool)
     requires { ⌜ AreLocks (now locks) × (root < 64) ⌝ }
     ensures { λ _. ⌜ now (locks .exit) ≡ locksNumbers (trippedBy (tripping roottrips firmtrips) root (locksIn (now (locks .entry)))) ⌝ }
 {
-    let firm = pick(firmtrips, 1, locks[FIRM_TRIPPED]);
+    let firm = numbers::pick(firmtrips, 1, locks[FIRM_TRIPPED]);
     let tripped = locks[TRIPPED];
-    let trips = pick(roottrips, bits::mark(tripped, root), tripped);
+    let trips = numbers::pick(roottrips, bits::mark(tripped, root), tripped);
     locks[FIRM_TRIPPED] = firm;
     locks[TRIPPED] = trips;
 }

@@ -7,7 +7,7 @@ use native.Mathlib.Omega.{arith}
 use lib.ListN.{length, getD, take, drop, set, length-map, drop-of-length-le}
 use lib.Seq.{take-all}
 use borrow.Author.Tests.{lt-leb, le-leb}
-use Rattle.laws.specs.Tests.{and-l, and-r}
+use Rattle.laws.specs.Tests.{and-l, and-r, and-i}
 use Rattle.laws.specs.Lists.{same, same-eq}
 use Rattle.tables.specs.Tables.{allZero, places, isPlace, placesPass}
 use Rattle.laws.specs.Folds.{every}
@@ -16,8 +16,9 @@ use Rattle.machine.specs.declared.Entry.{Entry}
 use Rattle.machine.specs.Order.{unflagged, unflaggedLog}
 use Rattle.rules.specs.declared.Level.{Level}
 use Rattle.tables.specs.EntryPlace.{entryAt, entryNumbers, isEntryPlace, logTable}
-use Rattle.tables.proofs.Parts.{two, and-i}
-use Rattle.tables.proofs.Tables.{Codec, pass-each, each-pass, is-table, valid-places, length-table, length-places, place-table, places-table, rest-table}
+use Rattle.tables.proofs.Parts.{two}
+use Rattle.tables.proofs.Tables.{Codec, is-table, valid-places, length-table, length-places, place-table, places-table, rest-table}
+use Rattle.tables.proofs.Passing.{pass-each, each-pass}
 use Rattle.tables.proofs.EntryPlace.{entry-codec, entry-wider}
 use Rattle.log.specs.Log.{entriesHold, logHolds, Held, HeldIn, entriesOf, placesIn, entriesIn, logNumbers}
 
@@ -33,7 +34,7 @@ place-wider : (n : ℕ) (xs : List ℕ) → n ≤ 64 → isEntryPlace n xs ≡ t
 unfolding isPlace
 place-wider n xs few h =
     let numbers = same (take 2 xs) (entryNumbers (entryAt xs)) in
-    and-i numbers (isEntry 64 (entryAt xs)) (and-l numbers (isEntry n (entryAt xs)) h) (entry-wider n 64 (entryAt xs) few (place-valid n xs h))
+    and-i (and-l numbers (isEntry n (entryAt xs)) h) (entry-wider n 64 (entryAt xs) few (place-valid n xs h))
 
 -- the two numbers of a place are those of its entry
 pub place-numbers : (xs : List ℕ) (at : ℕ) → at + 1 < length xs → isEntryPlace 64 (drop at xs) ≡ true

@@ -8,12 +8,11 @@ use mathlib.Core.List.{List}
 use lib.ListN.{drop}
 use lib.Dec.{leb}
 use borrow.Author.Tests.{leb-true, le-leb}
-use Rattle.laws.specs.Tests.{and-l, and-r, tests}
+use Rattle.laws.specs.Tests.{and-l, and-r, and-i, same-test, tests}
 use Rattle.measures.specs.Ranges.{isIn, times}
 use Rattle.tables.specs.Tables.{allZero, places, placesPass}
 use Rattle.tables.specs.EntryPlace.{entryAt, isEntryPlace}
-use Rattle.tables.proofs.Parts.{same-test, and-i}
-use Rattle.tables.proofs.Tables.{pass-on, places-on}
+use Rattle.tables.proofs.Passing.{pass-on, places-on}
 use Rattle.log.specs.Log.{entriesHold}
 use Rattle.machine.specs.Entries.{areOrdered}
 
@@ -91,7 +90,7 @@ module _ (n clock k : ℕ) (xs : List ℕ) (from i time : ℕ) (rest : Bool) (is
           let low : time ≤ 86_399_999 = search tests depth 14 in
           let valid : rest ≡ true = search (and-l, and-r) depth 14 in
           let after : leb from (time % 134_217_728) ≡ true = search (and-l, and-r) depth 14 in
-          sym h ∙ and-i rest (leb from time) valid (rw (kept low) at after)
+          sym h ∙ and-i valid (rw (kept low) at after)
 
   -- both in one: what was good so far, with this place
   pub left-step : (good : Bool) → (good && fromHolds n clock k xs from i) ≡ ((good && (rest && leb from time)) && fromHolds n clock k xs time (i + 1))

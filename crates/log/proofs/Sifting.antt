@@ -8,7 +8,7 @@ use lib.Bits.{bitAnd, and-mask, and-zero-r, and-block}
 use lib.Dec.{eqb, leb, ltb}
 use borrow.Author.Tests.{leb-true, le-leb, lt-leb, ltb-true, lt-ltb, eqb-true, eq-eqb, ne-eqb}
 use lib.ListN.{getD, drop}
-use Rattle.laws.specs.Tests.{and-l, and-r}
+use Rattle.laws.specs.Tests.{and-l, and-r, and-i, same-test}
 use Rattle.measures.specs.Ranges.{isIn, units}
 use Rattle.rules.specs.Rules.{levelOf, covers, counts, added, share}
 use Rattle.rules.specs.declared.Scope.{Scope}
@@ -24,8 +24,7 @@ use Rattle.machine.specs.Entries.{isEntry, flagOf, entryShare}
 use Rattle.machine.specs.declared.Entry.{Entry}
 use Rattle.bits.specs.Fields.{total, packed}
 use Rattle.tables.specs.EntryPlace.{flagNumber, fillValues, entryAt, entryNumbers, isEntryPlace}
-use Rattle.tables.proofs.Parts.{same-test, and-i}
-use Rattle.tables.proofs.Tables.{pass-each}
+use Rattle.tables.proofs.Passing.{pass-each}
 use Rattle.tables.proofs.EntryPlace.{Ranged, entry-ranged}
 use Rattle.log.specs.Log.{Held, entriesOf}
 use Rattle.log.specs.Sieve.{firstTime, sieveIn, sieveOf, passes, fillNumber, sifted}
@@ -71,7 +70,7 @@ of-unit root unit h w u k =
     let both : (eqb w root && eqb u unit) ≡ true → w * 4 + u ≡ root * 4 + unit =
     λ e. omega (arith, eqb-true w root (and-l (eqb w root) (eqb u unit) e), eqb-true u unit (and-r (eqb w root) (eqb u unit) e)) in
     same-test (eqb (w * 4 + u) (root * 4 + unit)) (eqb w root && eqb u unit)
-    (λ e. and-i (eqb w root) (eqb u unit) (eq-eqb w root (omega (arith, eqb-true (w * 4 + u) (root * 4 + unit) e))) (eq-eqb u unit (omega (arith, eqb-true (w * 4 + u) (root * 4 + unit) e))))
+    (λ e. and-i (eq-eqb w root (omega (arith, eqb-true (w * 4 + u) (root * 4 + unit) e))) (eq-eqb u unit (omega (arith, eqb-true (w * 4 + u) (root * 4 + unit) e))))
     (λ e. eq-eqb (w * 4 + u) (root * 4 + unit) (both e))
 
 whole-wanted : (n w : ℕ) (flag : Bool) → eqb (n * 16 + flagNumber flag * 2) (w * 16 + 2) ≡ (eqb w n && flag)

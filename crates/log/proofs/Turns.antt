@@ -1,5 +1,5 @@
 -- The log's entries rewritten in their places, one after the other, and the places after them set to 0. Assumes nothing.
-use Prim.Native.Nat.{ℕ, zero, suc, _+_, _*_, _-_, _≤_, _<_, zero-le}
+use Prim.Native.Nat.{ℕ, suc, _+_, _*_, _-_, _≤_, _<_, zero-le}
 use mathlib.Core.Path.{_≡_, refl, sym, ap, _∙_}
 use mathlib.Core.Logic.{_≢_}
 use mathlib.Core.Bool.{Bool, true, false, cond}
@@ -8,16 +8,17 @@ use native.Mathlib.Numerals.{add-one}
 use native.Mathlib.Omega.{arith}
 use lib.ListN.{length, getD, take, drop, set, length-append, length-drop, drop-of-length-le}
 use lib.Seq.{sets, drop-cons, getD-append-add, getD-drop, set-at, set-comm, set-getD, append-snoc, take-at, drop-at, length-take-le}
-use Rattle.laws.specs.Tests.{and-l, and-r}
 use Rattle.rules.specs.declared.Level.{Level}
 use Rattle.tables.specs.Tables.{zeros, flat, table}
 use Rattle.laws.specs.Folds.{every, keep}
+use Rattle.laws.specs.Every.{every-first, every-drop, every-append, every-join}
 use Rattle.machine.specs.Entries.{isEntry, recent}
 use Rattle.machine.specs.declared.Entry.{Entry}
 use Rattle.machine.specs.Order.{unflagged}
 use Rattle.tables.specs.EntryPlace.{amountValues, entryAt, entryNumbers, isEntryPlace, logTable}
-use Rattle.tables.proofs.Parts.{and-i}
-use Rattle.tables.proofs.Tables.{zeros-add, length-zeros, length-flat, length-places, length-table, place-table, read-table, put-at, put-next}
+use Rattle.shapes.proofs.Tables.{length-zeros}
+use Rattle.tables.proofs.Tables.{length-flat, length-places, length-table, place-table, read-table, put-at, put-next}
+use Rattle.tables.proofs.AllZero.{zeros-add}
 use Rattle.log.specs.Log.{Held, entriesOf, joined, Kept}
 use Rattle.log.specs.Sieve.{fillNumber, withoutFlags}
 use Rattle.log.proofs.Logs.{codec, place-numbers, held-valid, held-table}
@@ -37,22 +38,6 @@ module _ {A : Type 0} (d : A) (p q : List A) (j : ℕ) (l : length p ≡ j) wher
 
   overlaid : j ≤ length q → length (p ++ drop j q) ≡ length q
   overlaid h = omega (arith, length-append p (drop j q), length-drop j q)
-
-module _ (ok : Entry → Bool) where
-  every-append : (p q : List Entry) → every ok p ≡ true → every ok q ≡ true → every ok (p ++ q) ≡ true
-  unfolding every
-  every-append [] q v w = w
-  every-append (e ∷ p) q v w = and-i (ok e) (every ok (p ++ q)) (and-l (ok e) (every ok p) v) (every-append p q (and-r (ok e) (every ok p) v) w)
-
-  every-drop : (p : List Entry) (i : ℕ) → every ok p ≡ true → every ok (drop i p) ≡ true
-  unfolding every
-  every-drop p zero v = v
-  every-drop [] (suc i) v = v
-  every-drop (e ∷ p) (suc i) v = every-drop p i (and-r (ok e) (every ok p) v)
-
-  every-first : (e : Entry) (p q : List Entry) → p ≡ e ∷ q → every ok p ≡ true → ok e ≡ true
-  unfolding every
-  every-first e p q is v = and-l (ok e) (every ok q) (rw is at v)
 
 -- of the k entries in xs the first i went through `out`: what came of them stands in the first j places of ys, and after it those from place j on
 pub record Turned (out : List Entry → List Entry) (k : ℕ) (xs : List ℕ) (i j : ℕ) (ys : List ℕ) : Type 0 where
@@ -97,7 +82,7 @@ module _ {out : List Entry → List Entry} {k : ℕ} {xs : List ℕ} {i j : ℕ}
   pub turned-entry : {e : Entry} → i < k → e ≡ entryAt (drop (i * 2) ys) → isEntry 64 e ≡ true
   turned-entry {e = e} l is =
       let es = entriesOf k xs in
-      every-first (isEntry 64) e (drop i es) (drop (i + 1) es) (turned-next l is) (every-drop (isEntry 64) es i (held-valid h))
+      every-first (isEntry 64) e (drop (i + 1) es) (rw (turned-next l is) at (every-drop (isEntry 64) es i (held-valid h)))
 
   -- it leads to one entry, or to none
   turned-put : {a : Entry} {zs : List ℕ} → i < k → isEntry 64 a ≡ true → out (drop i (entriesOf k xs)) ≡ a ∷ out (drop (i + 1) (entriesOf k xs))
@@ -113,7 +98,7 @@ module _ {out : List Entry → List Entry} {k : ℕ} {xs : List ℕ} {i j : ℕ}
         made = t .made ++ (a ∷ []);
         count = length-append (t .made) (a ∷ []) ∙ ap (λ (n : ℕ). n + 1) (t .count);
         within = omega (arith, t .within);
-        valid = every-append (isEntry 64) (t .made) (a ∷ []) (t .valid) (and-i (isEntry 64 a) true ok refl);
+        valid = every-join (isEntry 64) (t .made) a (t .valid) ok;
         whole = append-assoc (t .made) (a ∷ []) (out (drop (i + 1) es)) ∙ ap (λ (l : List Entry). t .made ++ l) (sym gives) ∙ t .whole;
         log =
             is ∙ ap (λ (l : List ℕ). sets l (j * 2) (entryNumbers a)) (t .log)

@@ -1,6 +1,6 @@
 -- Laws of lists: what every element passes, entries in order of time, what is kept of a list and what joins it. Assumes nothing.
 use Prim.Native.Nat.{ℕ, _*_, _≤_}
-use mathlib.Core.Path.{_≡_, refl, ap}
+use mathlib.Core.Path.{_≡_, refl}
 use mathlib.Core.Bool.{Bool, true, false, cond, _&&_}
 use mathlib.Core.List.{List, [], _∷_, _++_, map}
 use lib.ListN.{length}
@@ -9,34 +9,11 @@ use borrow.Author.Tests.{leb-true, le-leb}
 use native.Mathlib.Omega.{arith}
 use Rattle.laws.specs.Tests.{and-l, and-r}
 use Rattle.laws.specs.Folds.{every, keep, sumOf}
+pub use Rattle.laws.specs.Every.{every-imp, every-map, every-keep, every-join}
 use Rattle.machine.specs.declared.Entry.{Entry}
 use Rattle.machine.specs.Entries.{areOrdered}
 
 module _ {A : Type 0} where
-  pub every-imp : (ok good : A → Bool) → ((x : A) → ok x ≡ true → good x ≡ true) → (xs : List A) → every ok xs ≡ true → every good xs ≡ true
-  unfolding every
-  every-imp ok good f [] h = refl
-  every-imp ok good f (x ∷ xs) h = rw (f x (and-l (ok x) (every ok xs) h)) (every-imp ok good f xs (and-r (ok x) (every ok xs) h))
-
-  pub every-map : {B : Type 0} (ok : B → Bool) (f : A → B) (xs : List A) → every ok (map f xs) ≡ every (λ x. ok (f x)) xs
-  unfolding every
-  every-map ok f [] = refl
-  every-map ok f (x ∷ xs) = ap (λ (b : Bool). ok (f x) && b) (every-map ok f xs)
-
-  pub every-keep : (ok test : A → Bool) (xs : List A) → every ok xs ≡ true → every ok (keep test xs) ≡ true
-  unfolding every keep
-  every-keep ok test [] h = refl
-  every-keep ok test (x ∷ xs) h = go (test x) (every-keep ok test xs (and-r (ok x) (every ok xs) h))
-    where
-      go : (b : Bool) → every ok (keep test xs) ≡ true → every ok (cond b (x ∷ keep test xs) (keep test xs)) ≡ true
-      go true k = rw (and-l (ok x) (every ok xs) h) k
-      go false k = k
-
-  pub every-join : (ok : A → Bool) (xs : List A) (x : A) → every ok xs ≡ true → ok x ≡ true → every ok (xs ++ (x ∷ [])) ≡ true
-  unfolding every
-  every-join ok [] x h k = rw k
-  every-join ok (y ∷ xs) x h k = rw (and-l (ok y) (every ok xs) h) (every-join ok xs x (and-r (ok y) (every ok xs) h) k)
-
   -- a sum of numbers that are each at most k
   pub sum-most : (ok : A → Bool) (f : A → ℕ) (k : ℕ) → ((x : A) → ok x ≡ true → f x ≤ k) → (xs : List A) → every ok xs ≡ true
       → sumOf f xs ≤ length xs * k

@@ -1,7 +1,7 @@
 -- The refusals of each call, in their order. Assumes nothing.
 use Prim.Native.Nat.{ℕ}
 use mathlib.Core.Bool.{Bool, not, cond, _&&_}
-use mathlib.Core.List.{List, [], _∷_}
+use mathlib.Core.List.{List, [], _∷_, _++_}
 use lib.ListN.{length}
 use lib.Dec.{leb, ltb, eqb}
 use Rattle.measures.specs.Ranges.{isIn, times, units, premiums, offers}
@@ -37,19 +37,21 @@ logFull room s o =
     eqb (verdictOf (s .part .locks) (o .root)) 0 && ltb 0 (grantOf (s .log) o (s .part .accounts)) && hasRate (rulesIn s)
     && leb room (used s (o .time))
 
+-- 12, 13, 14: what refuses an offer before the log is looked at
+abbrev pub offerFaults : Part → Offer → List (Bool × ℕ)
+offerFaults p o =
+    (badTime p (o .time), 12)
+    ∷ (not (isRoot p (o .root) && isIn units (o .unit)), 13)
+    ∷ (not (isIn premiums (o .premium) && isIn offers (o .contracts)), 14)
+    ∷ []
+
 -- the refusals of each call, in their order, on a log with so much room
 unfoldable pub refusalOf : ℕ → State → Call → ℕ
 refusalOf room s (order time root reset) =
     firstOf ((badTime (s .part) time, 12) ∷ (not (isRoot (s .part) root && leb reset lastReset), 13) ∷ [])
 refusalOf room s (lockout time level root) =
     firstOf ((badTime (s .part) time, 12) ∷ (not (leb level 1 && cond (eqb level 0) (isRoot (s .part) root) (eqb root 0)), 13) ∷ [])
-refusalOf room s (offer o) =
-    firstOf
-    ((badTime (s .part) (o .time), 12)
-    ∷ (not (isRoot (s .part) (o .root) && isIn units (o .unit)), 13)
-    ∷ (not (isIn premiums (o .premium) && isIn offers (o .contracts)), 14)
-    ∷ (logFull room s o, 15)
-    ∷ [])
+refusalOf room s (offer o) = firstOf (offerFaults (s .part) o ++ ((logFull room s o, 15) ∷ []))
 refusalOf room s (remaining time rule) =
     firstOf ((badTime (s .part) time, 12) ∷ (not (ltb rule (length (s .part .accounts))), 13) ∷ [])
 refusalOf room s status = 0

@@ -7,7 +7,7 @@ use lib.ListN.{length, getD}
 use lib.Dec.{eqb, leb, lit<}
 use borrow.Author.Tests.{eqb-false, ne-eqb, le-leb, leb-true}
 use native.Mathlib.Omega.{arith}
-use Rattle.laws.specs.Tests.{and-l, and-r}
+use Rattle.laws.specs.Tests.{and-l, and-r, and-i}
 use Rattle.text.specs.Text.{indexOf, isDigit, isNameByte}
 use Rattle.machine.specs.State.{Profile}
 use Rattle.profile.specs.Profile.{Outcome, outcomeOf}
@@ -16,7 +16,7 @@ use Rattle.profile.proofs.Laws.{lawful, accepted-some, accepted-named}
 use Rattle.text.specs.Digits.{nameBytes}
 use Rattle.made.specs.Names.{isNameNumber}
 use Rattle.made.specs.Made.{isFresh, areRoots, isMade}
-use Rattle.text.proofs.Bytes.{and-both, all-in, made-most, made-all}
+use Rattle.text.proofs.Bytes.{all-in, made-most, made-all}
 use Rattle.text.proofs.InBase.{digits-back}
 
 -- a name's number holds that name
@@ -43,7 +43,7 @@ unfolding isFresh
 fresh-of name [] h = refl
 fresh-of name (x ∷ xs) h =
     let first = ne-eqb x name (λ e. eqb-false name x (h 0 (omega arith)) (sym e)) in
-    and-both (ap not first) (fresh-of name xs (λ i l. h (suc i) (omega arith)))
+    and-i (ap not first) (fresh-of name xs (λ i l. h (suc i) (omega arith)))
 
 later : (t : Bool) (i j : ℕ) → cond t 0 (suc i) ≡ suc j → (t ≡ false) × (i ≡ j)
 later true i j e = absurd (omega arith)
@@ -56,7 +56,7 @@ roots-of [] named placed = refl
 roots-of (name ∷ names) named placed =
     let after : (i : ℕ) → i < length names → (eqb name (getD names i 0) ≡ false) × (indexOf (getD names i 0) names ≡ i) =
     λ i l. later (eqb name (getD names i 0)) (indexOf (getD names i 0) names) i (placed (suc i) (omega arith)) in
-    and-both (and-both (name-holds 1 6 name (omega arith) (named 0 (omega arith))) (fresh-of name names (λ i l. after i l .0)))
+    and-i (and-i (name-holds 1 6 name (omega arith) (named 0 (omega arith))) (fresh-of name names (λ i l. after i l .0)))
     (roots-of names (λ i l. named (suc i) (omega arith)) (λ i l. after i l .1))
 
 -- a lawful profile of a firm that is named, with a rule
@@ -65,9 +65,9 @@ unfolding isMade
 lawful-made p law named some =
     let roots = length (p .roots) in
     let rules = length (p .rules) in
-    and-both (and-both (and-both (and-both (and-both (name-holds 1 4 (p .firm) (omega arith) named)
-    (and-both (le-leb 0 roots (omega arith)) (le-leb roots 64 (law .roots-most)))) (roots-of (p .roots) (law .each-name) (law .each-place)))
-    (and-both (le-leb 1 rules some) (le-leb rules 256 (law .rules-most)))) (law .each-rule))
+    and-i (and-i (and-i (and-i (and-i (name-holds 1 4 (p .firm) (omega arith) named)
+    (and-i (le-leb 0 roots (omega arith)) (le-leb roots 64 (law .roots-most)))) (roots-of (p .roots) (law .each-name) (law .each-place)))
+    (and-i (le-leb 1 rules some) (le-leb rules 256 (law .rules-most)))) (law .each-rule))
     (law .in-order)
 
 pub given-made : (text : List ℕ) (p : Profile) → outcomeOf text ≡ record { profile = p; refusal = 0; line = 0 } → isMade p ≡ true

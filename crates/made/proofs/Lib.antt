@@ -1,5 +1,3 @@
-pub mod Bytes
-pub mod Digits
 pub mod Names
 pub mod Places
 pub mod Order

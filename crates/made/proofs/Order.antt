@@ -19,7 +19,8 @@ use Rattle.rules.specs.declared.Rule.{Rule}
 use Rattle.rules.specs.Valid.{isLimit, isKind, isScope, isRule}
 use Rattle.tables.specs.Tables.{allZero, places, isPlace, placesPass}
 use Rattle.tables.specs.RulePlace.{ruleAt, ruleNumbers, isRulePlace}
-use Rattle.tables.proofs.Tables.{length-places, pass-on}
+use Rattle.tables.proofs.Tables.{length-places}
+use Rattle.tables.proofs.Passing.{pass-on}
 use Rattle.tables.proofs.RulePlace.{rule-codec}
 use Rattle.admission.specs.Admission.{seenAfter, mayJoin, mayFollow, areInOrder}
 use Rattle.admission.specs.Counting.{SoFar, noRules, Follows}

@@ -13,7 +13,7 @@ use Rattle.rules.specs.Rules.{isRate}
 use Rattle.rules.specs.declared.Rule.{Rule}
 use Rattle.tables.specs.Tables.{allZero, places}
 use Rattle.tables.specs.RulePlace.{ruleAt}
-use Rattle.tables.proofs.Tables.{places-on}
+use Rattle.tables.proofs.Passing.{places-on}
 use Rattle.made.specs.Made.{isFresh, areRoots}
 use Rattle.made.specs.Parts.{namesHold, totalsHold}
 use Rattle.rules.specs.Valid.{isTotalNumber, hasRate}

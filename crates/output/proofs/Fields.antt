@@ -8,7 +8,7 @@ use lib.Dec.{eqb, leb, ltb, lit<}
 use borrow.Author.Tests.{lt-ltb, le-ltb, ne-eqb}
 use native.Mathlib.Nat.{max-eq-right}
 use native.Mathlib.Omega.{arith}
-use Rattle.laws.specs.Tests.{tests}
+use Rattle.laws.specs.Tests.{and-i, tests}
 use Rattle.laws.specs.Lists.{same}
 use Rattle.measures.specs.Ranges.{Range, isIn, dollarLimits, numberLimits, units}
 use Rattle.rules.specs.Rules.{isRate}
@@ -32,7 +32,7 @@ use Rattle.rules.specs.Valid.{isLimit, isKind, isScope, isRule, windows}
 use Rattle.made.specs.Names.{isNameNumber}
 use Rattle.made.specs.Made.{areRoots}
 use Rattle.output.specs.Output.{typeName, limitText, windowText, rootText, levelText, callPutText, monthText}
-use Rattle.text.proofs.Bytes.{and-both, all-weaker, made-of, made-all}
+use Rattle.text.proofs.Bytes.{all-weaker, made-of, made-all}
 use Rattle.made.proofs.Names.{name-few, name-any, name-read, name-some}
 use Rattle.output.proofs.Pieces.{inField, isField}
 use Rattle.output.proofs.Roots.{root-name}
@@ -52,7 +52,7 @@ digit-plain : (x : ℕ) → isDigit x ≡ true → inField x ≡ true
 digit-plain x h =
     let least : 48 ≤ x = search tests in
     let most : x ≤ 57 = search tests in
-    and-both (lt-ltb 44 x (omega arith)) (lt-ltb x 128 (omega arith))
+    and-i (lt-ltb 44 x (omega arith)) (lt-ltb x 128 (omega arith))
 
 name-plain : (x : ℕ) → isNameByte x ≡ true → inField x ≡ true
 name-plain x h = go (isDigit x) refl h
@@ -62,7 +62,7 @@ name-plain x h = go (isDigit x) refl h
     go false e h =
         let least : 65 ≤ x = search tests in
         let most : x ≤ 90 = search tests in
-        and-both (lt-ltb 44 x (omega arith)) (lt-ltb x 128 (omega arith))
+        and-i (lt-ltb 44 x (omega arith)) (lt-ltb x 128 (omega arith))
 
 pub decimal-field : (n : ℕ) → n < 10 ^ 12 → isField (decimal n) ≡ true
 decimal-field n h = made-of inField 0 12 (decimal n) (omega arith) (decimal-upto 11 n h) (all-weaker digit-plain (decimal n) (decimal-digits n))

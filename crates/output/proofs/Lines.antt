@@ -16,7 +16,7 @@ use Rattle.made.specs.Names.{isNameNumber}
 use Rattle.made.specs.Made.{areRoots}
 use Rattle.output.specs.Output.{lineText, linesText}
 use Rattle.text.proofs.Bytes.{all-append, all-weaker}
-use Rattle.output.proofs.Every.{every-first, every-rest}
+use Rattle.laws.specs.Every.{every-first, every-rest}
 use Rattle.output.proofs.Pieces.{inLine, piece-then}
 use Rattle.output.proofs.Longest.{line-most}
 use Rattle.output.proofs.Line.{line-bytes}

@@ -20,7 +20,7 @@ use Rattle.made.proofs.Order.{rule-scope}
 use Rattle.made.proofs.Places.{rulesFrom, rules-start, rules-on, rules-end}
 use Rattle.output.specs.Output.{rootText, lineText, linesText}
 use Rattle.output.specs.Parts.{namesOf, Known, Placed}
-use Rattle.output.proofs.Every.{every-first, every-rest}
+use Rattle.laws.specs.Every.{every-first, every-rest}
 use Rattle.output.proofs.Cut.{type-few, end-few, line-long}
 
 -- a line is short, whatever stands in the tables

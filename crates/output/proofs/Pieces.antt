@@ -8,12 +8,12 @@ use lib.Dec.{eqb, leb, ltb}
 use borrow.Author.Tests.{eq-eqb, ne-eqb, ltb-true, le-leb}
 use native.Mathlib.Decide.{decLt}
 use native.Mathlib.Omega.{arith}
-use Rattle.laws.specs.Tests.{and-l, and-r}
+use Rattle.laws.specs.Tests.{and-l, and-r, and-i}
 use Rattle.text.specs.Text.{all, made, onto, pieces, fields}
 use Rattle.laws.specs.Folds.{every}
 use Rattle.output.specs.Output.{inFront, trimmed, withCommas}
-use Rattle.text.proofs.Bytes.{and-both, all-append, all-weaker, made-all}
-use Rattle.output.proofs.Every.{every-first, every-rest}
+use Rattle.text.proofs.Bytes.{all-append, all-weaker, made-all}
+use Rattle.laws.specs.Every.{every-first, every-rest}
 
 -- a text up to a separator is its first piece, where no byte before it is the separator
 module _ (p : ℕ → Bool) (b : ℕ) (off : p b ≡ false) where
@@ -38,7 +38,7 @@ abbrev pub inLine : ℕ → Bool
 inLine x = leb 44 x && ltb x 128
 
 in-line : (x : ℕ) → inField x ≡ true → inLine x ≡ true
-in-line x h = and-both (le-leb 44 x (omega (arith, ltb-true 44 x (and-l (ltb 44 x) (ltb x 128) h)))) (and-r (ltb 44 x) (ltb x 128) h)
+in-line x h = and-i (le-leb 44 x (omega (arith, ltb-true 44 x (and-l (ltb 44 x) (ltb x 128) h)))) (and-r (ltb 44 x) (ltb x 128) h)
 
 -- a field as it is written: at most 12 of these bytes
 abbrev pub isField : List ℕ → Bool
@@ -101,8 +101,8 @@ module _ (ok : List ℕ → Bool) where
   front-every : (f : List ℕ) (fs : List (List ℕ)) → ok f ≡ true → every ok fs ≡ true → every ok (inFront f fs) ≡ true
   unfolding inFront every
   front-every [] [] h k = refl
-  front-every [] (g ∷ rest) h k = and-both h k
-  front-every (x ∷ f) rest h k = and-both h k
+  front-every [] (g ∷ rest) h k = and-i h k
+  front-every (x ∷ f) rest h k = and-i h k
 
   pub trimmed-every : (fs : List (List ℕ)) → every ok fs ≡ true → every ok (trimmed fs) ≡ true
   unfolding trimmed every

@@ -7,7 +7,7 @@ use mathlib.Core.List.{List, [], _∷_, map}
 use lib.ListN.{length, getD}
 use borrow.Author.Tests.{le-leb, ltb-true}
 use native.Mathlib.Omega.{arith}
-use Rattle.laws.specs.Tests.{tests}
+use Rattle.laws.specs.Tests.{and-i, tests}
 use Rattle.measures.specs.Ranges.{_to_, isIn}
 use Rattle.rules.specs.declared.Rule.{Rule}
 use Rattle.text.specs.Text.{lines}
@@ -20,8 +20,8 @@ use Rattle.made.specs.Names.{isNameNumber}
 use Rattle.admission.specs.Admission.{areInOrder}
 use Rattle.made.specs.Made.{areRoots, isMade}
 use Rattle.output.specs.Output.{lineText, textOf, textMost}
-use Rattle.text.proofs.Bytes.{and-both, all-at}
-use Rattle.output.proofs.Every.{every-first}
+use Rattle.text.proofs.Bytes.{all-at}
+use Rattle.laws.specs.Every.{every-first}
 use Rattle.output.proofs.Line.{line-firm}
 use Rattle.output.proofs.Lines.{isByte, lines-back, lines-bytes, lines-few, lines-some}
 use Rattle.output.proofs.Reading.{read-on}
@@ -59,7 +59,7 @@ text-bound p h =
 text-size : (p : Profile) → isMade p ≡ true → isIn (1 to 65_536) (length (textOf p)) ≡ true
 unfolding textOf
 text-size p h =
-    and-both (le-leb 1 (length (textOf p)) (lines-some (p .firm) (p .roots) (p .rules) (made-facts p h .rules-some)))
+    and-i (le-leb 1 (length (textOf p)) (lines-some (p .firm) (p .roots) (p .rules) (made-facts p h .rules-some)))
     (le-leb (length (textOf p)) 65_536 (omega (arith, text-bound p h)))
 
 module _ (p : Profile) (m : MadeFacts p) where

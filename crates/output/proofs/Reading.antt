@@ -24,7 +24,7 @@ use Rattle.made.specs.Names.{isNameNumber}
 use Rattle.made.specs.Made.{areRoots}
 use Rattle.output.specs.Output.{lineText}
 use Rattle.made.proofs.Order.{rule-scope}
-use Rattle.output.proofs.Every.{every-first, every-rest}
+use Rattle.laws.specs.Every.{every-first, every-rest}
 use Rattle.output.proofs.Roots.{root-index}
 use Rattle.output.proofs.Fields.{named, withName}
 use Rattle.output.proofs.Line.{line-back}

@@ -1,20 +1,20 @@
 -- A lawful profile stays so with one rule more, as long as that is not one too many. Assumes nothing.
 use Prim.Native.Nat.{ℕ, _+_, _≤_, _<_}
 use mathlib.Core.Path.{_≡_, refl, sym, ap₂, _∙_}
-use mathlib.Core.Bool.{Bool, true, false, not, _&&_, _||_}
+use mathlib.Core.Bool.{true, false, not, _&&_, _||_}
 use mathlib.Core.List.{List, [], _∷_, _++_}
 use lib.ListN.{length, getD, length-append}
 use lib.Dec.{ltb}
 use borrow.Author.Tests.{ltb-false, lt-ltb, le-leb}
 use native.Mathlib.Numerals.{add-one}
 use native.Mathlib.Omega.{arith}
-use Rattle.laws.specs.Tests.{and-l, and-r}
 use Rattle.rules.specs.declared.Scope.{Scope}
 use Rattle.rules.specs.declared.Scope.the-variants.{EveryFill, WholeRoot, OneUnit}
 use Rattle.rules.specs.declared.Rule.{Rule}
 use Rattle.text.specs.Text.{indexOf}
 use Rattle.text.proofs.Lists.{index-le}
 use Rattle.laws.specs.Folds.{every}
+use Rattle.laws.specs.Every.{every-imp, every-join}
 use Rattle.rules.specs.Valid.{isScope, isRule}
 use Rattle.machine.specs.State.{Profile}
 use Rattle.tables.proofs.RulePlace.{rule-wider}
@@ -35,18 +35,6 @@ start-lawful firm = record {
   each-place = λ root h. absurd (omega arith);
   in-order = refl;
 }
-
-every-more : (test : Rule → Bool) (rules : List Rule) (rule : Rule) → every test rules ≡ true → test rule ≡ true → every test (rules ++ (rule ∷ [])) ≡ true
-unfolding every
-every-more test [] rule h e = rw e
-every-more test (r ∷ rules) rule h e =
-    ap₂ (λ a b. a && b) (and-l (test r) (every test rules) h) (every-more test rules rule (and-r (test r) (every test rules) h) e)
-
-every-wider : (test wider : Rule → Bool) → ((rule : Rule) → test rule ≡ true → wider rule ≡ true) → (rules : List Rule) → every test rules ≡ true → every wider rules ≡ true
-unfolding every
-every-wider test wider f [] h = refl
-every-wider test wider f (r ∷ rules) h =
-    ap₂ (λ a b. a && b) (f r (and-l (test r) (every test rules) h)) (every-wider test wider f rules (and-r (test r) (every test rules) h))
 
 -- the roots that a scope adds to, and the scope with its root's number
 module _ (roots : List ℕ) where
@@ -137,12 +125,12 @@ module _ (p : Profile) (rule : Rule) where
         let two = or-l (ltb 256 (length more) || ltb 64 (length roots)) (crowded more (own .scope)) all in
         let free = or-r (ltb 256 (length more) || ltb 64 (length roots)) (crowded more (own .scope)) all in
         let wider : every (isRule (length roots)) (p .rules) ≡ true =
-        every-wider (isRule (length (p .roots))) (isRule (length roots)) (λ r. rule-wider (length (p .roots)) (length roots) r (grow (p .roots) (rule .scope))) (p .rules)
+        every-imp (isRule (length (p .roots))) (isRule (length roots)) (λ r. rule-wider (length (p .roots)) (length roots) r (grow (p .roots) (rule .scope))) (p .rules)
         (law .each-rule) in
         rw joined-is (record {
           rules-most = ltb-false 256 (length more) (or-l (ltb 256 (length more)) (ltb 64 (length roots)) two);
           roots-most = ltb-false 64 (length roots) (or-r (ltb 256 (length more)) (ltb 64 (length roots)) two);
-          each-rule = every-more (isRule (length roots)) (p .rules) own wider own-rule;
+          each-rule = every-join (isRule (length roots)) (p .rules) own wider own-rule;
           each-name = named-of (p .roots) (rule .scope) (said .scope) (law .each-name);
           each-place = placed-of (p .roots) (rule .scope) (law .each-place);
           in-order =

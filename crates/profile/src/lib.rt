@@ -32,7 +32,7 @@ pub struct Scan {
 }
 
 // The number of a root: the place of its name among those that are known, or the next place.
-fn root_number(names: &[u64], name: u64) -> u64
+pub fn root_number(names: &[u64], name: u64) -> u64
     ensures { λ r. ⌜ r ≡ indexOf name (now (names .entry)) ⌝ }
 {
     let mut i: usize = 0;

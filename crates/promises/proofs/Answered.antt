@@ -14,33 +14,33 @@ use Rattle.machine.specs.Judge.{logPlaces, judged, unless, judge, stepIn, step,
 use Rattle.machine.specs.declared.Answer.{Answer}
 use Rattle.machine.specs.declared.Answer.the-variants.{Refused, Judged, Left, Standing}
 use Rattle.state.specs.State.{decode}
-use Rattle.calls.specs.Calls.{memoryRefusal, callAnswer}
-use Rattle.promises.specs.Refusals.{refusalRow, refusalBy}
+use Rattle.calls.specs.Calls.{memoryRefusal, callAnswer, refusalIn}
+use Rattle.promises.specs.Refusals.{refusalRow}
 use Rattle.promises.proofs.Holds.{acts-answered, acts-unrefused}
 
 module _ (xs : List ℕ) (call : Call) where
   abbrev answerAt : ℕ → Answer
   answerAt n = unless n (judged (decode xs) call) .answer
 
-  pub answer-by : callAnswer xs call ≡ answerAt (refusalBy xs call)
-  unfolding refusalBy callAnswer step stepIn judge unless
+  pub answer-by : callAnswer xs call ≡ answerAt (refusalIn xs call)
+  unfolding refusalIn callAnswer step stepIn judge unless
   answer-by = go (memoryRefusal xs) (refusalOf logPlaces (decode xs) call)
     where
       go : (a b : ℕ) → cond (eqb a 0) (answerAt b) (Refused a) ≡ answerAt (cond (eqb a 0) b a)
       go zero b = refl
       go (suc a) b = rw (ne-eqb (suc a) 0 (λ e. omega arith))
 
-  pub acted-answer : refusalBy xs call ≡ 0 → callAnswer xs call ≡ judged (decode xs) call .answer
+  pub acted-answer : refusalIn xs call ≡ 0 → callAnswer xs call ≡ judged (decode xs) call .answer
   unfolding unless
   acted-answer e = answer-by ∙ ap answerAt e
 
-  pub refused-by : (n : ℕ) → refusalBy xs call ≡ suc n → callAnswer xs call ≡ Refused (suc n)
+  pub refused-by : (n : ℕ) → refusalIn xs call ≡ suc n → callAnswer xs call ≡ Refused (suc n)
   unfolding unless
   refused-by n e = answer-by ∙ ap answerAt e
 
-  pub by-refused : (n : ℕ) → callAnswer xs call ≡ Refused n → refusalBy xs call ≡ n
+  pub by-refused : (n : ℕ) → callAnswer xs call ≡ Refused n → refusalIn xs call ≡ n
   unfolding unless
-  by-refused n e = go (refusalBy xs call) (sym answer-by ∙ e)
+  by-refused n e = go (refusalIn xs call) (sym answer-by ∙ e)
     where
       go : (a : ℕ) → answerAt a ≡ Refused n → a ≡ n
       go zero e = absurd (acts-unrefused (decode xs) call n e)
@@ -49,16 +49,16 @@ module _ (xs : List ℕ) (call : Call) where
   -- one that is not answered by a refusal is answered by the machine
   pub taken : (a : Answer) → callAnswer xs call ≡ a → isRefusal a ≡ false → judged (decode xs) call .answer ≡ a
   unfolding unless isRefusal
-  taken a e f = go (refusalBy xs call) (sym answer-by ∙ e)
+  taken a e f = go (refusalIn xs call) (sym answer-by ∙ e)
     where
       go : (n : ℕ) → answerAt n ≡ a → judged (decode xs) call .answer ≡ a
       go zero e = e
       go (suc n) e = absurd (false≢true (sym f ∙ sym (ap isRefusal e)))
 
   -- it is not refused exactly if no number is
-  pub unrefused : (isRefusal (callAnswer xs call) ≡ false) ↔ (refusalBy xs call ≡ 0)
+  pub unrefused : (isRefusal (callAnswer xs call) ≡ false) ↔ (refusalIn xs call ≡ 0)
   unfolding unless isRefusal
-  unrefused = (λ e. go (refusalBy xs call) (sym (ap isRefusal answer-by) ∙ e), λ e. ap isRefusal (acted-answer e) ∙ acts-answered (decode xs) call)
+  unrefused = (λ e. go (refusalIn xs call) (sym (ap isRefusal answer-by) ∙ e), λ e. ap isRefusal (acted-answer e) ∙ acts-answered (decode xs) call)
     where
       go : (n : ℕ) → isRefusal (answerAt n) ≡ false → n ≡ 0
       go zero e = refl
@@ -76,7 +76,7 @@ row-refused a n = (λ e. go a (ap (λ (row : List ℕ). getD row 0 0) e), λ e. 
     go (Standing roots) e = absurd (omega arith)
 
 -- so a call has a refusal's row exactly if it is refused by that number
-pub row-by : (xs : List ℕ) (call : Call) (n : ℕ) → (numbers (callAnswer xs call) ≡ refusalRow (suc n)) ↔ (refusalBy xs call ≡ suc n)
+pub row-by : (xs : List ℕ) (call : Call) (n : ℕ) → (numbers (callAnswer xs call) ≡ refusalRow (suc n)) ↔ (refusalIn xs call ≡ suc n)
 row-by xs call n = (
   λ e. by-refused xs call (suc n) (row-refused (callAnswer xs call) n .0 e),
   λ e. row-refused (callAnswer xs call) n .1 (refused-by xs call n e),

@@ -17,9 +17,9 @@ use Rattle.state.specs.Sound.{Sound, isSound}
 use Rattle.state.proofs.Exactly.{taken-apart, restored}
 use Rattle.state.proofs.Stored.{is-stored, decode-stored}
 use Rattle.state.proofs.Exactly.{made-parts, sound-fits, given-is-made, sound-decode, exactly}
-use Rattle.calls.specs.Calls.{isShort, markOf, memoryRefusal, callAnswer}
+use Rattle.calls.specs.Calls.{isShort, markOf, memoryRefusal, callAnswer, refusalIn}
 use Rattle.promises.proofs.Marked.{sound-marked}
-use Rattle.promises.specs.Refusals.{refusalRow, Short, Held, Holding, Untimely, Unknown, Unpriced, LogFull, CallRefusals, refusalBy}
+use Rattle.promises.specs.Refusals.{refusalRow, Short, Held, Holding, Untimely, Unknown, Unpriced, LogFull, CallRefusals}
 use Rattle.promises.proofs.Tests.{Tells, tells-not, not-tells, NonePass, first-at, first-none}
 use Rattle.promises.proofs.Judged.{late, strange, unpriced, full, machineTests, machine-tests, late-tells, strange-tells, unpriced-tells, full-tells}
 use Rattle.promises.proofs.Answered.{unrefused, row-by}
@@ -69,8 +69,8 @@ module _ (xs : List ℕ) where
     now = decode xs
 
     -- all tests of a call, in their order
-    by-tests : refusalBy xs call ≡ firstOf (memoryTests ++ machineTests now call)
-    unfolding refusalBy memoryRefusal firstOf
+    by-tests : refusalIn xs call ≡ firstOf (memoryTests ++ machineTests now call)
+    unfolding refusalIn memoryRefusal firstOf
     by-tests =
         ap (λ (n : ℕ). cond (eqb (memoryRefusal xs) 0) n (memoryRefusal xs)) (machine-tests now call)
         ∙ go (isShort xs) (eqb (markOf xs) 0) (not (isSound xs)) (firstOf (machineTests now call))

@@ -3,10 +3,9 @@
 use Prim.Native.Nat.{ℕ, suc, _+_, _≤_, _<_}
 use mathlib.Core.Path.{_≡_}
 use mathlib.Core.Logic.{_↔_, _⊎_}
-use mathlib.Core.Bool.{Bool, true, false, cond}
+use mathlib.Core.Bool.{Bool, true, false}
 use mathlib.Core.List.{List, [], _∷_, _++_}
 use lib.ListN.{length, getD, take}
-use lib.Dec.{eqb}
 use Rattle.measures.specs.Ranges.{In, times, units, premiums, offers}
 use Rattle.rules.specs.Valid.{hasRate}
 use Rattle.rules.specs.declared.Level.the-variants.{Firm, Root}
@@ -19,11 +18,11 @@ use Rattle.machine.specs.Calls.{Call, order, lockout, offer, remaining, status}
 use Rattle.machine.specs.Locks.{isLocked}
 use Rattle.machine.specs.Offers.{grantOf}
 use Rattle.machine.specs.Effects.{lastReset}
-use Rattle.machine.specs.Refusals.{firstOf, used, refusalOf}
+use Rattle.machine.specs.Refusals.{firstOf, used}
 use Rattle.machine.specs.Judge.{logPlaces, numbers, isRefusal}
-use Rattle.state.specs.State.{size, encode, decode}
+use Rattle.state.specs.State.{size, encode}
 use Rattle.state.specs.Sound.{SoundState, Sound}
-use Rattle.calls.specs.Calls.{markOf, armAnswer, armMemory, clearAnswer, clearMemory, memoryRefusal, callAnswer, callMemory, textAnswer, textMemory}
+use Rattle.calls.specs.Calls.{markOf, armAnswer, armMemory, clearAnswer, clearMemory, callAnswer, callMemory, textAnswer, textMemory}
 use Rattle.capi.specs.Rows.{armRow, clearRow, textRow}
 
 -- a refusal gives its number, and zeros in the other answers
@@ -115,10 +114,6 @@ pub record CallRefusals (xs : List ℕ) (call : Call) : Type 0 where
   pub accepted :
       (isRefusal (callAnswer xs call) ≡ false)
       ↔ Holding xs (λ s. (Untimely s call → ⊥) × (Unknown s call → ⊥) × (Unpriced s call → ⊥) × (LogFull s call → ⊥))
-
--- the number that a call is refused with, 0 if it is not: by the memory, then by the machine
-unfoldable pub refusalBy : List ℕ → Call → ℕ
-refusalBy xs call = cond (eqb (memoryRefusal xs) 0) (refusalOf logPlaces (decode xs) call) (memoryRefusal xs)
 
 -- ---- Arm
 

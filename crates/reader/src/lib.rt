@@ -2,7 +2,7 @@
 ghost use mathlib.Core.Path.{_≡_};
 ghost use Rattle.reader.specs.Lines.{lineFrom};
 
-// The lent bytes of a text, and the place in them from which the reader reads on.
+// The lent bytes of a text, and the place in them at which the reader stands.
 struct Reader<'a> {
     src: &'a [u8],
     at: usize,
@@ -28,8 +28,8 @@ impl<'a> Reader<'a> {
         Reader { src, at }
     }
 
-    // The next line: the one that begins at the reader's place. It is a part of the lent bytes.
-    fn next(self) -> &'a [u8]
+    // The line that begins at the reader's place, a part of the lent bytes. The reader stays where it is: who reads on makes one at the next place.
+    fn line(self) -> &'a [u8]
         ensures { λ r. ⌜ now r ≡ lineFrom (now (self .entry .src)) (self .entry .at) ⌝ }
     {
         line_at(self.src, self.at)
@@ -40,5 +40,5 @@ impl<'a> Reader<'a> {
 pub fn line_from(text: &[u8], at: usize) -> &[u8]
     ensures { λ r. ⌜ now r ≡ lineFrom (now (text .entry)) at ⌝ }
 {
-    Reader::new(text, at).next()
+    Reader::new(text, at).line()
 }

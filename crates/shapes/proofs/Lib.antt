@@ -1,5 +1,4 @@
 pub mod Tables
 pub mod Exact
 pub mod Parts
-pub mod Loops
 pub mod Valid

@@ -1,18 +1,17 @@
 -- A part of a whole: where it stands, and that storing it leaves the rest. Parts of parts add their places. Assumes nothing.
-use Prim.Native.Nat.{ℕ, zero, suc, _+_, _*_, _-_, _≤_, _<_}
-use mathlib.Core.Path.{_≡_, refl, sym, ap, ap₂, _∙_, subst}
-use mathlib.Core.Bool.{Bool, true, _&&_}
+use Prim.Native.Nat.{ℕ, suc, _+_, _*_, _-_, _<_}
+use mathlib.Core.Path.{_≡_, refl, sym, ap, ap₂, _∙_}
+use mathlib.Core.Bool.{Bool, true}
 use mathlib.Core.List.{List, [], _∷_, _++_, append-assoc, append-nil}
-use native.Mathlib.Nat.{not-suc-le-zero, le-of-suc-le-suc}
 use native.Mathlib.Omega.{arith}
 use lib.ListN.{length, getD, take, drop, set, length-append, length-set}
-use lib.Seq.{take-at, drop-at, drop-drop, set-at, split-at, set-split, length-take-le}
+use lib.Seq.{take-at, drop-at, set-at, split-at, set-split, length-take-le}
 use Rattle.laws.specs.Tests.{and-l, and-r}
 use Rattle.shapes.specs.Tables.{zeros, flat}
-use Rattle.laws.specs.Folds.{every}
-use Rattle.shapes.specs.Shape.{Shape, Exact, Long, one, both, named, such, rows}
+use Rattle.laws.specs.Every.{every-at, every-take}
+use Rattle.shapes.specs.Shape.{Shape, Exact, Long, one, both, rows}
 use Rattle.shapes.proofs.Tables.{length-flat}
-use Rattle.shapes.proofs.Exact.{rows-many, rows-all, restored}
+use Rattle.shapes.proofs.Exact.{rows-many, rows-all}
 
 -- in the numbers of a good whole the numbers of its part `get` stand from place `at` on; `set` is the whole with another part
 pub record Part {k : ℕ} {W P : Type 0} (good : W → Type 0) (write : W → List ℕ) (t : W → Shape k P) (at : ℕ) (get : W → P) (put : W → P → W) : Type 0 where
@@ -45,44 +44,6 @@ module _ {k : ℕ} {W P : Type 0} {good : W → Type 0} {write : W → List ℕ}
       ap₂ (λ (x y : List ℕ). x ++ (t w .write p ++ y)) (ap (take at) whole ∙ take-at (h .before w) _ at (h .starts w o))
       (ap (drop k) from-part ∙ drop-at (t w .write (get w)) _ k (e .long (get w) (h .ok w o)))
       ∙ sym (ap (λ (l : List ℕ). l ++ rest) (h .puts w p o) ∙ simp append-assoc)
-
-  -- what stands before the part and after it stays as it was
-  pub leaves-before : (p : P) → take at (write (put w p) ++ rest) ≡ take at (write w ++ rest)
-  leaves-before p =
-      ap (take at) (ap (λ (l : List ℕ). l ++ rest) (h .puts w p o) ∙ append-assoc (h .before w) _ rest) ∙ take-at (h .before w) _ at (h .starts w o)
-      ∙ sym (ap (take at) whole ∙ take-at (h .before w) _ at (h .starts w o))
-
-  pub leaves-after : (p : P) → t w .ok p ≡ true → drop (at + k) (write (put w p) ++ rest) ≡ drop (at + k) (write w ++ rest)
-  leaves-after p v =
-      let new : write (put w p) ++ rest ≡ h .before w ++ (t w .write p ++ (h .after w ++ rest)) = ap (λ (l : List ℕ). l ++ rest) (h .puts w p o) ∙ simp append-assoc in
-      sym (drop-drop k at (write (put w p) ++ rest)) ∙ ap (λ (l : List ℕ). drop k (drop at l)) new ∙ ap (drop k) (drop-at (h .before w) _ at (h .starts w o))
-      ∙ drop-at (t w .write p) _ k (e .long p v)
-      ∙ sym (sym (drop-drop k at (write w ++ rest)) ∙ ap (drop k) from-part ∙ drop-at (t w .write (get w)) _ k (e .long (get w) (h .ok w o)))
-
--- memory that passes the test of the whole, with a part of it lent: what is read there, and what a change of the part makes of the memory
-module _ {n k : ℕ} {W P : Type 0} {s : Shape n W} {t : W → Shape k P} {at : ℕ} {get : W → P} {put : W → P → W} (d : Exact s) (h : PartOf s t at get put)
-    (e : (w : W) → s .ok w ≡ true → Exact (t w)) (xs : List ℕ) (l : n ≤ length xs) (q : s .test xs ≡ true) where
-  abbrev w : W
-  w = s .read xs
-
-  o : s .ok (s .read xs) ≡ true
-  o = d .valid xs l q
-
-  all-of : xs ≡ s .write (s .read xs) ++ drop n xs
-  all-of = restored s d xs l q
-
-  pub lent-part : take k (drop at xs) ≡ t w .write (get w)
-  lent-part = ap (λ (m : List ℕ). take k (drop at m)) all-of ∙ part-of h w o (e w o) (drop n xs)
-
-  pub read-there : t w .read (take k (drop at xs)) ≡ get w
-  read-there = ap (t w .read) (lent-part ∙ sym (append-nil _)) ∙ e w o .back (get w) [] (h .ok w o)
-
-  pub stored-there : (g : P → P) (ys : List ℕ) → ys ≡ t w .write (g (t w .read (take k (drop at xs))))
-      → take at xs ++ (ys ++ drop k (drop at xs)) ≡ s .write (put w (g (get w))) ++ drop n xs
-  stored-there g ys f =
-      ap (λ (m : List ℕ). take at xs ++ (m ++ drop k (drop at xs))) (f ∙ ap (λ (p : P). t w .write (g p)) read-there)
-      ∙ ap (λ (m : List ℕ). take at m ++ (t w .write (g (get w)) ++ drop k (drop at m))) all-of
-      ∙ put-part h w o (e w o) (drop n xs) (g (get w))
 
 -- a part of one number is stored by one store
 pub put-one : (p : ℕ → Bool) {W : Type 0} {good : W → Type 0} {write : W → List ℕ} {at : ℕ} {get : W → ℕ} {put : W → ℕ → W} → Part good write (λ w. one p) at get put
@@ -169,18 +130,6 @@ flat-append : {A : Type 0} (enc : A → List ℕ) (a b : List A) → flat enc (a
 unfolding flat
 flat-append enc [] b = refl
 flat-append enc (x ∷ a) b = ap (λ (l : List ℕ). enc x ++ l) (flat-append enc a b) ∙ sym (append-assoc (enc x) (flat enc a) (flat enc b))
-
-every-take : {A : Type 0} (ok : A → Bool) (rs : List A) (i : ℕ) → every ok rs ≡ true → every ok (take i rs) ≡ true
-unfolding every
-every-take ok rs zero h = refl
-every-take ok [] (suc i) h = refl
-every-take ok (r ∷ rs) (suc i) h = ap₂ (λ (p q : Bool). p && q) (and-l (ok r) (every ok rs) h) (every-take ok rs i (and-r (ok r) (every ok rs) h))
-
-every-at : {A : Type 0} (ok : A → Bool) (rs : List A) (i : ℕ) (d : A) → every ok rs ≡ true → i < length rs → ok (getD rs i d) ≡ true
-unfolding every
-every-at ok [] i d h l = absurd (not-suc-le-zero l)
-every-at ok (r ∷ rs) zero d h l = and-l (ok r) (every ok rs) h
-every-at ok (r ∷ rs) (suc i) d h l = every-at ok rs i d (and-r (ok r) (every ok rs) h) (le-of-suc-le-suc l)
 
 module _ {w : ℕ} {A : Type 0} (n : ℕ) (s : Shape w A) (l : Long s) (k i : ℕ) (d : A) where
   pub row-part : Part (λ rs. (rows n s k .ok rs ≡ true) × (i < k)) (rows n s k .write) (λ rs. s) (i * w) (λ rs. getD rs i d) (λ rs r. set rs i r)

@@ -1,15 +1,15 @@
 -- When a table's values are valid, and what their validity says. Assumes nothing.
 use Prim.Native.Nat.{ℕ, _≤_}
 use mathlib.Core.Path.{_≡_, refl}
-use mathlib.Core.Bool.{Bool, true, _&&_}
+use mathlib.Core.Bool.{true}
 use mathlib.Core.List.{List, [], _∷_}
 use lib.ListN.{length}
-use lib.Dec.{eqb, leb}
+use lib.Dec.{leb}
 use borrow.Author.Tests.{eq-eqb, le-leb, leb-true}
-use Rattle.laws.specs.Tests.{and-l, and-r}
+use Rattle.laws.specs.Tests.{and-l, and-r, and-i}
 use Rattle.laws.specs.Folds.{every}
 use Rattle.shapes.specs.Shape.{Shape, one, both, named, rows, table}
-use Rattle.shapes.proofs.Exact.{and-i, rows-all}
+use Rattle.shapes.proofs.Exact.{rows-all}
 
 -- every number passes where none is tested
 pub every-any : (xs : List ℕ) → every (λ x. true) xs ≡ true

@@ -1,12 +1,11 @@
 -- Shapes: how the values of a type stand in a fixed number of numbers, and the test that numbers are those of a valid value.
 -- A map of memory is a shape put together of shapes. Assumes nothing.
-use Prim.Native.Nat.{ℕ, _+_, _*_, _-_, _/_, _%_, _^_, _≤_, _<_}
+use Prim.Native.Nat.{ℕ, _+_, _*_, _-_, _^_, _≤_, _<_}
 use mathlib.Core.Path.{_≡_}
 use mathlib.Core.Bool.{Bool, true, cond, _&&_}
 use mathlib.Core.List.{List, [], _∷_, _++_}
-use mathlib.Core.Option.{Option, none, some}
 use lib.ListN.{length, getD, take, drop}
-use lib.Dec.{eqb, leb, ltb}
+use lib.Dec.{eqb, leb}
 use Rattle.laws.specs.Lists.{same as sameNumbers}
 use Rattle.shapes.specs.Tables.{zeros, allZero, flat, places, placesPass}
 use Rattle.laws.specs.Folds.{every}
@@ -30,14 +29,6 @@ pub record Exact {size : ℕ} {A : Type 0} (s : Shape size A) : Type 0 where
   pub pass : (a : A) (rest : List ℕ) → s .ok a ≡ true → s .test (s .write a ++ rest) ≡ true
   pub valid : (xs : List ℕ) → size ≤ length xs → s .test xs ≡ true → s .ok (s .read xs) ≡ true
   pub same : (xs : List ℕ) → size ≤ length xs → s .test xs ≡ true → s .write (s .read xs) ≡ take size xs
-
--- numbers are those of a valid value
-unfoldable pub Holds : {size : ℕ} {A : Type 0} → Shape size A → List ℕ → Type 0
-Holds {size} {A} s xs = (a : A) × ((s .ok a ≡ true) × (take size xs ≡ s .write a))
-
--- the test of a whole memory
-unfoldable pub holds : {size : ℕ} {A : Type 0} → Shape size A → List ℕ → Bool
-holds {size} s xs = leb size (length xs) && s .test xs
 
 -- one number that passes a test
 unfoldable pub one : (ℕ → Bool) → Shape 1 ℕ
@@ -70,15 +61,6 @@ named f g s = record {
   test = s .test;
 }
 
--- the values that pass one test more, over the whole value
-unfoldable pub such : {n : ℕ} {A : Type 0} → (A → Bool) → Shape n A → Shape n A
-such p s = record {
-  write = s .write;
-  read = s .read;
-  ok = λ a. s .ok a && p a;
-  test = λ xs. s .test xs && p (s .read xs);
-}
-
 -- n places that hold k values, where k is known; places not used hold 0
 unfoldable pub rows : {w : ℕ} {A : Type 0} → (n : ℕ) → Shape w A → ℕ → Shape (n * w) (List A)
 rows {w} n s k = record {
@@ -91,18 +73,6 @@ rows {w} n s k = record {
 -- a table: how many values there are, and n places for them
 unfoldable pub table : {w : ℕ} {A : Type 0} → (n : ℕ) → Shape w A → Shape (1 + n * w) (List A)
 table n s = named (λ p. p .1) (λ rs. (length rs, rs)) (both (one (λ k. leb k n)) (rows n s))
-
--- nothing, all 0, or a mark of 1 and a value
-unfoldable pub marked : {n : ℕ} {A : Type 0} → Shape n A → Shape (1 + n) (Option A)
-marked {n} {A} s = record { write = put; read = λ xs. cond (eqb (getD xs 0 0) 1) (some (s .read (drop 1 xs))) none; ok = valid; test = λ xs. cond (eqb (getD xs 0 0) 1) (s .test (drop 1 xs)) (allZero (take (1 + n) xs)) }
-  where
-    put : Option A → List ℕ
-    put none = 0 ∷ zeros n
-    put (some a) = 1 ∷ s .write a
-
-    valid : Option A → Bool
-    valid none = true
-    valid (some a) = s .ok a
 
 -- values of A in `width` bits of a number
 pub record Field (width : ℕ) (A : Type 0) : Type 0 where
@@ -118,22 +88,9 @@ pub record ExactField {width : ℕ} {A : Type 0} (f : Field width A) : Type 0 wh
   pub valid : (x : ℕ) → f .test x ≡ true → f .ok (f .get x) ≡ true
   pub same : (x : ℕ) → f .test x ≡ true → f .put (f .get x) ≡ x
 
--- a number that passes a test
-unfoldable pub bits : (width : ℕ) → (ℕ → Bool) → Field width ℕ
-bits width p = record { put = λ x. x; get = λ x. x; ok = p; test = p }
-
 -- a flag
 unfoldable pub flag : Field 1 Bool
 flag = record { put = λ b. cond b 1 0; get = λ x. eqb x 1; ok = λ b. true; test = λ x. leb x 1 }
-
--- two fields of one number, the first on top
-unfoldable pub beside : {b c : ℕ} {A B : Type 0} → Field b A → Field c B → Field (b + c) (A × B)
-beside {b} {c} f g = record {
-  put = λ p. f .put (p .0) * 2 ^ c + g .put (p .1);
-  get = λ x. (f .get (x / 2 ^ c), g .get (x % 2 ^ c));
-  ok = λ p. f .ok (p .0) && g .ok (p .1);
-  test = λ x. f .test (x / 2 ^ c) && g .test (x % 2 ^ c);
-}
 
 -- one number that holds fields, with 0 above them
 unfoldable pub word : {b : ℕ} {A : Type 0} → Field b A → Shape 1 A

@@ -10,7 +10,7 @@ use Rattle.rules.proofs.Amounts.{number-in}
 use Rattle.machine.specs.State.{Profile, cellsOf, noLocks, fresh, armed}
 use Rattle.tables.specs.Tables.{zeros, flat, table as filled}
 use Rattle.tables.specs.RulePlace.{rulesTable}
-use Rattle.tables.proofs.Tables.{zeros-add}
+use Rattle.tables.proofs.AllZero.{zeros-add}
 use Rattle.tables.proofs.Shapes.{rules-written, log-written}
 use Rattle.profile.specs.Profile.{rootsTable}
 use Rattle.state.specs.State.{size, number, locksShape, marksOf, profileShape, linesOf, totalsShape, partShape, numbersShape, totalsIn, numbersOf, encode, stored}

@@ -7,7 +7,7 @@ use mathlib.Core.List.{List, []}
 use lib.ListN.{length, take}
 use lib.Dec.{eqb, leb}
 use borrow.Author.Tests.{eq-eqb, eqb-true, le-leb, leb-true, lt-ltb, ltb-true}
-use Rattle.laws.specs.Tests.{and-l, and-r, tests}
+use Rattle.laws.specs.Tests.{and-l, and-r, and-i, tests}
 use Rattle.laws.specs.Folds.{every}
 use Rattle.rules.specs.Amounts.{isOf}
 use Rattle.rules.specs.Valid.{isRule, hasRate}
@@ -19,7 +19,6 @@ use Rattle.admission.specs.Admission.{areInOrder}
 use Rattle.made.specs.Made.{areRoots, isMade}
 use Rattle.made.proofs.Given.{given-made}
 use Rattle.output.proofs.ReadBack.{given-by-text}
-use Rattle.shapes.proofs.Exact.{and-i}
 use Rattle.state.specs.State.{size, numbersShape, encode, stored, decode}
 use Rattle.state.specs.Sound.{Given, SoundState, Sound, isSoundState, isSound}
 use Rattle.state.specs.Laid.{Fits, Laid}

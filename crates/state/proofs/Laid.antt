@@ -1,8 +1,8 @@
 -- What stands in a memory in which a state is laid out: its accounts' rules and totals, its locks and its log. Assumes nothing.
-use Prim.Native.Nat.{ℕ, suc, _+_, _*_, _≤_, _<_}
+use Prim.Native.Nat.{ℕ, _+_, _*_, _≤_, _<_}
 use native.Mathlib.Omega.{arith}
 use native.Mathlib.Numerals.{add-one}
-use mathlib.Core.Path.{_≡_, refl, sym, ap, _∙_, subst}
+use mathlib.Core.Path.{_≡_, sym, ap, _∙_, subst}
 use mathlib.Core.Bool.{true}
 use mathlib.Core.List.{List, _∷_}
 use lib.ListN.{length, getD, take, drop, set, length-drop, List·getD-map}
@@ -12,10 +12,10 @@ use Rattle.rules.specs.Rules.{InRange, InDay}
 use Rattle.rules.specs.Valid.{isRule}
 use Rattle.rules.specs.declared.Amount.{Amount}
 use Rattle.rules.specs.declared.Rule.{Rule}
-use Rattle.rules.specs.declared.Account.{Account}
 use Rattle.rules.proofs.Amounts.{in-number}
 use Rattle.tables.specs.RulePlace.{ruleAt, rulesTable}
-use Rattle.tables.proofs.Tables.{every-at, read-table}
+use Rattle.laws.specs.Every.{every-at}
+use Rattle.tables.proofs.Tables.{read-table}
 use Rattle.tables.proofs.RulePlace.{rule-codec, rule-in-range, rule-wider}
 use Rattle.tables.proofs.EntryPlace.{entry-wider}
 use Rattle.machine.specs.State.{State, cellsOf, rulesIn, rootsIn, ruleOf, Fitting}

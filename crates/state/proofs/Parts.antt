@@ -1,15 +1,15 @@
 -- The tests of the parts, as they are lent, are those of the parts where they stand in memory. Assumes nothing.
 use Prim.Native.Nat.{ℕ, _+_, _^_, _≤_}
 use native.Mathlib.Omega.{arith}
-use mathlib.Core.Path.{_≡_, refl, sym, ap, _∙_}
-use mathlib.Core.Bool.{Bool, true, false, _&&_}
+use mathlib.Core.Path.{_≡_, sym, ap, _∙_}
+use mathlib.Core.Bool.{true, _&&_}
 use mathlib.Core.List.{List, []}
 use lib.ListN.{length, getD, take, drop, length-drop}
 use lib.Seq.{getD-drop, length-take-le, take-all}
 use lib.Dec.{leb, ltb}
 use Rattle.laws.specs.Folds.{every}
-use Rattle.shapes.specs.Shape.{Shape, Exact, table}
-use Rattle.shapes.proofs.Exact.{table-exact, table-many, test-part, read-part}
+use Rattle.shapes.specs.Shape.{table}
+use Rattle.shapes.proofs.Exact.{table-exact, table-many, read-part, first-decide}
 use Rattle.rules.specs.declared.Rule.{Rule}
 use Rattle.tables.specs.Tables.{places}
 use Rattle.tables.specs.RulePlace.{ruleAt, rulesShape}
@@ -27,16 +27,6 @@ use Rattle.state.specs.Tests.{rootsPart, rulesPart, totalsPart, locksPar
 use Rattle.state.proofs.Exact.{number-exact, totals-exact, locks-exact}
 use Rattle.state.proofs.Lent.{roots-lent, rules-lent, totals-lent, locks-lent, log-lent}
 use Rattle.state.proofs.Map.{rootsTold}
-
--- a second test may use that the first passed
-pub and-on : (a : Bool) {b c : Bool} → (a ≡ true → b ≡ c) → (a && b) ≡ (a && c)
-and-on true h = h refl
-and-on false h = refl
-
--- numbers of an exact shape, and a test of the value that they stand for: the first numbers decide
-first-decide : {n : ℕ} {A : Type 0} (s : Shape n A) → Exact s → (p : A → Bool) (ws : List ℕ) → n ≤ length ws
-    → (s .test (take n ws) && p (s .read (take n ws))) ≡ (s .test ws && p (s .read ws))
-first-decide {n} s e p ws l = ap (λ (b : Bool). b && p (s .read (take n ws))) (test-part s e ws l) ∙ and-on (s .test ws) (λ h. ap p (read-part s e ws l h))
 
 module _ (xs : List ℕ) (long : size ≤ length xs) where
   room : (at n : ℕ) → at + n ≤ size → n ≤ length (drop at xs)

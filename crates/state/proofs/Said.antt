@@ -7,11 +7,11 @@ use mathlib.Core.List.{List, []}
 use lib.ListN.{length, getD, drop, length-drop}
 use lib.Dec.{eqb, ltb}
 use borrow.Author.Tests.{le-leb}
-use Rattle.laws.specs.Tests.{tests}
+use Rattle.laws.specs.Tests.{and-i, tests}
 use Rattle.laws.specs.Folds.{every}
 use Rattle.measures.specs.Ranges.{isIn, times}
 use Rattle.shapes.specs.Shape.{coded, table}
-use Rattle.shapes.proofs.Exact.{and-i, table-exact}
+use Rattle.shapes.proofs.Exact.{table-exact}
 use Rattle.shapes.proofs.Valid.{table-few, table-all}
 use Rattle.rules.specs.Valid.{isRule, hasRate}
 use Rattle.tables.specs.RulePlace.{ruleShape, rulesShape}

@@ -7,11 +7,10 @@ use mathlib.Core.List.{List, []}
 use lib.ListN.{length, getD, drop}
 use lib.Dec.{eqb, leb, ltb}
 use borrow.Author.Tests.{le-leb, lt-leb}
-use Rattle.laws.specs.Tests.{and-l, tests}
+use Rattle.laws.specs.Tests.{and-l, and-i, and-on, same-test, tests}
 use Rattle.laws.specs.Folds.{every}
 use Rattle.measures.specs.Ranges.{isIn, times}
 use Rattle.shapes.specs.Shape.{table}
-use Rattle.shapes.proofs.Exact.{and-i, same-test}
 use Rattle.rules.specs.Valid.{hasRate}
 use Rattle.tables.specs.RulePlace.{rulesShape}
 use Rattle.tables.specs.EntryPlace.{logShape}
@@ -27,7 +26,7 @@ use Rattle.state.specs.State.{size, number, locksShape, totalsShape, acc
 use Rattle.state.specs.Sound.{isSound}
 use Rattle.state.specs.Tests.{rulesPart, totalsPart, locksPart, logPart, frontHolds, locksHold, partsHold, soundParts}
 use Rattle.state.proofs.Map.{rootsTold, rulesTold, roots-told}
-use Rattle.state.proofs.Parts.{and-on, roots-held, rules-held, rules-are, totals-held, locks-held, log-held, log-many}
+use Rattle.state.proofs.Parts.{roots-held, rules-held, rules-are, totals-held, locks-held, log-held, log-many}
 use Rattle.state.proofs.Said.{Said, sound-said, said-sound, few-told, rules-few}
 
 -- the tests of the parts where they stand: the front, the rules, and what is left

@@ -8,9 +8,9 @@ use lib.ListN.{length, take, drop, length-append, take-append-drop}
 use lib.Seq.{drop-at, take-all}
 use lib.Dec.{eqb}
 use borrow.Author.Tests.{eqb-true}
-use Rattle.laws.specs.Tests.{and-l, and-r}
+use Rattle.laws.specs.Tests.{and-l, and-r, and-i}
 use Rattle.shapes.specs.Shape.{one, both, named, coded, word, flag, table}
-use Rattle.shapes.proofs.Exact.{and-i, rows-many}
+use Rattle.shapes.proofs.Exact.{rows-many}
 use Rattle.shapes.proofs.Valid.{every-any, rows-ok, table-ok, table-few, table-all}
 use Rattle.machine.specs.State.{Profile, Locks, State, cellsOf, rootsIn, rulesIn, ruleOf, Fitting}
 use Rattle.tables.specs.RulePlace.{ruleShape, rulesShape}

@@ -6,11 +6,8 @@ use mathlib.Core.List.{List, [], _∷_, _++_, map}
 use lib.ListN.{length, getD}
 use borrow.Author.Tests.{le-leb}
 use native.Mathlib.Omega.{arith}
-use Rattle.laws.specs.Tests.{and-l, and-r, tests}
+use Rattle.laws.specs.Tests.{and-l, and-r, and-i, tests}
 use Rattle.text.specs.Text.{all, made}
-
-pub and-both : {a b : Bool} → a ≡ true → b ≡ true → (a && b) ≡ true
-and-both h k = rw (h, k)
 
 module _ (p : ℕ → Bool) where
   pub all-join : (a b : List ℕ) → all p (a ++ b) ≡ (all p a && all p b)
@@ -19,7 +16,7 @@ module _ (p : ℕ → Bool) where
   all-join (x ∷ a) b = ap (λ t. p x && t) (all-join a b) ∙ sym (and-assoc (p x) (all p a) (all p b))
 
   pub all-append : (a b : List ℕ) → all p a ≡ true → all p b ≡ true → all p (a ++ b) ≡ true
-  all-append a b h k = all-join a b ∙ and-both h k
+  all-append a b h k = all-join a b ∙ and-i h k
 
   pub all-at : (s : List ℕ) → all p s ≡ true → (i d : ℕ) → p d ≡ true → p (getD s i d) ≡ true
   unfolding all
@@ -60,4 +57,4 @@ module _ (p : ℕ → Bool) where
 pub all-weaker : {p q : ℕ → Bool} → ((x : ℕ) → p x ≡ true → q x ≡ true) → (s : List ℕ) → all p s ≡ true → all q s ≡ true
 unfolding all
 all-weaker f [] h = refl
-all-weaker {p} f (x ∷ s) h = and-both (f x (and-l (p x) (all p s) h)) (all-weaker f s (and-r (p x) (all p s) h))
+all-weaker {p} f (x ∷ s) h = and-i (f x (and-l (p x) (all p s) h)) (all-weaker f s (and-r (p x) (all p s) h))

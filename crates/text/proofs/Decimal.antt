@@ -8,10 +8,11 @@ use lib.Dec.{eqb, lit<}
 use borrow.Author.Tests.{le-leb}
 use native.Mathlib.Nat.{pow-zero, pow-suc, div-lt-iff-lt-mul, mod-lt}
 use native.Mathlib.Omega.{arith}
+use Rattle.laws.specs.Tests.{and-i}
 use Rattle.text.specs.Text.{all, isDigit, value, numberOf}
 use Rattle.text.specs.declared.Number.the-variants.{Is}
 use Rattle.text.specs.Digits.{digitsUpTo, decimal}
-use Rattle.text.proofs.Bytes.{and-both, all-append, all-map, made-of}
+use Rattle.text.proofs.Bytes.{all-append, all-map, made-of}
 use Rattle.text.proofs.InBase.{numeral-more, numeral-from, digits-few, digits-all, digits-number}
 
 -- a number below a power of the base has no more digits than the power says
@@ -47,14 +48,14 @@ decimal-upto k n h =
 
 -- they are digits, and stand for the number
 digit : (d : ℕ) → d < 10 → isDigit (d + 48) ≡ true
-digit d h = and-both (le-leb 48 (d + 48) (omega arith)) (le-leb (d + 48) 57 (omega arith))
+digit d h = and-i (le-leb 48 (d + 48) (omega arith)) (le-leb (d + 48) 57 (omega arith))
 
 pub decimal-digits : (n : ℕ) → all isDigit (decimal n) ≡ true
 unfolding decimal all
 decimal-digits n =
     all-map isDigit (λ d. d + 48) (digitsUpTo 10 19 (n / 10) ++ ((n % 10) ∷ []))
     ∙ all-append (λ d. isDigit (d + 48)) (digitsUpTo 10 19 (n / 10)) ((n % 10) ∷ []) (digits-all 10 (lit< tt) (λ d. isDigit (d + 48)) digit 19 (n / 10))
-    (and-both (digit (n % 10) (mod-lt n (lit< tt))) refl)
+    (and-i (digit (n % 10) (mod-lt n (lit< tt))) refl)
 
 pub decimal-value : (n : ℕ) → n < 10 ^ 20 → value (decimal n) ≡ n
 unfolding decimal

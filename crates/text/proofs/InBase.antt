@@ -11,9 +11,10 @@ use borrow.Author.Tests.{eqb-true, ne-eqb}
 use native.Mathlib.Nat.{pow-zero, pow-suc, one-le-pow, zero-mul, mod-lt, div-lt-iff-lt-mul, div-add-mod'}
 use native.Mathlib.Numerals.{add-one}
 use native.Mathlib.Omega.{arith}
+use Rattle.laws.specs.Tests.{and-i}
 use Rattle.text.specs.Text.{all, numeral}
 use Rattle.text.specs.Digits.{digitsUpTo}
-use Rattle.text.proofs.Bytes.{and-both, all-append}
+use Rattle.text.proofs.Bytes.{all-append}
 
 -- a numeral with one digit more, and one whose digits stand for bytes from `naught` on
 module _ (base : ℕ) where
@@ -62,7 +63,7 @@ module _ (base : ℕ) (b : 0 < base) where
       go : (t : Bool) → all p (digitsUpTo base most (n / base)) ≡ true
           → all p (cond t [] (digitsUpTo base most (n / base) ++ ((n % base) ∷ []))) ≡ true
       go true h = refl
-      go false h = all-append p (digitsUpTo base most (n / base)) ((n % base) ∷ []) h (and-both (f (n % base) (mod-lt n b)) refl)
+      go false h = all-append p (digitsUpTo base most (n / base)) ((n % base) ∷ []) h (and-i (f (n % base) (mod-lt n b)) refl)
 
   -- a number that the digits have room for is what they stand for
   pub digits-number : (most n : ℕ) → n < base ^ most → numeral base 0 (digitsUpTo base most n) ≡ n

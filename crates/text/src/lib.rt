@@ -57,13 +57,6 @@ pub fn equal(a: &[u8], b: &[u8]) -> bool
     true
 }
 
-// A byte as a number of 64 bits.
-fn wide(x: u8) -> u64
-    ensures { λ r. ⌜ r ≡ x ⌝ }
-{
-    x as u64
-}
-
 // Whether a byte is a capital letter or a digit.
 fn name_byte(x: u8) -> bool
     ensures { λ r. ⌜ r ≡ isNameByte x ⌝ }
@@ -89,7 +82,7 @@ fn name(f: &[u8], least: usize, most: usize) -> Number
         if !name_byte(x) {
             return Number::Bad;
         }
-        v = v * 256 + wide(x);
+        v = v * 256 + numbers::wide(x);
         i += 1;
     }
     Number::Is(v)
@@ -129,7 +122,7 @@ pub fn digits(f: &[u8]) -> Number
         if b'9' < x {
             return Number::Bad;
         }
-        v = v * 10 + wide(x - b'0');
+        v = v * 10 + numbers::wide(x - b'0');
         i += 1;
     }
     Number::Is(v)

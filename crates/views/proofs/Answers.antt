@@ -1,14 +1,16 @@
 -- What each call answers, case by case. Assumes nothing.
 use Prim.Native.Nat.{ℕ, _+_, _-_, _≤_, _<_}
 use native.Mathlib.Omega.{arith}
+use native.Mathlib.Nat.{zero-add}
 use mathlib.Core.Path.{_≡_, ap, _∙_}
-use mathlib.Core.List.{List, _++_}
+use mathlib.Core.List.{List}
 use lib.ListN.{length, getD, take, drop}
-use lib.Seq.{take-length}
+use lib.Seq.{take-length, sets}
 use lib.Dec.{lit<}
 use borrow.Author.Tests.{ne-eqb, le-ltb, lt-ltb, le-leb, lt-leb}
 use Rattle.text.specs.Text.{indexOf, made, nameOf}
 use Rattle.text.specs.declared.Number.the-variants.{Is}
+use Rattle.text.proofs.Written.{sets-front}
 use Rattle.rules.specs.declared.Rule.{Rule}
 use Rattle.machine.specs.State.{rootsIn}
 use Rattle.made.specs.Names.{nameBytes}
@@ -22,7 +24,7 @@ use Rattle.calls.specs.declared.Wording.the-variants.{Written, Refused as NotSa
 use Rattle.views.specs.declared.Found.the-variants.{Root, Refused as NotFound}
 use Rattle.views.specs.declared.Told.the-variants.{Refused as NotTold}
 use Rattle.views.specs.Views.{asked, placeOf, rootNamed, nameAnswer, nameRoom, rootName, rootNameRoom, termsOf, ruleTold}
-use Rattle.views.proofs.Held.{laid, rules-are, roots-named, rule-is}
+use Rattle.views.proofs.Held.{laid, name-short, rules-are, roots-named, rule-is}
 
 -- the memory meets a refusal
 module _ (xs : List ℕ) (n : ℕ) (e : n ≡ memoryRefusal xs) (h : n ≡ 0 → ⊥) where
@@ -77,10 +79,14 @@ module _ (xs : List ℕ) (ready : memoryRefusal xs ≡ 0) where
             (rw (ready, ← roots-are, lt-ltb _ _ known, lt-ltb _ _ h), rw (ready, ← roots-are, lt-ltb _ _ known, lt-ltb _ _ h))
 
         pub name-said : 6 ≤ length room → (name : ℕ) → name ≡ getD (decode xs .part .profile .roots) root 0
-            → (Written (length (nameBytes name)) ≡ rootName xs root room) × (nameBytes name ++ drop (length (nameBytes name)) room ≡ rootNameRoom xs root room)
+            → (Written (0 + length (nameBytes name)) ≡ rootName xs root room) × (sets room 0 (nameBytes name) ≡ rootNameRoom xs root room)
         unfolding rootName rootNameRoom asked nameAnswer nameRoom rootsIn
         name-said h name is =
-            (rw (ready, ← roots-are, lt-ltb _ _ known, le-ltb _ _ h, is), rw (ready, ← roots-are, lt-ltb _ _ known, le-ltb _ _ h, is))
+            let short = name-short xs ready root (omega (arith, roots-are)) in
+            let bytes : length (nameBytes name) ≤ length room = omega (arith, ap (λ (n : ℕ). length (nameBytes n)) is) in (
+              ap Written (zero-add _) ∙ rw (ready, ← roots-are, lt-ltb _ _ known, le-ltb _ _ h, is),
+              sets-front (nameBytes name) room bytes ∙ rw (ready, ← roots-are, lt-ltb _ _ known, le-ltb _ _ h, is),
+            )
 
   -- a rule
   module _ (accounts : ℕ) (are : accounts ≡ length (decode xs .part .accounts)) (rule : ℕ) where

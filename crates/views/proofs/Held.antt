@@ -1,17 +1,15 @@
 -- What is read of the profile in a memory that meets no refusal. Assumes nothing.
 use Prim.Native.Nat.{ℕ, _≤_, _<_}
-use native.Mathlib.Omega.{arith}
-use mathlib.Core.Path.{_≡_, sym, ap, _∙_}
+use mathlib.Core.Path.{_≡_, sym}
 use mathlib.Core.Bool.{true}
 use mathlib.Core.List.{List}
-use lib.ListN.{length, getD, take, drop}
+use lib.ListN.{length, getD}
 use Rattle.text.specs.Text.{isNameByte}
-use Rattle.rules.specs.declared.Rule.{Rule}
 use Rattle.machine.specs.State.{rootsIn, rulesIn}
 use Rattle.machine.specs.Remaining.{noAccount}
 use Rattle.made.specs.Names.{nameBytes, isNameNumber}
 use Rattle.made.specs.Made.{areRoots}
-use Rattle.made.proofs.Bytes.{made-most}
+use Rattle.text.proofs.Bytes.{made-most}
 use Rattle.output.proofs.Roots.{root-name}
 use Rattle.state.specs.State.{decode}
 use Rattle.state.specs.Laid.{Laid, accountIn}

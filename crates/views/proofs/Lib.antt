@@ -1,4 +1,3 @@
-pub mod Names
 pub mod Held
 pub mod Answers
 pub mod Listed

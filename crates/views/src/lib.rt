@@ -1,12 +1,8 @@
 // The public calls that read an armed unit's profile: a root's number by its name, a root's name by its number, a rule by its number, and the whole as text.
 ghost use mathlib.Core.Path.{_≡_};
-ghost use mathlib.Core.List.{_++_};
-ghost use Prim.Native.Nat.{_+_, _≤_, _<_};
-ghost use lib.ListN.{length, getD, drop};
-ghost use Rattle.text.specs.Text.{indexOf};
+ghost use Prim.Native.Nat.{_+_, _≤_};
 ghost use Rattle.text.specs.declared.Number.the-variants.{Is};
 ghost use Rattle.tables.specs.RulePlace.{limitNumber, measureNumber, windowNumber};
-ghost use Rattle.made.specs.Names.{nameBytes};
 ghost use Rattle.state.specs.State.{decode};
 ghost use Rattle.calls.specs.Calls.{memoryRefusal};
 ghost use Rattle.views.specs.declared.Told.the-variants.{Rule as Terms};
@@ -43,30 +39,16 @@ pub enum Listing {
     Refused(u64),
 }
 
-// The place of a name among others, or the next place.
-fn place(names: &[u64], name: u64) -> usize
-    ensures { λ r. ⌜ r ≡ indexOf name (now (names .entry)) ⌝ }
-{
-    let mut i: usize = 0;
-    while i < names.len() {
-        if names[i] == name {
-            return i;
-        }
-        i += 1;
-    }
-    i
-}
-
 // The root of a name that came as one number.
 fn root_of(m: &[u64], name: u64) -> Found
     requires { ⌜ memoryRefusal (now m) ≡ 0 ⌝ }
     ensures { λ r. ⌜ r ≡ placeOf (decode (now (m .entry)) .part .profile .roots) (Is name) ⌝ }
 {
-    let roots = state::roots_in(m) as usize;
-    let end = state::NAMES + roots;
-    let root = place(&m[state::NAMES..end], name);
+    let roots = state::roots_in(m);
+    let end = state::NAMES + roots as usize;
+    let root = profile::root_number(&m[state::NAMES..end], name);
     if root < roots {
-        return Found::Root(root as u64);
+        return Found::Root(root);
     }
     Found::Refused(13)
 }
@@ -89,36 +71,6 @@ pub fn root_named(m: &[u64], name: &[u8]) -> Found
     }
 }
 
-// How many bytes a name has that is held in one number.
-fn name_length(name: u64) -> usize
-    ensures { λ r. ⌜ r ≡ length (nameBytes name) ⌝ }
-{
-    let mut rest = name;
-    let mut count: usize = 0;
-    while 0 < rest {
-        rest = rest / 256;
-        count += 1;
-    }
-    count
-}
-
-// Writes a name that is held in one number to the front of a room, its last byte first, and answers how many bytes it has.
-fn put_name(name: u64, room: &mut [u8]) -> usize
-    requires { ⌜ length (nameBytes name) ≤ length (now room) ⌝ }
-    ensures { λ r. ⌜ r ≡ length (nameBytes name) ⌝ }
-    ensures { λ r. ⌜ now (room .exit) ≡ nameBytes name ++ drop (length (nameBytes name)) (now (room .entry)) ⌝ }
-{
-    let count = name_length(name);
-    let mut rest = name;
-    let mut i = count;
-    while 0 < i {
-        i -= 1;
-        room[i] = (rest % 256) as u8;
-        rest = rest / 256;
-    }
-    count
-}
-
 // Writes the name of a root to the front of a room of at least 6 bytes, and answers how many bytes it has.
 pub fn root_name(m: &[u64], root: u64, room: &mut [u8]) -> Wording
     ensures { λ r. ⌜ r ≡ rootName (now (m .entry)) root (now (room .entry)) ⌝ }
@@ -134,7 +86,7 @@ pub fn root_name(m: &[u64], root: u64, room: &mut [u8]) -> Wording
     if room.len() < 6 {
         return Wording::Refused(1);
     }
-    let bytes = put_name(state::name_in(m, root as usize), room);
+    let bytes = text::put_name(state::name_in(m, root as usize), room, 0);
     Wording::Written(bytes as u64)
 }
 

@@ -22,7 +22,7 @@ same-length : tie.Need-same-length
 same-length c = search needs
 
 returns : tie.Need-returns
-returns c = refused _ (c .before .before .before .before .before .before .before .pre .ready) (Call.offer (c .before .before .before .before .before .before .before .args .o)) 14 (refusal-is _ _ (c .before .before .before .before .before .before .before .pre) _ (least-is _ (c .before .before .before .before .before .before .before .args .o) _ (c .before .before .before .before .cuts-of .ensures) _ (c .before .before .before .least .ensures)) true (ap (λ b. ltb 0 (c .before .before .before .least .result) && b) (sym (c .before .is-full .ensures)) ∙ c .if1 .taken))
+returns c = refused _ (c .before .before .before .before .before .before .before .pre .met .ready) (Call.offer (c .before .before .before .before .before .before .before .args .o)) 14 (refusal-is _ _ (c .before .before .before .before .before .before .before .pre) _ (least-is _ (c .before .before .before .before .before .before .before .args .o) _ (c .before .before .before .before .cuts-of .ensures) _ (c .before .before .before .least .ensures)) true (ap (λ b. ltb 0 (c .before .before .before .least .result) && b) (sym (c .before .is-full .ensures)) ∙ c .if1 .taken))
 
 fill-requires : tie.Need-fill-requires
 fill-requires c κs = ready-is _ _ (c .before .before .before .before .before .before .before .before .pre) _ (least-is _ (c .before .before .before .before .before .before .before .before .args .o) _ (c .before .before .before .before .before .cuts-of .ensures) _ (c .before .before .before .before .least .ensures)) _ (c .before .before .before .before .before .cuts-of .ensures) (ap (λ b. ltb 0 (c .before .before .before .before .least .result) && b) (sym (c .before .before .is-full .ensures)) ∙ c .before .if1 .left)

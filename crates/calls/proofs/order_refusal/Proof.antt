@@ -1,45 +1,26 @@
 -- `calls::order_refusal` meets its contract: it is the first number that the memory or the machine refuses with. Assumes nothing.
 use mathlib.Core.Path.{sym, _∙_}
 use mathlib.Core.Bool.{true, false}
-use Rattle.machine.specs.Calls.{Call}
-use Rattle.calls.proofs.Steps.{laid, meets, meets-memory, order-late, order-known}
+use Rattle.calls.proofs.Steps.{laid}
+use Rattle.calls.proofs.Timed.{timed-ready, order-timed, order-known}
 use borrow.Author.Needs.{needs}
 use Rattle.calls.proofs.order_refusal.Statement.{statement}
 use Rattle.calls.proofs.order_refusal.Tie as tie
 
-memory-refusal-requires : tie.Need-memory-refusal-requires
-memory-refusal-requires c κs = search needs
+timed-refusal-requires : tie.Need-timed-refusal-requires
+timed-refusal-requires c κs = search needs
 
 returns : tie.Need-returns
-returns c = meets-memory _ (Call.order _ _ _) _ (c .before .memory-refusal .ensures) (c .if1 .taken)
-
-clock-in-requires : tie.Need-clock-in-requires
-clock-in-requires c κs = laid _ (sym (c .before .memory-refusal .ensures) ∙ c .if1 .left)
-
-bad-time-requires : tie.Need-bad-time-requires
-bad-time-requires c κs = search needs
-
-returns-2 : tie.Need-returns-2
-returns-2 c = meets _ (sym (c .before .before .before .before .memory-refusal .ensures) ∙ c .before .before .before .if1 .left) (Call.order _ _ _) 12 (order-late _ (sym (c .before .before .before .before .memory-refusal .ensures) ∙ c .before .before .before .if1 .left) _ (c .before .before .clock-in .ensures) _ _ (c .before .bad-time .ensures) _ _ (c .if2 .taken))
+returns c = order-timed _ _ _ _ _ (c .before .timed-refusal .ensures) (c .if1 .taken)
 
 roots-in-requires : tie.Need-roots-in-requires
-roots-in-requires c κs = laid _ (sym (c .before .before .before .before .memory-refusal .ensures) ∙ c .before .before .before .if1 .left)
+roots-in-requires c κs = laid _ (timed-ready _ _ (sym (c .before .timed-refusal .ensures) ∙ c .if1 .left))
+
+returns-2 : tie.Need-returns-2
+returns-2 c = order-known _ _ _ _ (sym (c .before .before .before .timed-refusal .ensures) ∙ c .before .before .if1 .left) _ (c .before .roots-in .ensures) true (c .if2 .taken)
 
 returns-3 : tie.Need-returns-3
-returns-3 c = meets _ (sym (c .before .before .before .before .before .before .memory-refusal .ensures) ∙ c .before .before .before .before .before .if1 .left) (Call.order _ _ _) 13 (order-known _ (sym (c .before .before .before .before .before .before .memory-refusal .ensures) ∙ c .before .before .before .before .before .if1 .left) _ (c .before .before .before .before .clock-in .ensures) _ _ (c .before .before .before .bad-time .ensures) _ _ (c .before .before .if2 .left) _ (c .before .roots-in .ensures) true (c .if3 .taken))
-
-returns-4 : tie.Need-returns-4
-returns-4 c = meets _ (sym (c .before .before .before .before .before .before .memory-refusal .ensures) ∙ c .before .before .before .before .before .if1 .left) (Call.order _ _ _) 0 (order-known _ (sym (c .before .before .before .before .before .before .memory-refusal .ensures) ∙ c .before .before .before .before .before .if1 .left) _ (c .before .before .before .before .clock-in .ensures) _ _ (c .before .before .before .bad-time .ensures) _ _ (c .before .before .if2 .left) _ (c .before .roots-in .ensures) false (c .if3 .left))
+returns-3 c = order-known _ _ _ _ (sym (c .before .before .before .timed-refusal .ensures) ∙ c .before .before .if1 .left) _ (c .before .roots-in .ensures) false (c .if2 .left)
 
 pub order-refusal-spec : {M : Type 1} → statement M
-order-refusal-spec =
-    tie.close
-    (tie.spec
-    memory-refusal-requires
-    returns
-    clock-in-requires
-    bad-time-requires
-    returns-2
-    roots-in-requires
-    returns-3
-    returns-4)
+order-refusal-spec = tie.close (tie.spec timed-refusal-requires returns roots-in-requires returns-2 returns-3)

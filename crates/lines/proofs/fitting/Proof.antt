@@ -13,8 +13,8 @@ add-records-2 c = search needs
 least-requires : tie.Need-least-requires
 least-requires c κs = search needs
 
-sub-places : tie.Need-sub-places
-sub-places c = search needs
+sub-least : tie.Need-sub-least
+sub-least c = search needs
 
 least-requires-2 : tie.Need-least-requires-2
 least-requires-2 c κs = search needs
@@ -26,4 +26,4 @@ returns c = search needs
 pub fitting-spec : {M : Type 1} → statement M
 fitting-spec =
     tie.close
-    (tie.spec add-records add-records-2 least-requires sub-places least-requires-2 returns)
+    (tie.spec add-records add-records-2 least-requires sub-least least-requires-2 returns)

@@ -8,7 +8,8 @@ use native.Mathlib.Omega.{arith}
 use lib.ListN.{length, drop}
 use Rattle.tables.specs.Tables.{allZero}
 use Rattle.tables.specs.RulePlace.{ruleAt, isRulePlace}
-use Rattle.tables.proofs.RulePlace.{rule-here, is-rule-here}
+use Rattle.tables.proofs.RulePlace.{rule-here}
+use Rattle.tables.proofs.RuleTests.{is-rule-here}
 use Rattle.made.proofs.Places.{to-end}
 use Rattle.made.proofs.Order.{place-scope, Gone, gone-start, gone-bad, gone-stop, gone-next, gone-end}
 use Rattle.made.proofs.rules_hold.Statement.{statement}

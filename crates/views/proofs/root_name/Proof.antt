@@ -36,7 +36,8 @@ same-length c = search needs
 
 returns-4 : tie.Need-returns-4
 returns-4 c =
-    let d = name-said _ (sym (c .before .before .before .before .before .before .before .before .before .memory-refusal .ensures) ∙ c .before .before .before .before .before .before .before .before .if1 .left) _ (c .before .before .before .before .before .before .before .roots-in .ensures) _ _ (c .before .before .before .before .before .before .if2 .left) (c .before .before .before .before .before .if3 .left) _ (c .before .before .before .before .name-in .ensures) in
+    let ready = sym (c .before .before .before .before .before .before .before .before .before .memory-refusal .ensures) ∙ c .before .before .before .before .before .before .before .before .if1 .left in
+    let d = name-said _ ready _ (c .before .before .before .before .before .before .before .roots-in .ensures) _ _ (c .before .before .before .before .before .before .if2 .left) (c .before .before .before .before .before .if3 .left) _ (c .before .before .before .before .name-in .ensures) in
     (ap Written (c .before .before .put-name .ensures .0) ∙ d .0, c .before .before .put-name .ensures .1 ∙ d .1)
 
 pub root-name-spec : {M : Type 1} → statement M

@@ -12,23 +12,23 @@ roots-in-requires c κs = laid _ (c .before .pre)
 add-end : tie.Need-add-end
 add-end c = omega (arith, c .roots-in .ensures, few-roots _ (c .before .before .pre))
 
-sub-place : tie.Need-sub-place
-sub-place c = search needs
+sub-root-number : tie.Need-sub-root-number
+sub-root-number c = search needs
 
-part-place-start : tie.Need-part-place-start
-part-place-start c = search needs
+part-root-number-start : tie.Need-part-root-number-start
+part-root-number-start c = search needs
 
-part-place-end : tie.Need-part-place-end
-part-place-end c = omega (arith, c .roots-in .ensures, few-roots _ (c .before .before .pre), laid _ (c .before .before .pre) .long)
+part-root-number-end : tie.Need-part-root-number-end
+part-root-number-end c = omega (arith, c .roots-in .ensures, few-roots _ (c .before .before .pre), laid _ (c .before .before .pre) .long)
 
-place-requires : tie.Need-place-requires
-place-requires c κs = search needs
+root-number-requires : tie.Need-root-number-requires
+root-number-requires c κs = search needs
 
 returns : tie.Need-returns
-returns c = place-known _ (c .before .before .before .before .before .pre) _ (c .before .before .before .roots-in .ensures) _ _ (c .before .place .ensures) (c .if1 .taken)
+returns c = place-known _ (c .before .before .before .before .before .pre) _ (c .before .before .before .roots-in .ensures) _ _ (c .before .root-number .ensures) (c .if1 .taken)
 
 returns-2 : tie.Need-returns-2
-returns-2 c = place-unknown _ (c .before .before .before .before .before .pre) _ (c .before .before .before .roots-in .ensures) _ _ (c .before .place .ensures) (c .if1 .left)
+returns-2 c = place-unknown _ (c .before .before .before .before .before .pre) _ (c .before .before .before .roots-in .ensures) _ _ (c .before .root-number .ensures) (c .if1 .left)
 
 pub root-of-spec : {M : Type 1} → statement M
-root-of-spec = tie.close (tie.spec roots-in-requires add-end sub-place part-place-start part-place-end place-requires returns returns-2)
+root-of-spec = tie.close (tie.spec roots-in-requires add-end sub-root-number part-root-number-start part-root-number-end root-number-requires returns returns-2)
