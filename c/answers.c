@@ -41,9 +41,9 @@ static void cuts_and_locks(void) {
     struct mbrumzheg_remains remains;
     struct mbrumzheg_standing standing;
     EXPECT(is(offer(0, 950), 0, MBRUMZHEG_FREE, 950, false, false));
-    remains = mbrumzheg_try_remaining(memory, MBRUMZHEG_SIZE, 0, 0);
+    remains = mbrumzheg_try_remaining(memory, MBRUMZHEG_SIZE, 0, 0, MBRUMZHEG_CALLS_FRONT);
     EXPECT(remains.refusal == MBRUMZHEG_ACCEPTED && remains.amount == 50);
-    EXPECT(mbrumzheg_try_remaining(memory, MBRUMZHEG_SIZE, 0, 2).refusal == MBRUMZHEG_UNKNOWN);
+    EXPECT(mbrumzheg_try_remaining(memory, MBRUMZHEG_SIZE, 0, 2, 0).refusal == MBRUMZHEG_UNKNOWN);
     EXPECT(is(offer(10, 200), 0, MBRUMZHEG_FREE, 50, true, false));
     EXPECT(is(mbrumzheg_try_order(memory, MBRUMZHEG_SIZE, 20, 0, MBRUMZHEG_RESET_NONE), 0, MBRUMZHEG_ROOT_LOCKED, 0, false, false));
     EXPECT(is(mbrumzheg_try_lockout(memory, MBRUMZHEG_SIZE, 20, MBRUMZHEG_LEVEL_ROOT, 1), 0, MBRUMZHEG_FREE, 0, false, false));
@@ -52,6 +52,38 @@ static void cuts_and_locks(void) {
     EXPECT(standing.lowest_locked == 0);
     EXPECT(is(offer(19, 1), MBRUMZHEG_BAD_TIME, 0, 0, false, false));
     EXPECT(is(mbrumzheg_try_lockout(memory, MBRUMZHEG_SIZE, 20, MBRUMZHEG_LEVEL_FIRM, 1), MBRUMZHEG_UNKNOWN, 0, 0, false, false));
+}
+
+static struct mbrumzheg_judged offer_on(uint64_t unit, uint64_t contracts) {
+    return mbrumzheg_try_offer(memory, MBRUMZHEG_SIZE, 0, 0, unit, 10000, contracts);
+}
+
+/* What remains of a rule on a unit, or that it is not known. */
+static bool left(uint64_t rule, uint64_t unit, uint64_t amount) {
+    const struct mbrumzheg_remains remains = mbrumzheg_try_remaining(memory, MBRUMZHEG_SIZE, 0, rule, unit);
+    return remains.refusal == MBRUMZHEG_ACCEPTED && remains.amount == amount;
+}
+static bool unknown(uint64_t rule, uint64_t unit) {
+    const struct mbrumzheg_remains remains = mbrumzheg_try_remaining(memory, MBRUMZHEG_SIZE, 0, rule, unit);
+    return remains.refusal == MBRUMZHEG_UNKNOWN && remains.amount == 0;
+}
+
+/* A rule that names no unit counts each for itself and trips the root; a reset of the root zeroes all four. */
+static void units(void) {
+    uint64_t unit;
+    EXPECT(arm("ABCD,abs_vol,XYZ,100\nABCD,abs_vol,XYZ,90,,,P,F\nABCD,abs_vol,,500,,T").refusal == MBRUMZHEG_ACCEPTED);
+    EXPECT(is(offer_on(MBRUMZHEG_CALLS_FRONT, 60), 0, MBRUMZHEG_FREE, 60, false, false));
+    EXPECT(is(offer_on(MBRUMZHEG_PUTS_FRONT, 70), 0, MBRUMZHEG_FREE, 70, false, false));
+    EXPECT(is(offer_on(MBRUMZHEG_PUTS_TRAILING, 60), 0, MBRUMZHEG_FREE, 60, false, false));
+    EXPECT(left(0, 0, 40) && left(0, 1, 100) && left(0, 2, 30) && left(0, 3, 40) && unknown(0, 4));
+    EXPECT(left(1, MBRUMZHEG_PUTS_FRONT, 20) && unknown(1, 0) && unknown(1, 1) && unknown(1, 3) && unknown(1, 4));
+    EXPECT(left(2, 0, 310) && unknown(2, 1) && unknown(2, 2) && unknown(2, 3) && unknown(2, UINT64_MAX) && unknown(3, 0));
+    EXPECT(is(offer_on(MBRUMZHEG_PUTS_TRAILING, 60), 0, MBRUMZHEG_FREE, 40, true, false));
+    for (unit = 0; unit < 4; unit++) EXPECT(is(offer_on(unit, 1), 0, MBRUMZHEG_ROOT_LOCKED, 0, false, false));
+    EXPECT(is(mbrumzheg_try_order(memory, MBRUMZHEG_SIZE, 0, 0, MBRUMZHEG_RESET_SYMBOL), 0, MBRUMZHEG_FREE, 0, false, false));
+    for (unit = 0; unit < 4; unit++) EXPECT(left(0, unit, 100));
+    EXPECT(left(1, MBRUMZHEG_PUTS_FRONT, 90) && left(2, 0, 270));
+    EXPECT(mbrumzheg_try_clear(memory, MBRUMZHEG_SIZE) == MBRUMZHEG_ACCEPTED);
 }
 
 static struct mbrumzheg_found root_named(const char *name) { return mbrumzheg_try_root_named(memory, MBRUMZHEG_SIZE, name, strlen(name)); }
@@ -203,6 +235,7 @@ int main(void) {
     EXPECT(mbrumzheg_try_status(memory, MBRUMZHEG_SIZE).refusal == MBRUMZHEG_ACCEPTED);
     EXPECT(mbrumzheg_try_clear(memory, MBRUMZHEG_SIZE) == MBRUMZHEG_ACCEPTED);
     EXPECT(mbrumzheg_try_status(memory, MBRUMZHEG_SIZE).refusal == MBRUMZHEG_NOT_ARMED);
+    units();
     profiles();
     profiles_out();
     longest_profile();

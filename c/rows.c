@@ -32,8 +32,10 @@ int main(void) {
     for (int i = 0; i < 21; i++) EXPECT(written[i] == (uint8_t)profile[i]);
     mbrumzheg_offer(memory, MBRUMZHEG_SIZE, 0, 0, MBRUMZHEG_CALLS_FRONT, 70000, 950, row);
     EXPECT(is(0, MBRUMZHEG_FREE, 950, 0, 0));
-    mbrumzheg_remaining(memory, MBRUMZHEG_SIZE, 0, 0, row);
+    mbrumzheg_remaining(memory, MBRUMZHEG_SIZE, 0, 0, MBRUMZHEG_CALLS_FRONT, row);
     EXPECT(is(0, 50, 0, 0, 0));
+    mbrumzheg_remaining(memory, MBRUMZHEG_SIZE, 0, 0, MBRUMZHEG_PUTS_TRAILING, row);
+    EXPECT(is(0, 1000, 0, 0, 0));
     mbrumzheg_read_record(offer, sizeof offer, event);
     EXPECT(event[0] == 0 && event[1] == MBRUMZHEG_KIND_OFFER && event[2] == 10 && event[5] == 70000 && event[6] == 200);
     mbrumzheg_write_record(event[1], event[2], event[3], event[4], event[5], event[6], event[7], event[8], bytes, sizeof bytes, row);

@@ -40,7 +40,7 @@ static void run(void) {
     case ORDER: mbrumzheg_order(memory, memory_len, n[0], n[1], n[2], row); break;
     case LOCKOUT: mbrumzheg_lockout(memory, memory_len, n[0], n[1], n[2], row); break;
     case OFFER: mbrumzheg_offer(memory, memory_len, n[0], n[1], n[2], n[3], n[4], row); break;
-    case REMAINING: mbrumzheg_remaining(memory, memory_len, n[0], n[1], row); break;
+    case REMAINING: mbrumzheg_remaining(memory, memory_len, n[0], n[1], n[2], row); break;
     case STATUS: mbrumzheg_status(memory, memory_len, row); break;
     case ROOT_NAMED: mbrumzheg_root_named(memory, memory_len, (const uint8_t *)"ROOT63", n[0], row); break;
     case ROOT_NAME: mbrumzheg_root_name(memory, memory_len, n[0], room, sizeof room, row); break;
@@ -97,7 +97,7 @@ static void try_calls(uint64_t *state, uint64_t time) {
             try_numbers(OFFER, state, time, root, n, 100000000, 1);
             try_numbers(LOCKOUT, state, time, n % 3, n ? 0 : root, 0, 0);
             try_numbers(ORDER, state, time, root, n, 0, 0);
-            try_numbers(REMAINING, state, time, root * 4 + n, 0, 0, 0);
+            try_numbers(REMAINING, state, time, root * 4 + n, n % 4, 0, 0);
             try_numbers(STATUS, state, 0, 0, 0, 0, 0);
             try_numbers(ROOT_NAMED, state, n + 2, 0, 0, 0, 0);
             try_numbers(ROOT_NAME, state, root, 0, 0, 0, 0);

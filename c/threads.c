@@ -37,7 +37,7 @@ static void *read_all(void *sum) {
     const uint64_t *memory = memories[THREADS], time = MBRUMZHEG_LAST_TIME;
     *(uint64_t *)sum = 0;
     for (uint64_t n = 0; n < EVENTS; n++) {
-        const struct mbrumzheg_remains remains = mbrumzheg_try_remaining(memory, MBRUMZHEG_SIZE, time, n % 4);
+        const struct mbrumzheg_remains remains = mbrumzheg_try_remaining(memory, MBRUMZHEG_SIZE, time, n % 4, n / 4 % 4);
         const struct mbrumzheg_standing standing = mbrumzheg_try_status(memory, MBRUMZHEG_SIZE);
         char room[MBRUMZHEG_PROFILE_MOST] = {0};
         const struct mbrumzheg_written written = mbrumzheg_try_profile(memory, MBRUMZHEG_SIZE, room, sizeof room);
@@ -65,7 +65,7 @@ int main(void) {
     read_all(&sums[THREADS]);
     so = at_once(run_day, own) && at_once(read_all, own_sum) && sums[THREADS] > 0;
     /* the day has moved the clock */
-    so = so && mbrumzheg_try_remaining(memories[THREADS], MBRUMZHEG_SIZE, 0, 0).refusal == MBRUMZHEG_BAD_TIME;
+    so = so && mbrumzheg_try_remaining(memories[THREADS], MBRUMZHEG_SIZE, 0, 0, 0).refusal == MBRUMZHEG_BAD_TIME;
     for (int n = 0; n < THREADS; n++) {
         so = so && memcmp(memories[n], memories[THREADS], sizeof memories[n]) == 0;
         so = so && sums[n] == sums[THREADS];

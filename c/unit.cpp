@@ -30,8 +30,8 @@ static void cuts_and_locks() {
     EXPECT(unit.accepted() && unit.line() == 0);
     const auto first = unit->offer(at(0, 950));
     EXPECT(first.accepted() && passes(first) && first->verdict == Verdict::Free && first->grant == 950 && !first->root_trip && !first->firm_trip);
-    EXPECT(*unit->remaining(Time{0}, 0) == 50);
-    EXPECT(unit->remaining(Time{0}, 1).refusal() == Refusal::Unknown);
+    EXPECT(*unit->remaining(Time{0}, 0, UnitOfRoot::CallsFront) == 50 && *unit->remaining(Time{0}, 0, UnitOfRoot::PutsFront) == 1000);
+    EXPECT(unit->remaining(Time{0}, 1, UnitOfRoot::CallsFront).refusal() == Refusal::Unknown);
     const auto second = unit->offer(at(10, 200));
     EXPECT(second.accepted() && second->grant == 50 && second->root_trip && !second->firm_trip);
     const auto verdict = unit->order({Time{20}, Root{0}, Reset::None});
@@ -44,6 +44,21 @@ static void cuts_and_locks() {
     EXPECT(unit->lock(FirmLockout{Time{40}}).accepted() && Text(*unit->order({Time{40}, Root{0}, Reset::None})).view() == "f: RiskMgmtFirmLevel");
     EXPECT(*unit->lock(RootLockout{Time{40}, Root{0}}) == Verdict::Free && unit->status()->locked_by_user == 1);
     EXPECT(*unit->order({Time{40}, Root{0}, Reset::Both}) == Verdict::Free && unit->status()->lowest_locked == MBRUMZHEG_NO_ROOT);
+}
+
+static void each_unit_counts_for_itself() {
+    auto unit = arm("ABCD,abs_vol,XYZ,100\nABCD,abs_vol,XYZ,90,,,P,T\nABCD,abs_vol,,500,,T");
+    const auto offered = [&unit](UnitOfRoot of, std::uint64_t contracts) {
+        return *unit->offer({Time{0}, Root{0}, of, Premium{10000}, Contracts{contracts}});
+    };
+    const auto left = [&unit](std::uint64_t rule, UnitOfRoot of) { return unit->remaining(Time{0}, rule, of); };
+    EXPECT(offered(UnitOfRoot::CallsFront, 60).grant == 60 && !offered(UnitOfRoot::PutsTrailing, 60).root_trip);
+    EXPECT(*left(0, UnitOfRoot::CallsFront) == 40 && *left(0, UnitOfRoot::CallsTrailing) == 100 && *left(0, UnitOfRoot::PutsTrailing) == 40);
+    EXPECT(*left(1, UnitOfRoot::PutsTrailing) == 30 && left(1, UnitOfRoot::CallsFront).refusal() == Refusal::Unknown);
+    EXPECT(*left(2, UnitOfRoot::CallsFront) == 380 && left(2, UnitOfRoot::PutsTrailing).refusal() == Refusal::Unknown);
+    EXPECT(offered(UnitOfRoot::CallsFront, 40).root_trip && offered(UnitOfRoot::PutsFront, 1).verdict == Verdict::RootLocked);
+    EXPECT(*unit->order({Time{0}, Root{0}, Reset::Symbol}) == Verdict::Free);
+    EXPECT(*left(0, UnitOfRoot::CallsFront) == 100 && *left(0, UnitOfRoot::PutsTrailing) == 100 && *left(2, UnitOfRoot::CallsFront) == 340);
 }
 
 static void names_and_rules_are_known() {
@@ -82,7 +97,7 @@ static void a_unit_moves() {
     EXPECT(moved.offer(at(0, 1))->grant == 1);
     EXPECT(unit->offer(at(0, 1)).refusal() == Refusal::NoRoom && unit->status().refusal() == Refusal::NoRoom && unit->profile().refusal() == Refusal::NoRoom);
     auto adopted = Unit::adopt(moved.memory());
-    EXPECT(adopted.accepted() && *adopted->remaining(Time{0}, 0) == 999);
+    EXPECT(adopted.accepted() && *adopted->remaining(Time{0}, 0, UnitOfRoot::CallsFront) == 999);
     auto saved = std::move(moved).memory();
     saved.back() = 7;
     EXPECT(Unit::adopt(saved).refusal() == Refusal::Unsound);
@@ -118,6 +133,7 @@ static void events_have_records() {
 
 int main() {
     cuts_and_locks();
+    each_unit_counts_for_itself();
     names_and_rules_are_known();
     the_rules_are_written_back();
     refusals_say_why();

@@ -48,7 +48,7 @@ extern "C" {
 
 /* How many 64-bit numbers the state takes, how many bytes a record has, the room for a text and for a root's name that is asked for, and the most
  * bytes that a profile written back has. */
-#define MBRUMZHEG_SIZE 1866
+#define MBRUMZHEG_SIZE 2634
 #define MBRUMZHEG_RECORD_BYTES 12
 #define MBRUMZHEG_TEXT_BYTES 20
 #define MBRUMZHEG_NAME_BYTES 6
@@ -82,7 +82,7 @@ enum mbrumzheg_refusal {
     MBRUMZHEG_UNIT_CLASH = 10,    /* call/put and month do not go together, or stand in a firm rule */
     MBRUMZHEG_TOO_MANY = 11,      /* one rule or root too many */
     MBRUMZHEG_BAD_TIME = 12,      /* a time out of range, or below the clock */
-    MBRUMZHEG_UNKNOWN = 13,       /* a root, unit, rule, level, reset or verdict number, or a root's name */
+    MBRUMZHEG_UNKNOWN = 13,       /* a root, unit, rule, level, reset or verdict number, a unit that is not the rule's, or a root's name */
     MBRUMZHEG_BAD_AMOUNT = 14,    /* a premium or contracts out of range */
     MBRUMZHEG_LOG_FULL = 15,      /* 512 entries stand inside the longest window */
     MBRUMZHEG_FAULTY_RECORD = 16  /* no record of a valid event, or no valid event */
@@ -201,8 +201,9 @@ MBRUMZHEG_NOT_NULL void mbrumzheg_lockout(uint64_t *memory, size_t memory_len, u
 MBRUMZHEG_NOT_NULL void mbrumzheg_offer(uint64_t *memory, size_t memory_len, uint64_t time, uint64_t root, uint64_t unit,
                                         uint64_t premium, uint64_t contracts, uint64_t row[MBRUMZHEG_AT_LEAST(5)]);
 
-/* What remains of a rule's limit at a time; the clock does not move. Row: refusal, that amount. */
-MBRUMZHEG_NOT_NULL void mbrumzheg_remaining(const uint64_t *memory, size_t memory_len, uint64_t time, uint64_t rule,
+/* What remains of a rule's limit on a unit at a time; the clock does not move. A root rule that names no unit counts each of the four for itself; for a
+ * rule of one unit the unit must be that one, for a firm rule 0 [13]. Row: refusal, that amount. */
+MBRUMZHEG_NOT_NULL void mbrumzheg_remaining(const uint64_t *memory, size_t memory_len, uint64_t time, uint64_t rule, uint64_t unit,
                                             uint64_t row[MBRUMZHEG_AT_LEAST(5)]);
 
 /* How the roots stand. Row: refusal, how many are tripped, locked by the user, locked at all, and the lowest locked root, 64 if none. */

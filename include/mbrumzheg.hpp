@@ -153,9 +153,10 @@ public:
     // Any event, as its record has it.
     Result<Answer> answer(const Event& event) { return detail::answer(mbrumzheg_try_event(numbers(), size(), detail::numbers(event))); }
 
-    // What remains of the limit of a rule, numbered from 0 by line, at a time; the clock does not move.
-    Result<std::uint64_t> remaining(Time time, std::uint64_t rule) const {
-        const auto remains = mbrumzheg_try_remaining(numbers(), size(), time.ms, rule);
+    // What remains of the limit of a rule, numbered from 0 by line, on a unit at a time; the clock does not move. Unknown for a unit that is not the
+    // rule's: for a rule of one unit any but its own, for a firm rule any but CallsFront.
+    Result<std::uint64_t> remaining(Time time, std::uint64_t rule, UnitOfRoot unit) const {
+        const auto remains = mbrumzheg_try_remaining(numbers(), size(), time.ms, rule, static_cast<std::uint64_t>(unit));
         if (remains.refusal != MBRUMZHEG_ACCEPTED) return detail::refused<std::uint64_t>(remains.refusal);
         return remains.amount;
     }

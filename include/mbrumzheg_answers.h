@@ -31,7 +31,7 @@ struct mbrumzheg_judged {
     bool firm_trip;
 };
 
-/* What remains of a rule's limit: ten-thousandths of a dollar, contracts or executions, by the rule's type. */
+/* What remains of a rule's limit on a unit: ten-thousandths of a dollar, contracts or executions, by the rule's type. */
 struct mbrumzheg_remains {
     enum mbrumzheg_refusal refusal;
     uint64_t amount;
@@ -185,10 +185,11 @@ static inline struct mbrumzheg_judged mbrumzheg_try_event(uint64_t *memory, size
 }
 
 /* mbrumzheg_remaining */
-static inline struct mbrumzheg_remains mbrumzheg_try_remaining(const uint64_t *memory, size_t memory_len, uint64_t time, uint64_t rule) {
+static inline struct mbrumzheg_remains mbrumzheg_try_remaining(const uint64_t *memory, size_t memory_len, uint64_t time, uint64_t rule,
+                                                               uint64_t unit) {
     uint64_t row[MBRUMZHEG_ROW];
     struct mbrumzheg_remains remains;
-    mbrumzheg_remaining(memory, memory_len, time, rule, row);
+    mbrumzheg_remaining(memory, memory_len, time, rule, unit, row);
     remains.refusal = mbrumzheg_refusal_in(row);
     remains.amount = row[MBRUMZHEG_ROW_REMAINS];
     return remains;

@@ -83,7 +83,7 @@ enum class RuleType : std::uint64_t {
 };
 
 // A rule of the profile: its limit in whole dollars, contracts or executions; its window in milliseconds, none for an absolute rule; its root, none
-// for a firm rule; its unit, none where it covers all four.
+// for a firm rule; its unit, none where it covers all four, each of which then counts for itself.
 struct Rule {
     RuleType type;
     std::uint64_t limit;

@@ -8,7 +8,7 @@
 static inline const char *mbrumzheg_refusal_text(uint64_t refusal) {
     switch (refusal) {
     case MBRUMZHEG_ACCEPTED: return "not refused";
-    case MBRUMZHEG_NO_ROOM: return "the lent memory has fewer than 1,866 numbers, or the room is shorter than the call asks for";
+    case MBRUMZHEG_NO_ROOM: return "the lent memory has fewer than 2,634 numbers, or the room is shorter than the call asks for";
     case MBRUMZHEG_UNSOUND: return "the memory is marked, but what stands in it is no sound state";
     case MBRUMZHEG_ARMED_ALREADY: return "the memory's armed mark is not 0, so clear it before arming";
     case MBRUMZHEG_NOT_ARMED: return "the memory is not armed, so no rule stands behind this call";

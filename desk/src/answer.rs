@@ -45,15 +45,15 @@ fn filled(profile: &Profile, offer: &Offer, answer: &Answer, passed: &Passed) ->
     let offered = offer.contracts.count();
     let mut text = if answer.cuts(offer.contracts) {
         let granted = format!("granted {} of {}", grouped(answer.grant), grouped(offered));
-        format!("{granted}, cut by {}", rules(profile, &passed.cut_by))
+        format!("{granted}, cut by {}", counts(profile, &passed.cut_by))
     } else if passed.covered {
         format!("granted all {}", grouped(offered))
     } else {
         format!("granted all {}, no rule covers it", grouped(offered))
     };
-    let reached: Vec<usize> = passed.reached.iter().filter(|number| !passed.cut_by.contains(number)).copied().collect();
+    let reached: Vec<usize> = passed.reached.iter().filter(|count| !passed.cut_by.contains(count)).copied().collect();
     if !reached.is_empty() {
-        text.push_str(&format!("; limit reached: {}", rules(profile, &reached)));
+        text.push_str(&format!("; limit reached: {}", counts(profile, &reached)));
     }
     if answer.root_trip {
         text.push_str(&format!("; root {} tripped", profile.root_name(offer.root.number())));
@@ -64,9 +64,9 @@ fn filled(profile: &Profile, offer: &Offer, answer: &Answer, passed: &Passed) ->
     text
 }
 
-/// Rules by their words, joined by "and".
-pub fn rules(profile: &Profile, numbers: &[usize]) -> String {
-    let each: Vec<String> = numbers.iter().filter_map(|n| profile.rules.get(*n)).map(|rule| profile.rule_words(rule)).collect();
+/// Rules by their words, each with the unit that it counts, joined by "and".
+pub fn counts(profile: &Profile, places: &[usize]) -> String {
+    let each: Vec<String> = places.iter().map(|place| profile.count_words(*place)).collect();
     each.join(" and ")
 }
 

@@ -1,8 +1,8 @@
-//! The words after offer, order, lock and remaining, made into events with the profile's names and the unit's clock.
+//! The words after offer, order and lock, made into events with the profile's names and the unit's clock.
 
 use crate::command::shortened;
-use crate::help::{LOCK_FORM, OFFER_FORM, ORDER_FORM, REMAINING_FORM};
-use crate::profile::{Profile, Rule, Scope};
+use crate::help::{LOCK_FORM, OFFER_FORM, ORDER_FORM};
+use crate::profile::Profile;
 use crate::words;
 use mbrumzheg::{Event, Level, Offer, Reset, Root, Time, UnitOfRoot};
 
@@ -15,28 +15,6 @@ pub struct Names<'a> {
     pub clock: Time,
 }
 
-/// Which rules a table shows.
-#[derive(Clone, Copy, Debug, PartialEq, Eq)]
-pub enum Shown {
-    /// All of them.
-    All,
-    /// The firm's.
-    Firm,
-    /// Those of one root.
-    Root(usize),
-}
-
-impl Shown {
-    /// Whether a rule is among them.
-    pub fn has(self, rule: &Rule) -> bool {
-        match (self, rule.scope) {
-            (Shown::All, _) | (Shown::Firm, Scope::Firm) => true,
-            (Shown::Root(shown), Scope::Root(root) | Scope::Unit(root, _)) => shown == root,
-            _ => false,
-        }
-    }
-}
-
 impl Names<'_> {
     /// The offer that words ask for.
     pub fn offer(&self, typed: &[String]) -> Result<Event, String> {
@@ -46,7 +24,7 @@ impl Names<'_> {
         Ok(Event::Offer(Offer {
             time: self.time(time)?,
             root: self.root(root)?,
-            unit: unit(call_put, month)?,
+            unit: unit(call_put, month, OFFER_FORM)?,
             premium: words::read_premium(premium)?,
             contracts: words::read_contracts(contracts)?,
         }))
@@ -73,17 +51,6 @@ impl Names<'_> {
         Ok(Event::Lockout { time, level })
     }
 
-    /// The time and the rules that a table is asked for.
-    pub fn table(&self, typed: &[String]) -> Result<(Time, Shown), String> {
-        match typed {
-            [] => Ok((self.clock, Shown::All)),
-            [one] if words::looks_like_time(one) => Ok((self.time(one)?, Shown::All)),
-            [one] => Ok((self.clock, self.shown(one)?)),
-            [time, what] => Ok((self.time(time)?, self.shown(what)?)),
-            _ => Err(format!("that is too much; type {REMAINING_FORM}")),
-        }
-    }
-
     /// The first and last time of a stretch, in milliseconds.
     pub fn stretch(&self, from: &str, to: &str) -> Result<(u64, u64), String> {
         let (from, to) = (self.time(from)?.ms(), self.time(to)?.ms());
@@ -94,14 +61,8 @@ impl Names<'_> {
         }
     }
 
-    fn shown(&self, word: &str) -> Result<Shown, String> {
-        if word == "firm" {
-            return Ok(Shown::Firm);
-        }
-        self.root(word).map(|root| Shown::Root(root.number() as usize))
-    }
-
-    fn time(&self, word: &str) -> Result<Time, String> {
+    /// The time that a word names.
+    pub fn time(&self, word: &str) -> Result<Time, String> {
         if word.len() > 40 {
             return Err(format!("'{}' is no time; type {}", shortened(word), words::TIME_FORMS));
         }
@@ -109,7 +70,7 @@ impl Names<'_> {
     }
 
     /// The root of a name, small letters taken as capitals.
-    fn root(&self, word: &str) -> Result<Root, String> {
+    pub fn root(&self, word: &str) -> Result<Root, String> {
         let wanted = word.to_ascii_uppercase();
         let roots = &self.profile.roots;
         let number = roots.iter().position(|name| *name == wanted);
@@ -132,19 +93,20 @@ pub fn listed(names: &[String]) -> String {
     }
 }
 
-fn unit(call_put: &str, month: &str) -> Result<UnitOfRoot, String> {
+/// The unit that two words name, or what to type.
+pub fn unit(call_put: &str, month: &str, form: &str) -> Result<UnitOfRoot, String> {
     let (call_put, month) = (call_put.to_ascii_lowercase(), month.to_ascii_lowercase());
     let call = match call_put.as_str() {
         "call" | "calls" => true,
         "put" | "puts" => false,
-        _ => return Err(format!("'{}' is neither call nor put; type {OFFER_FORM}", shortened(&call_put))),
+        _ => return Err(format!("'{}' is neither call nor put; type {form}", shortened(&call_put))),
     };
     match (call, month.as_str()) {
         (true, "front") => Ok(UnitOfRoot::CallsFront),
         (true, "trailing") => Ok(UnitOfRoot::CallsTrailing),
         (false, "front") => Ok(UnitOfRoot::PutsFront),
         (false, "trailing") => Ok(UnitOfRoot::PutsTrailing),
-        _ => Err(format!("'{}' is neither front nor trailing; type {OFFER_FORM}", shortened(&month))),
+        _ => Err(format!("'{}' is neither front nor trailing; type {form}", shortened(&month))),
     }
 }
 

@@ -87,13 +87,16 @@ fn label(ms: u64, step: u64, last: u64) -> String {
     }
 }
 
-/// The lines at the limit, at 80 and 50 percent of it, and at nothing.
+/// The lines at the limit, at 80 and 50 percent of it, and at nothing, each with its name to the left of the picture.
 pub fn levels() -> String {
-    let line = |class: &str, share: f64| {
+    let line = |class: &str, share: f64, name: &str| {
         let y = BOTTOM - (BOTTOM - TOP) * share;
-        format!("<line class=\"{class}\" x1=\"0\" y1=\"{y:.1}\" x2=\"100%\" y2=\"{y:.1}\"/>")
+        format!(
+            "<line class=\"{class}\" x1=\"0\" y1=\"{y:.1}\" x2=\"100%\" y2=\"{y:.1}\"/><text class=\"tick\" x=\"-8\" y=\"{:.1}\" text-anchor=\"end\">{name}</text>",
+            y + 4.0
+        )
     };
-    [line("limit", 1.0), line("share", 0.8), line("share", 0.5), line("base", 0.0)].concat()
+    [line("limit", 1.0, "limit"), line("share", 0.8, "80%"), line("share", 0.5, "50%"), line("base", 0.0, "0")].concat()
 }
 
 /// A mark's shape around a place; kinds differ by shape as well as by colour.

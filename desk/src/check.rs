@@ -2,7 +2,7 @@
 
 use crate::asked::listed;
 use crate::explain;
-use crate::profile::{Measure, Profile, Rule};
+use crate::profile::{Measure, Profile, Rule, Scope};
 use crate::table::counted;
 use crate::words;
 use mbrumzheg::{ArmRefusal, Unit};
@@ -71,16 +71,16 @@ fn said(profile: &Profile, most: usize) -> String {
 }
 
 fn rule_line(profile: &Profile, rule: &Rule) -> String {
-    format!("  rule {}  {}", rule.number, meaning(profile, rule))
+    format!("  rule {}  {}", rule.number, meaning(profile, rule, rule.scope))
 }
 
-/// A rule in words: whose it is, how much, and in which time.
-pub fn meaning(profile: &Profile, rule: &Rule) -> String {
+/// A rule in words: for which fills, how much, and in which time.
+pub fn meaning(profile: &Profile, rule: &Rule, of: Scope) -> String {
     let limit = match rule.measure {
         Measure::Notional => rule.amount(rule.limit).to_string(),
         Measure::Volume => counted(rule.limit as usize, "contract"),
         Measure::Count => counted(rule.limit as usize, "execution"),
     };
     let time = rule.window.map_or_else(|| "the day".to_string(), words::span);
-    format!("{}: at most {limit} in {time}", profile.scope_words(rule.scope))
+    format!("{}: at most {limit} in {time}", profile.scope_words(of))
 }

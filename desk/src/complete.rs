@@ -1,6 +1,7 @@
 //! What Tab offers for a line: commands, roots, the words that may follow, and files.
 
 use crate::help;
+use crate::words::looks_like_time;
 
 const TIMES: [&str; 4] = ["now", "+1ms", "+10ms", "+1s"];
 
@@ -31,13 +32,29 @@ fn following(command: &str, words: &[&str], roots: &[String]) -> Vec<String> {
         ("offer", 3) => all(&["front", "trailing"]),
         ("order", 2) => all(&["reset"]),
         ("order", 3) => all(&["symbol", "firm", "both"]),
-        ("lock" | "remaining", 0) => [levels(), all(&TIMES)].concat(),
-        ("lock" | "remaining", 1) => levels(),
+        ("lock", 0) => [levels(), all(&TIMES)].concat(),
+        ("lock", 1) => levels(),
+        ("remaining", 0) => [levels(), all(&["rule"]), all(&TIMES)].concat(),
+        ("remaining", _) => match words {
+            [time] if looks_like_time(time) => [levels(), all(&["rule"])].concat(),
+            [time, limit @ ..] if looks_like_time(time) => all(on_unit(limit)),
+            limit => all(on_unit(limit)),
+        },
         ("replay", 1) => all(&["quiet"]),
         ("save" | "profile", 1) => all(&["over"]),
         ("report", 1) => all(&["from"]),
         ("report", 3) => all(&["to"]),
         _ => Vec::new(),
+    }
+}
+
+/// The words of a unit that may follow a root's name, or a rule's number.
+fn on_unit(limit: &[&str]) -> &'static [&'static str] {
+    match limit {
+        ["firm"] | ["rule"] => &[],
+        [_] | ["rule", _] => &["call", "put"],
+        [_, _] | ["rule", _, _] => &["front", "trailing"],
+        _ => &[],
     }
 }
 
@@ -83,6 +100,15 @@ mod tests {
         assert_eq!(offered("order now 7 reset "), ["symbol", "firm", "both"]);
         assert_eq!(offered("lock f"), ["firm"]);
         assert_eq!(offered("remaining now x"), ["XYZ", "XQ"]);
+        assert_eq!(offered("remaining r"), ["rule"]);
+        assert_eq!(offered("remaining +1s r"), ["rule"]);
+        for before in ["remaining XYZ ", "remaining now XYZ ", "remaining rule 3 ", "remaining 10ms rule 3 "] {
+            assert_eq!(offered(before), ["call", "put"], "{before}");
+            assert_eq!(offered(&format!("{before}put ")), ["front", "trailing"], "{before}");
+            assert_eq!(offered(&format!("{before}put front ")), [""; 0], "{before}");
+        }
+        assert_eq!(offered("remaining firm "), [""; 0]);
+        assert_eq!(offered("remaining rule "), [""; 0]);
         assert_eq!(offered("help ref"), ["refusals"]);
         assert_eq!(offered("replay day.records q"), ["quiet"]);
         assert_eq!(offered("save day.records "), ["over"]);

@@ -1,7 +1,8 @@
-//! A day replayed on a fresh unit, record by record, in memory that does not grow with it: the use of every rule over time, the locks, the
+//! A day replayed on a fresh unit, record by record, in memory that does not grow with it: the use of every limit over time, the locks, the
 //! figures, and the first lines of what did not simply pass.
 
 use crate::answer;
+use crate::counts::Count;
 use crate::entries::{Entries, Group};
 use crate::lane::Lane;
 use crate::marks::{Kind, Marks};
@@ -10,7 +11,7 @@ use crate::progress::Progress;
 use crate::scale::{Curves, Scale};
 use crate::sitting::{Passed, Sitting};
 use crate::spool::RecordReader;
-use crate::standing::{level, level_of, reset_levels};
+use crate::standing::{level, reset_levels};
 use crate::sums::Sums;
 use mbrumzheg::{Answer, Event, Level, Unit, Verdict};
 use std::io::Read;
@@ -21,9 +22,9 @@ pub struct Day {
     pub times: Option<(u64, u64)>,
     /// The stretch that the pictures show, if it is not the whole day.
     pub stretch: Option<(u64, u64)>,
-    /// The use of each rule.
+    /// The use of each limit, by count.
     pub curves: Curves,
-    /// Cuts and trips by rule.
+    /// Cuts and trips by count.
     pub marks: Vec<Marks>,
     /// The firm's lane, then the roots'.
     pub lanes: Vec<Lane>,
@@ -38,7 +39,7 @@ impl Day {
     pub fn replayed(profile: &Profile, records: impl Read, stretch: Option<(u64, u64)>, progress: &mut Progress) -> Result<Day, String> {
         let unit = Unit::new().arm(&profile.text).map_err(|refused| refused.to_string())?;
         let mut sitting = Sitting::new(unit, "", &profile.text);
-        let mut day = Day::of_rules(profile, stretch);
+        let mut day = Day::of_counts(profile, stretch);
         let mut records = RecordReader::new(records);
         while let Some(record) = records.record().map_err(|error| format!("the records cannot be read to their end: {error}"))? {
             let passed = sitting.answer_record(record, &mut day.curves);
@@ -47,20 +48,19 @@ impl Day {
         }
         let differing = sitting.differences();
         if !differing.is_empty() {
-            return Err(format!(
-                "the desk reckons otherwise than the library for the rules {differing:?}, so it writes no page of this day"
-            ));
+            let counts = answer::counts(profile, &differing);
+            return Err(format!("the desk reckons otherwise than the library for {counts}, so it writes no page of this day"));
         }
         day.close(&mut sitting);
         Ok(day)
     }
 
-    fn of_rules(profile: &Profile, stretch: Option<(u64, u64)>) -> Day {
+    fn of_counts(profile: &Profile, stretch: Option<(u64, u64)>) -> Day {
         Day {
             times: None,
             stretch,
-            curves: Curves::new(profile.rules.len(), stretch),
-            marks: vec![Marks::default(); profile.rules.len()],
+            curves: Curves::new(profile.counts.len(), stretch),
+            marks: vec![Marks::default(); profile.counts.len()],
             lanes: vec![Lane::default(); profile.roots.len() + 1],
             entries: Entries::default(),
             sums: Sums::default(),
@@ -97,7 +97,7 @@ impl Day {
         self.mark(sitting, event, answer, passed, scale);
     }
 
-    /// Marks what happened to levels and rules.
+    /// Marks what happened to levels and counts.
     fn mark(&mut self, sitting: &Sitting, event: &Event, answer: &Answer, passed: &Passed, scale: Scale) {
         let ms = event.time().ms();
         let mut mark = |level: usize, kind| {
@@ -110,8 +110,8 @@ impl Day {
         }
         match event {
             Event::Offer(offer) => {
-                let rule_of = |number: &usize| sitting.profile.rules.get(*number);
-                let mut cut_levels: Vec<usize> = passed.cut_by.iter().filter_map(rule_of).map(|rule| level_of(rule.scope)).collect();
+                let count_of = |place: &usize| sitting.profile.counts.get(*place);
+                let mut cut_levels: Vec<usize> = passed.cut_by.iter().filter_map(count_of).map(Count::level).collect();
                 cut_levels.dedup();
                 cut_levels.into_iter().for_each(|level| mark(level, Kind::Cut));
                 let trips = [(level(offer.root, false), answer.root_trip), (0, answer.firm_trip)];
@@ -121,9 +121,9 @@ impl Day {
             Event::Lockout { level: Level::Firm, .. } => mark(0, Kind::Lockout),
             Event::Lockout { level: Level::Root(root), .. } => mark(level(*root, false), Kind::Lockout),
         }
-        for (rules, kind) in [(passed.cut_by.clone(), Kind::Cut), (passed.tripping().collect(), Kind::Trip)] {
-            for number in rules {
-                if let Some(marks) = self.marks.get_mut(number) {
+        for (counts, kind) in [(passed.cut_by.clone(), Kind::Cut), (passed.tripping().collect(), Kind::Trip)] {
+            for place in counts {
+                if let Some(marks) = self.marks.get_mut(place) {
                     marks.add(kind, ms, passed.place, scale);
                 }
             }

@@ -135,10 +135,7 @@ impl Desk {
     fn remaining(&mut self, words: &[String]) -> Result<String, String> {
         let sitting = self.sitting()?;
         let (time, shown) = Names { profile: &sitting.profile, clock: sitting.unit.clock() }.table(words)?;
-        table::rules(sitting, time, shown).map_err(|refusal| {
-            let clock = crate::words::time(sitting.unit.clock());
-            format!("{refusal}; type remaining, or a time from {clock} on")
-        })
+        table::rules(sitting, time, shown)
     }
 
     fn clear(&mut self) -> Result<String, String> {

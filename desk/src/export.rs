@@ -1,12 +1,13 @@
 //! The figures of a page as JSON and as CSV.
 
 use crate::day::Day;
-use crate::figures::{self, RuleFigures};
+use crate::figures::{self, CountFigures};
 use crate::json::{list, object, text};
 use crate::lane::{Lane, Told};
 use crate::profile::{Measure, Profile};
 use crate::report::{Made, BEGINNINGS};
 use crate::standing::level_name;
+use mbrumzheg::UnitOfRoot;
 
 /// All figures as JSON. Amounts of rules that count notional are in ten-thousandths of a dollar, times in milliseconds from midnight.
 pub fn json(profile: &Profile, day: &Day, made: &Made) -> String {
@@ -14,7 +15,7 @@ pub fn json(profile: &Profile, day: &Day, made: &Made) -> String {
         span.map_or("null".to_string(), |(from, to)| object(&[("from_ms", from.to_string()), ("to_ms", to.to_string())]))
     };
     let counts = figures::counts(profile, day).into_iter().map(|(name, count)| format!("{}:{count}", text(&key(name))));
-    let rules = figures::rules(profile, day);
+    let limits = figures::limits(profile, day);
     let sum_of_profile = [("file", text(&made.profile)), ("sha256", text(&made.profile_sum))];
     let files = list(made.records.iter().map(|name| text(name)));
     let sum_of_records = [("files", files), ("typed", made.typed.to_string()), ("sha256", text(&made.records_sum))];
@@ -27,7 +28,7 @@ pub fn json(profile: &Profile, day: &Day, made: &Made) -> String {
         ("times", times(day.times)),
         ("stretch", times(day.stretch)),
         ("counts", format!("{{{}}}", counts.collect::<Vec<_>>().join(","))),
-        ("rules", objects(rules.iter().map(|figures| named(&RULE_FIELDS, &rule_values(profile, figures))))),
+        ("rules", objects(limits.iter().map(|figures| named(&LIMIT_FIELDS, &limit_values(profile, figures))))),
         ("levels", objects(levels(day).iter().map(|(level, lane)| named(&LEVEL_FIELDS, &level_values(profile, *level, lane))))),
         ("locks", objects(told(day).iter().map(|told| named(&LOCK_FIELDS, &lock_values(profile, told))))),
     ];
@@ -46,7 +47,7 @@ fn objects(all: impl Iterator<Item = String>) -> String {
     format!("[\n{}\n]", all.collect::<Vec<_>>().join(",\n"))
 }
 
-/// The same figures as tables of commas: counts, rules, levels and locks, an empty line between them.
+/// The same figures as tables of commas: counts, limits, levels and locks, an empty line between them.
 pub fn csv(profile: &Profile, day: &Day, made: &Made) -> String {
     let mut lines = Vec::new();
     let mut pair = |name: &str, value: String| lines.push(format!("{},{}", cell(name), cell(&value)));
@@ -66,8 +67,8 @@ pub fn csv(profile: &Profile, day: &Day, made: &Made) -> String {
     }
     figures::counts(profile, day).iter().for_each(|(name, count)| pair(name, count.to_string()));
     lines.push(String::new());
-    lines.push(RULE_FIELDS.join(","));
-    lines.extend(figures::rules(profile, day).iter().map(|figures| row(&rule_values(profile, figures))));
+    lines.push(LIMIT_FIELDS.join(","));
+    lines.extend(figures::limits(profile, day).iter().map(|figures| row(&limit_values(profile, figures))));
     lines.push(String::new());
     lines.push(LEVEL_FIELDS.join(","));
     lines.extend(levels(day).iter().map(|(level, lane)| row(&level_values(profile, *level, lane))));
@@ -106,10 +107,12 @@ impl Value {
     }
 }
 
-const RULE_FIELDS: [&str; 13] = [
+/// A row is a count: of a root's rule without call/put and month there are four.
+const LIMIT_FIELDS: [&str; 14] = [
     "rule",
     "type",
     "of",
+    "unit",
     "counts",
     "limit",
     "window_ms",
@@ -122,7 +125,7 @@ const RULE_FIELDS: [&str; 13] = [
     "trips",
 ];
 
-fn rule_values(profile: &Profile, figures: &RuleFigures) -> [Value; 13] {
+fn limit_values(profile: &Profile, figures: &CountFigures) -> [Value; 14] {
     let rule = figures.rule;
     let number = |number: u64| Value::of(Some(number));
     let counts = match rule.measure {
@@ -133,7 +136,8 @@ fn rule_values(profile: &Profile, figures: &RuleFigures) -> [Value; 13] {
     [
         number(rule.number as u64),
         Value::Text(rule.kind.clone()),
-        Value::Text(profile.scope_words(rule.scope)),
+        Value::Text(profile.scope_words(figures.count.of)),
+        Value::of(figures.count.unit().map(UnitOfRoot::number)),
         Value::Text(counts.to_string()),
         number(rule.limit),
         Value::of(rule.window),

@@ -1,15 +1,18 @@
 //! The figures of a day, once for the page, its CSV and its JSON.
 
+use crate::counts::Count;
 use crate::day::Day;
 use crate::marks::Kind;
 use crate::profile::{Profile, Rule};
 use crate::words;
 use mbrumzheg::Time;
 
-/// A rule's day in figures.
-pub struct RuleFigures<'a> {
-    /// The rule.
+/// A count's day in figures.
+pub struct CountFigures<'a> {
+    /// Its rule.
     pub rule: &'a Rule,
+    /// The count.
+    pub count: &'a Count,
     /// The most that was used, and when first.
     pub most: u64,
     /// That time, in milliseconds; none where nothing was used.
@@ -22,7 +25,7 @@ pub struct RuleFigures<'a> {
     pub trips: u64,
 }
 
-impl RuleFigures<'_> {
+impl CountFigures<'_> {
     /// The most that was used, in tenths of a percent of the limit, rounded down.
     pub fn share(&self) -> u64 {
         crate::table::share(self.most, self.rule.limit, 1_000)
@@ -46,18 +49,19 @@ impl RuleFigures<'_> {
         self.rule.limit.saturating_sub(self.last)
     }
 
-    /// Whether anything of the rule was used.
+    /// Whether anything of the limit was used by it.
     pub fn is_used(&self) -> bool {
         self.most > 0 || self.cuts + self.trips > 0
     }
 }
 
-/// Every rule's figures, the greatest share of its limit first.
-pub fn rules<'a>(profile: &'a Profile, day: &Day) -> Vec<RuleFigures<'a>> {
-    let each = profile.rules.iter().zip(day.curves.rules.iter().zip(&day.marks));
-    let mut all: Vec<RuleFigures> = each
-        .map(|(rule, (curve, marks))| RuleFigures {
+/// Every count's figures, the greatest share of its limit first.
+pub fn limits<'a>(profile: &'a Profile, day: &Day) -> Vec<CountFigures<'a>> {
+    let each = profile.each_count().zip(day.curves.counts.iter().zip(&day.marks));
+    let mut all: Vec<CountFigures> = each
+        .map(|((rule, count), (curve, marks))| CountFigures {
             rule,
+            count,
             most: curve.peak.1,
             most_at: (curve.peak.1 > 0).then_some(curve.peak.0),
             last: curve.cells.last().map_or(curve.start, |cell| cell.last),
@@ -67,7 +71,7 @@ pub fn rules<'a>(profile: &'a Profile, day: &Day) -> Vec<RuleFigures<'a>> {
         .collect();
     all.sort_by_key(|figures| {
         let exact = u128::from(figures.most) * u128::from(u64::MAX) / u128::from(figures.rule.limit.max(1));
-        (std::cmp::Reverse(exact), figures.rule.number)
+        (std::cmp::Reverse(exact), figures.count.place)
     });
     all
 }

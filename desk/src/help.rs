@@ -24,7 +24,7 @@ pub const ORDER_FORM: &str = "order TIME ROOT [reset symbol|firm|both]";
 /// How a lockout is typed.
 pub const LOCK_FORM: &str = "lock [TIME] ROOT|firm";
 /// How the table of rules is asked for.
-pub const REMAINING_FORM: &str = "remaining [TIME] [ROOT|firm]";
+pub const REMAINING_FORM: &str = "remaining [TIME] [firm|ROOT|rule NUMBER] [call|put front|trailing]";
 
 /// The commands, in the order of the list.
 pub const COMMANDS: [Topic; 14] = [
@@ -70,10 +70,12 @@ pub const COMMANDS: [Topic; 14] = [
     Topic {
         name: "remaining",
         form: REMAINING_FORM,
-        short: "every rule with its limit, what is used and left",
-        long: "Shows the rules, at the clock's time or a later one, of all, of one root or of the firm. In brackets is what the library's \
-               Remaining answers: contracts, executions, or ten-thousandths of a dollar.",
-        examples: &["remaining", "remaining +1s XYZ", "remaining firm"],
+        short: "limits by rule and unit, what is used and left",
+        long: "Shows the limits, at the clock's time or a later one: all, those of the firm, of one root or of one rule, on all units or on one. \
+               A rule of a root without call/put and month counts each of the four units for itself, so it has four rows; any other rule \
+               has one. In brackets is what the library's Remaining answers: contracts, executions, or ten-thousandths of a dollar. A \
+               rule and a unit that is not the rule's own are refused with 13.",
+        examples: &["remaining", "remaining +1s XYZ", "remaining XYZ put front", "remaining rule 0 put front", "remaining firm"],
     },
     Topic {
         name: "profile",
@@ -158,7 +160,7 @@ const OTHERS: [Topic; 3] = [
         short: "",
         long: "One rule a line. TYPE is rate_ntnl, rate_vol, rate_count, abs_ntnl, abs_vol or abs_count; LIMIT is in dollars, contracts or \
                executions; TIME is the window of a rate rule in milliseconds. A rule of the firm has no ROOT and a T; C or P with F or T makes \
-               a rule of one unit. No blanks, no commas inside numbers, LF after each line.",
+               a rule of one unit, and without them a rule of a root counts each of its four units for itself. No blanks, no commas inside numbers, LF after each line.",
         examples: &["ABCD,rate_vol,XYZ,500,1000", "ABCD,abs_ntnl,,2000000,,T", "ABCD,rate_count,QQQ,10,60000,,P,F"],
     },
 ];

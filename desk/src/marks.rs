@@ -61,7 +61,7 @@ const LONGEST: usize = 2_048;
 /// So many buckets share a slot.
 const SLOT: u64 = 8;
 
-/// What happened to a rule, a root or the firm.
+/// What happened to a rule's count, a root or the firm.
 #[derive(Clone, Debug, Default, PartialEq, Eq)]
 pub struct Marks {
     tallies: Vec<Tally>,

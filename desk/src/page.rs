@@ -3,11 +3,11 @@
 use crate::chart::{escaped, levels, shape, shape_id, Axis, BOTTOM, TOP};
 use crate::day::Day;
 use crate::export;
-use crate::figures::{self, count_words, face, RuleFigures};
+use crate::figures::{self, count_words, face, CountFigures};
 use crate::lines::plain;
 use crate::marks::Kind;
 use crate::pictures;
-use crate::profile::Profile;
+use crate::profile::{Profile, Rule};
 use crate::report::{Made, BEGINNINGS};
 use crate::tables;
 use crate::words::grouped;
@@ -20,13 +20,13 @@ pub fn page(profile: &Profile, day: &Day, made: &Made) -> String {
     let title = format!("Risk day of firm {}", escaped(&profile.firm));
     let axis = day.curves.scale.zip(day.span()).map(|(scale, (_, last))| Axis::to(scale, last));
     let drawn = axis.map(|axis| pictures::draw(profile, day, &axis)).unwrap_or_default();
-    let rules = figures::rules(profile, day);
+    let limits = figures::limits(profile, day);
     let body = [
         format!("<header><h1>{title}</h1><p>{}</p></header>", about(day)),
-        format!("<section id=\"overview\"><h2>Overview</h2>{}{}</section>", counts(profile, day), tables::overview(profile, &rules)),
+        format!("<section id=\"overview\"><h2>Overview</h2>{}{}</section>", counts(profile, day), tables::overview(profile, &limits)),
         format!("<section id=\"locks\"><h2>Locks over time</h2>{}{}</section>", drawn.lanes, tables::locks(profile, day)),
         format!("<section id=\"legend\"><h2>Legend</h2>{}</section>", legend()),
-        format!("<h2>Use of each rule against its limit</h2>{}{}", drawn.rules, unused(profile, &rules)),
+        format!("<h2>Use of each rule against its limit</h2>{}{}", drawn.rules, unused(profile, &limits)),
         format!("<section id=\"events\"><h2>What did not simply pass</h2>{}</section>", tables::events(day)),
         format!("<section id=\"profile\"><h2>Profile</h2><pre>{}</pre></section>", text_of(profile)),
         footer(profile, day, made),
@@ -80,7 +80,7 @@ fn counts(profile: &Profile, day: &Day) -> String {
 fn legend() -> String {
     let sample = |inner: &str| format!("<svg viewBox=\"0 0 30 18\" class=\"sample\" aria-hidden=\"true\">{inner}</svg>");
     let lines = [
-        ("use of the rule", "<path class=\"use\" d=\"M2 16V9H14V4H28V16\"/>".to_string()),
+        ("use of the limit", "<path class=\"use\" d=\"M2 16V9H14V4H28V16\"/>".to_string()),
         ("limit", "<line class=\"limit\" x1=\"1\" y1=\"9\" x2=\"29\" y2=\"9\"/>".to_string()),
         (
             "80 and 50 percent of it",
@@ -94,9 +94,10 @@ fn legend() -> String {
     format!("<ul class=\"legend\">{items}</ul>")
 }
 
-fn unused(profile: &Profile, rules: &[RuleFigures]) -> String {
-    let names: Vec<String> =
-        rules.iter().filter(|figures| !figures.is_used()).map(|figures| escaped(&profile.rule_words(figures.rule))).collect();
+/// The rules that no fill counted for.
+fn unused(profile: &Profile, limits: &[CountFigures]) -> String {
+    let is_used = |rule: &&Rule| limits.iter().any(|figures| figures.rule.number == rule.number && figures.is_used());
+    let names: Vec<String> = profile.rules.iter().filter(|rule| !is_used(rule)).map(|rule| escaped(&profile.rule_words(rule))).collect();
     if names.is_empty() {
         return String::new();
     }

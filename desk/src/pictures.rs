@@ -1,21 +1,23 @@
-//! The pictures of a day: one with a lane for the firm and each root, and one for every rule that was used.
+//! The pictures of a day: one with a lane for the firm and each root, and one for every count of a rule that was used.
 
 use crate::chart::{bands, escaped, marks, within, Axis, BOTTOM, HEIGHT, TOP};
+use crate::counts::Count;
 use crate::day::Day;
-use crate::figures::{self, face, RuleFigures};
+use crate::figures::{self, face, CountFigures};
 use crate::marks::{Kind, Tally};
 use crate::plot::{plot, Plot};
 use crate::profile::{Measure, Profile};
 use crate::scale::Curve;
-use crate::standing::{level_name, level_of};
+use crate::standing::level_name;
 use crate::table::counted;
+use crate::words;
 
 /// The height of a lane.
 const LANE: f64 = 24.0;
 /// So many bytes the curves and the bands may take: a page stays below three million whatever the day.
-const CURVE_BYTES: usize = 1_100_000;
+const CURVE_BYTES: usize = 800_000;
 const BAND_BYTES: usize = 100_000;
-/// So many marks the lanes and the rules may have, each; a mark takes some hundred bytes, and a level's resets and lockouts are there twice.
+/// So many marks the lanes and the counts may have, each; a mark takes some hundred bytes, and a level's resets and lockouts are there twice.
 const MOST_MARKS: usize = 2_000;
 
 /// The pictures, and what they share.
@@ -27,7 +29,7 @@ pub struct Pictures {
     pub shared: String,
     /// The lanes.
     pub lanes: String,
-    /// The rules, each in a section of its own.
+    /// The rules, each in a section of its own with a picture for each of its counts.
     pub rules: String,
 }
 
@@ -36,21 +38,22 @@ pub fn draw(profile: &Profile, day: &Day, axis: &Axis) -> Pictures {
     let (_, shared) = within(BAND_BYTES, |coarse| all_bands(day, axis, coarse), String::len);
     let level_marks =
         |coarse: u32| -> Vec<Vec<Tally>> { day.lanes.iter().map(|lane| lane.marks.joined(axis.scale, 8 << coarse)).collect() };
-    let rule_marks = |coarse: u32| -> Vec<Vec<Tally>> { day.marks.iter().map(|marks| marks.joined(axis.scale, 8 << coarse)).collect() };
+    let count_marks = |coarse: u32| -> Vec<Vec<Tally>> { day.marks.iter().map(|marks| marks.joined(axis.scale, 8 << coarse)).collect() };
     let (_, lane_marks) = within(MOST_MARKS, level_marks, Vec::len);
-    let (_, own_marks) = within(MOST_MARKS, rule_marks, Vec::len);
-    let used: Vec<RuleFigures> = in_order(figures::rules(profile, day)).into_iter().filter(RuleFigures::is_used).collect();
+    let (_, own_marks) = within(MOST_MARKS, count_marks, Vec::len);
+    let used: Vec<CountFigures> = in_order(figures::limits(profile, day)).into_iter().filter(CountFigures::is_used).collect();
     let (halvings, plots) = within(CURVE_BYTES, |coarse| plots(&used, day, axis, coarse), |plot| plot.path.len());
-    let drawn = Drawn { profile, day, axis, lane_marks: &lane_marks };
-    let sections = used.iter().zip(&plots).map(|(figures, plot)| drawn.rule(figures, plot, &own_marks[figures.rule.number]));
+    let drawn = Drawn { profile, day, axis, lane_marks: &lane_marks, own_marks: &own_marks };
+    let each: Vec<(&CountFigures, &Plot)> = used.iter().zip(&plots).collect();
+    let sections = each.chunk_by(|(one, _), (next, _)| one.rule.number == next.rule.number).map(|counts| drawn.rule(counts));
     let buckets = (axis.count.div_ceil(1 << halvings), axis.scale.width << halvings);
     Pictures { buckets, shared: shared.concat() + &drawn.level_marks(), lanes: drawn.lanes(), rules: sections.collect() }
 }
 
-/// By number, as the profile has them.
-fn in_order(mut rules: Vec<RuleFigures>) -> Vec<RuleFigures> {
-    rules.sort_by_key(|figures| figures.rule.number);
-    rules
+/// By place, as the profile has them.
+fn in_order(mut limits: Vec<CountFigures>) -> Vec<CountFigures> {
+    limits.sort_by_key(|figures| figures.count.place);
+    limits
 }
 
 fn all_bands(day: &Day, axis: &Axis, coarse: u32) -> Vec<String> {
@@ -66,8 +69,8 @@ fn all_bands(day: &Day, axis: &Axis, coarse: u32) -> Vec<String> {
     .collect()
 }
 
-fn plots(used: &[RuleFigures], day: &Day, axis: &Axis, halvings: u32) -> Vec<Plot> {
-    let each = used.iter().filter_map(|figures| Some((figures.rule, day.curves.rules.get(figures.rule.number)?)));
+fn plots(used: &[CountFigures], day: &Day, axis: &Axis, halvings: u32) -> Vec<Plot> {
+    let each = used.iter().filter_map(|figures| Some((figures.rule, day.curves.counts.get(figures.count.place)?)));
     each.map(|(rule, curve)| {
         let coarser = (0..halvings).fold(None::<Curve>, |before, _| Some(before.as_ref().unwrap_or(curve).halved()));
         plot(rule, coarser.as_ref().unwrap_or(curve), axis.count.div_ceil(1 << halvings))
@@ -81,6 +84,7 @@ struct Drawn<'a> {
     day: &'a Day,
     axis: &'a Axis,
     lane_marks: &'a [Vec<Tally>],
+    own_marks: &'a [Vec<Tally>],
 }
 
 impl Drawn<'_> {
@@ -119,7 +123,7 @@ impl Drawn<'_> {
         [self.band(level, top + 3.0, LANE - 6.0), base, marks].concat()
     }
 
-    /// The resets and lockouts of each level, which all of its rules show.
+    /// The resets and lockouts of each level, which all of its counts show.
     fn level_marks(&self) -> String {
         let of_level = |(level, tallies): (usize, &Vec<Tally>)| {
             let shared: Vec<Tally> = tallies.iter().copied().filter(|tally| matches!(tally.kind, Kind::Reset | Kind::Lockout)).collect();
@@ -137,34 +141,48 @@ impl Drawn<'_> {
         format!("<use href=\"#band{level}\" y=\"{top}\" width=\"100%\" height=\"{height}\"/>")
     }
 
-    /// A rule's use over time against its limit.
-    fn rule(&self, figures: &RuleFigures, plot: &Plot, own: &[Tally]) -> String {
-        let rule = figures.rule;
+    /// A rule with the pictures of its counts that were used, one or up to four.
+    fn rule(&self, counts: &[(&CountFigures, &Plot)]) -> String {
+        let Some((CountFigures { rule, .. }, _)) = counts.first() else { return String::new() };
+        let pictures: String = counts.iter().map(|(figures, plot)| self.count(figures, plot)).collect();
+        let is_drawn = |count: &&Count| counts.iter().any(|(figures, _)| figures.count.place == count.place);
+        let idle: Vec<&str> =
+            Count::all_of(rule).iter().filter(|count| !is_drawn(count)).filter_map(Count::unit).map(words::unit).collect();
+        let idle = if idle.is_empty() { String::new() } else { format!("<p>Not used: {}.</p>", idle.join(", ")) };
         let words = escaped(&self.profile.rule_words(rule));
-        let summary = summary(figures);
+        format!("<section class=\"rule\" id=\"rule{}\"><h3>{words}</h3>{pictures}{idle}</section>", rule.number)
+    }
+
+    /// The use of a rule's limit over time, by one of its counts.
+    fn count(&self, figures: &CountFigures, plot: &Plot) -> String {
+        let CountFigures { rule, count, .. } = figures;
+        let head = match count.unit().filter(|_| count.is_one_of_four) {
+            Some(unit) => format!(" id=\"{}\"><h4>{}</h4>", count.id(), words::unit(unit)),
+            None => ">".to_string(),
+        };
+        let words = escaped(&self.profile.count_words(count.place));
         let money = if rule.measure == Measure::Notional { " data-money" } else { "" };
         let share = (BOTTOM - TOP) * 0.03;
         format!(
-            "<section class=\"rule\" id=\"rule{number}\"><h3>{words}</h3><p>{summary}</p><div class=\"chart\"><div class=\"g\" aria-hidden=\"true\">\
-             <i>limit</i><i>80%</i><i>50%</i><i>0</i></div><svg class=\"plot\" height=\"{HEIGHT}\" role=\"img\" tabindex=\"0\" aria-label=\"Use of {words}. \
-             {summary}\" data-limit=\"{}\" data-unit=\"{}\"{money}><use href=\"#ticks\"/>{}<svg class=\"curve\" y=\"{:.2}\" width=\"100%\" height=\"{:.2}\" \
-             viewBox=\"{}\" preserveAspectRatio=\"none\"><path class=\"use\" d=\"{}\"/></svg><use href=\"#levels\"/><use href=\"#level{}\"/>{}</svg></div></section>",
+            "<div class=\"count\"{head}<p>{}</p><div class=\"chart\"><svg class=\"plot\" height=\"{HEIGHT}\" role=\"img\" tabindex=\"0\" \
+             aria-label=\"Use of {words}\" data-limit=\"{}\" data-unit=\"{}\"{money}><use href=\"#ticks\"/>{}<svg class=\"curve\" y=\"{:.2}\" width=\"100%\" height=\"{:.2}\" \
+             viewBox=\"{}\" preserveAspectRatio=\"none\"><path class=\"use\" d=\"{}\"/></svg><use href=\"#levels\"/><use href=\"#level{}\"/>{}</svg></div></div>",
+            summary(figures),
             rule.limit,
             plot.unit,
-            self.band(level_of(rule.scope), TOP, BOTTOM - TOP),
+            self.band(count.level(), TOP, BOTTOM - TOP),
             TOP - share,
             (BOTTOM - TOP) * 1.06,
             plot.view,
             plot.path,
-            level_of(rule.scope),
-            marks(self.axis, own, |kind| if kind == Kind::Cut { 8.0 } else { TOP }),
-            number = rule.number,
+            count.level(),
+            marks(self.axis, &self.own_marks[count.place], |kind| if kind == Kind::Cut { 8.0 } else { TOP }),
         )
     }
 }
 
-/// The rule's day in a sentence.
-fn summary(figures: &RuleFigures) -> String {
+/// The count's day in a sentence.
+fn summary(figures: &CountFigures) -> String {
     let mut text = match figures.most_at {
         None => "Nothing used.".to_string(),
         Some(ms) => {

@@ -1,4 +1,4 @@
-//! A rule's use over time as a path. The path's own numbers are the amounts, so that what is drawn is also what the page's script reads out.
+//! The use of a limit over time as a path. The path's own numbers are the amounts, so that what is drawn is also what the page's script reads out.
 
 use crate::profile::Rule;
 use crate::scale::Curve;

@@ -1,9 +1,9 @@
-//! What the desk knows of a profile that the library has accepted: each line's rule, and the roots' names.
+//! What the desk knows of a profile that the library has accepted: each line's rule with what it counts, and the roots' names.
 //!
 //! Whether a profile is good, the library alone decides. This reading is of accepted text and never fails: a field that is
 //! missing reads as empty.
 
-use crate::standing::level_of;
+use crate::counts::Count;
 use crate::words::{self, Amount};
 use mbrumzheg::{Offer, UnitOfRoot};
 
@@ -23,10 +23,22 @@ pub enum Measure {
 pub enum Scope {
     /// Every fill of the firm.
     Firm,
-    /// All four units of a root together.
+    /// Each of the four units of a root, counted for itself.
     Root(usize),
     /// One unit of a root.
     Unit(usize, UnitOfRoot),
+}
+
+impl Scope {
+    /// Whether an offer is among these fills.
+    pub fn covers(self, offer: &Offer) -> bool {
+        let root = offer.root.number();
+        match self {
+            Scope::Firm => true,
+            Scope::Root(own) => own as u64 == root,
+            Scope::Unit(own, unit) => own as u64 == root && unit == offer.unit,
+        }
+    }
 }
 
 /// A rule, as its line has it.
@@ -44,6 +56,8 @@ pub struct Rule {
     pub window: Option<u64>,
     /// What it covers.
     pub scope: Scope,
+    /// The place of its first count among all counts.
+    pub first: usize,
 }
 
 /// A profile that was accepted.
@@ -57,6 +71,8 @@ pub struct Profile {
     pub roots: Vec<String>,
     /// The rules, by line.
     pub rules: Vec<Rule>,
+    /// What they count, rule after rule.
+    pub counts: Vec<Count>,
 }
 
 impl Profile {
@@ -80,8 +96,9 @@ impl Profile {
             (root, "", _) => Scope::Root(self.root_number(root)),
             (root, call_put, month) => Scope::Unit(self.root_number(root), unit_of(call_put, month)),
         };
-        let number = self.rules.len();
-        self.rules.push(rule_of(number, field(1), field(3), field(4), scope));
+        let rule = Rule { number: self.rules.len(), scope, first: self.counts.len(), ..rule_of(field(1), field(3), field(4)) };
+        self.counts.extend(Count::all_of(&rule));
+        self.rules.push(rule);
     }
 
     /// The number of a root's name, which is new if no line before had it.
@@ -98,40 +115,25 @@ impl Profile {
         known.cloned().unwrap_or_else(|| format!("root number {number}"))
     }
 
-    /// The rules that cover an offer.
-    pub fn covering<'a>(&'a self, offer: &'a Offer) -> impl Iterator<Item = &'a Rule> {
-        self.rules.iter().filter(|rule| rule.covers(offer))
-    }
-
-    /// The rules of a level: 0 is the firm, and a root's is one more than its own number.
-    pub fn rules_of(&self, level: usize) -> impl Iterator<Item = &Rule> {
-        self.rules.iter().filter(move |rule| level_of(rule.scope) == level)
-    }
-
     /// What a rule covers, in words.
     pub fn scope_words(&self, scope: Scope) -> String {
         match scope {
             Scope::Firm => format!("firm {}", self.firm),
-            Scope::Root(root) => self.root_name(root as u64),
+            Scope::Root(root) => format!("each unit of {}", self.root_name(root as u64)),
             Scope::Unit(root, unit) => format!("{} {}", self.root_name(root as u64), words::unit(unit)),
         }
     }
 
     /// A rule in words: number, type, limit, what it covers.
     pub fn rule_words(&self, rule: &Rule) -> String {
-        format!("rule {} {} {} of {}", rule.number, rule.kind, rule.limit_words(), self.scope_words(rule.scope))
+        format!("{} of {}", rule.words(), self.scope_words(rule.scope))
     }
 }
 
 impl Rule {
-    /// Whether an offer counts for it.
-    pub fn covers(&self, offer: &Offer) -> bool {
-        let root = offer.root.number();
-        match self.scope {
-            Scope::Firm => true,
-            Scope::Root(own) => own as u64 == root,
-            Scope::Unit(own, unit) => own as u64 == root && unit == offer.unit,
-        }
+    /// Number, type and limit in words.
+    pub fn words(&self) -> String {
+        format!("rule {} {} {}", self.number, self.kind, self.limit_words())
     }
 
     /// The limit in words, with the window of a rate rule.
@@ -172,7 +174,8 @@ impl Rule {
     }
 }
 
-fn rule_of(number: usize, kind: &str, limit: &str, window: &str, scope: Scope) -> Rule {
+/// A rule of the firm by the fields for its type, its limit and its time limit.
+fn rule_of(kind: &str, limit: &str, window: &str) -> Rule {
     let measure = match kind.rsplit('_').next() {
         Some("ntnl") => Measure::Notional,
         Some("vol") => Measure::Volume,
@@ -180,13 +183,14 @@ fn rule_of(number: usize, kind: &str, limit: &str, window: &str, scope: Scope) -
     };
     let limit = limit.parse::<u64>().unwrap_or(0);
     Rule {
-        number,
+        number: 0,
         kind: kind.to_string(),
         measure,
         // limits are in whole dollars, Remaining in ten-thousandths
         limit: if measure == Measure::Notional { limit.saturating_mul(10_000) } else { limit },
         window: kind.starts_with("rate_").then(|| window.parse::<u64>().unwrap_or(0).max(100)),
-        scope,
+        scope: Scope::Firm,
+        first: 0,
     }
 }
 

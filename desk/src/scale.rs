@@ -1,4 +1,4 @@
-//! A day's time in buckets of equal width, few enough to draw one a pixel, and what a rule has used in each.
+//! A day's time in buckets of equal width, few enough to draw one a pixel, and what a count has used in each.
 
 use crate::ledger::Watch;
 
@@ -63,7 +63,7 @@ pub struct Cell {
     pub last: u64,
 }
 
-/// The use of a rule over time.
+/// The use of a limit over time, by one count.
 #[derive(Clone, Debug, Default, PartialEq, Eq)]
 pub struct Curve {
     /// What was used before the first bucket.
@@ -111,20 +111,20 @@ impl Curve {
     }
 }
 
-/// The curves of all rules, over a day whose length is not known before its end, or over a stretch of it.
+/// The curves of all counts, over a day whose length is not known before its end, or over a stretch of it.
 pub struct Curves {
     /// The buckets; none before the first event.
     pub scale: Option<Scale>,
-    /// By rule.
-    pub rules: Vec<Curve>,
+    /// By count.
+    pub counts: Vec<Curve>,
     /// The first and last time that is drawn, in milliseconds.
     stretch: Option<(u64, u64)>,
 }
 
 impl Curves {
     /// Nothing used yet.
-    pub fn new(rules: usize, stretch: Option<(u64, u64)>) -> Curves {
-        Curves { scale: stretch.map(|(from, to)| Scale::over(from, to)), rules: vec![Curve::default(); rules], stretch }
+    pub fn new(counts: usize, stretch: Option<(u64, u64)>) -> Curves {
+        Curves { scale: stretch.map(|(from, to)| Scale::over(from, to)), counts: vec![Curve::default(); counts], stretch }
     }
 
     /// Sees to it that a time has a bucket: the first time begins them, and a late one makes them all twice as wide.
@@ -132,7 +132,7 @@ impl Curves {
         let mut scale = self.scale.unwrap_or(Scale::from(ms));
         while !scale.reaches(ms) && self.stretch.is_none() {
             scale.width *= 2;
-            self.rules.iter_mut().for_each(|curve| *curve = curve.halved());
+            self.counts.iter_mut().for_each(|curve| *curve = curve.halved());
         }
         self.scale = Some(scale);
         scale
@@ -145,10 +145,10 @@ impl Curves {
 }
 
 impl Watch for Curves {
-    fn used(&mut self, rule: usize, ms: u64, used: u64) {
+    fn used(&mut self, count: usize, ms: u64, used: u64) {
         let scale = self.reach(ms);
         let stretch = self.stretch;
-        let Some(curve) = self.rules.get_mut(rule) else { return };
+        let Some(curve) = self.counts.get_mut(count) else { return };
         match stretch {
             Some((from, _)) if ms < from => {
                 curve.start = used;

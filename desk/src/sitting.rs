@@ -1,5 +1,6 @@
 //! An armed unit with the profile that it was armed from and the day that it was passed.
 
+use crate::counts::Count;
 use crate::ledger::{Ledger, Watch};
 use crate::profile::{Profile, Rule};
 use crate::spool::{event_of, Spool};
@@ -23,7 +24,7 @@ pub struct Sitting {
     pub unsaved: usize,
     /// Where profile and records come from.
     pub sources: Sources,
-    /// Which levels are locked, and which rules have tripped.
+    /// Which levels are locked, and which counts have tripped.
     pub standing: Standing,
     ledger: Ledger,
 }
@@ -39,7 +40,7 @@ pub struct Sources {
     pub typed: usize,
 }
 
-/// An event with its answer, and the rules that stood behind a cut.
+/// An event with its answer, and the counts that stood behind a cut.
 pub struct Passed {
     /// Its place, from 1.
     pub place: usize,
@@ -47,9 +48,9 @@ pub struct Passed {
     pub event: Option<Event>,
     /// What the library answered.
     pub answer: Result<Answer, Refusal>,
-    /// Numbers of the rules whose allowance was the grant of a cut offer.
+    /// Places of the counts whose allowance was the grant of a cut offer.
     pub cut_by: Vec<usize>,
-    /// Numbers of the absolute rules whose total is now their limit.
+    /// Places of the absolute rules' counts whose total is now the limit.
     pub reached: Vec<usize>,
     /// Whether any rule covers the offer.
     pub covered: bool,
@@ -84,7 +85,7 @@ impl Sitting {
         self.answer_record(record, &mut ())
     }
 
-    /// Passes a record without keeping it, and tells what the rules have used.
+    /// Passes a record without keeping it, and tells what the counts have used.
     pub fn answer_record(&mut self, record: &[u8], watch: &mut dyn Watch) -> Passed {
         self.place += 1;
         let event = event_of(record);
@@ -98,7 +99,7 @@ impl Sitting {
         passed
     }
 
-    /// Follows an event that was not refused: what rules have used, which of them cut and tripped, which levels are locked.
+    /// Follows an event that was not refused: what the counts have used, which of them cut and tripped, which levels are locked.
     fn reckon(&mut self, event: &Event, answer: &Answer, passed: &mut Passed, watch: &mut dyn Watch) {
         let ms = event.time().ms();
         match event {
@@ -106,8 +107,7 @@ impl Sitting {
             Event::Offer(offer) => self.standing.reject(rejecting(answer, offer.root), Some(offer.contracts.count())),
             Event::Order { root, reset, .. } => {
                 for level in reset_levels(*root, *reset) {
-                    let rules: Vec<usize> = self.profile.rules_of(level).map(|rule| rule.number).collect();
-                    rules.iter().for_each(|rule| self.ledger.forget(*rule, ms, watch));
+                    self.profile.counts_of(level).for_each(|count| self.ledger.forget(count.place, ms, watch));
                     self.stand(level, ms, &[], passed);
                 }
                 if !answer.verdict.passes() {
@@ -121,16 +121,16 @@ impl Sitting {
 
     fn fill(&mut self, offer: &Offer, answer: &Answer, passed: &mut Passed, watch: &mut dyn Watch) {
         let (grant, ms) = (answer.grant, offer.time.ms());
-        for rule in self.profile.rules.iter().filter(|rule| rule.covers(offer)) {
-            let left = self.ledger.left(rule);
+        for (rule, count) in self.profile.covering(offer) {
+            let left = self.ledger.left(rule, count.place);
             passed.covered = true;
             if answer.cuts(offer.contracts) && rule.allowance(offer, left) == grant {
-                passed.cut_by.push(rule.number);
+                passed.cut_by.push(count.place);
             }
             if rule.window.is_none() && rule.adds(offer, grant) == left {
-                passed.reached.push(rule.number);
+                passed.reached.push(count.place);
             }
-            self.ledger.add(rule, ms, rule.adds(offer, grant), watch);
+            self.ledger.add(rule, count.place, ms, rule.adds(offer, grant), watch);
         }
         let tripping: Vec<usize> = passed.tripping().collect();
         for (level, tripped) in [(level(offer.root, false), answer.root_trip), (0, answer.firm_trip)] {
@@ -141,9 +141,9 @@ impl Sitting {
     }
 
     /// Notes how the library says that a level stands.
-    fn stand(&mut self, level: usize, ms: u64, rules: &[usize], passed: &mut Passed) {
+    fn stand(&mut self, level: usize, ms: u64, tripping: &[usize], passed: &mut Passed) {
         let marks = self.marks(level);
-        passed.ended.extend(self.standing.take(&self.profile, level, ms, marks, rules));
+        passed.ended.extend(self.standing.take(&self.profile, level, ms, marks, tripping));
     }
 
     /// The library's marks of a level.
@@ -154,30 +154,30 @@ impl Sitting {
         }
     }
 
-    /// Tells what the rules have used as fills leave their windows up to a time after the clock; nothing may be passed after this.
+    /// Tells what the counts have used as fills leave their windows up to a time after the clock; nothing may be passed after this.
     pub fn run_out(&mut self, ms: u64, watch: &mut dyn Watch) {
         self.ledger.advance(ms, watch);
     }
 
-    /// What the desk reckons to be left of a rule at the clock.
-    pub fn reckoned(&self, rule: &Rule) -> u64 {
-        self.ledger.left(rule)
+    /// What the desk reckons to be left of a rule at the clock, in one of its counts.
+    pub fn reckoned(&self, rule: &Rule, count: &Count) -> u64 {
+        self.ledger.left(rule, count.place)
     }
 
-    /// The rules of which the desk reckons another amount left at the clock than the library answers.
+    /// The places of the counts in which the desk reckons another amount left at the clock than the library answers.
     pub fn differences(&self) -> Vec<usize> {
-        let differs = |rule: &&Rule| self.left(self.unit.clock(), rule.number) != Some(self.reckoned(rule));
-        self.profile.rules.iter().filter(differs).map(|rule| rule.number).collect()
+        let differs = |(rule, count): &(&Rule, &Count)| self.left(self.unit.clock(), count) != Ok(self.reckoned(rule, count));
+        self.profile.each_count().filter(differs).map(|(_, count)| count.place).collect()
     }
 
-    /// What is left of a rule at a time; nothing for a time that the library refuses.
-    pub fn left(&self, time: Time, rule: usize) -> Option<u64> {
-        self.unit.remaining(time, rule as u64).ok()
+    /// What is left of a rule at a time, in one of its counts.
+    pub fn left(&self, time: Time, count: &Count) -> Result<u64, Refusal> {
+        self.unit.remaining(time, count.rule as u64, count.asked_unit())
     }
 
     /// The least allowance, by the library's own numbers, of the rules that cover an offer: what it should grant.
     pub fn least_allowance(&self, offer: &Offer) -> u64 {
-        let allowed = |rule: &Rule| Some(rule.allowance(offer, self.left(offer.time, rule.number)?));
+        let allowed = |(rule, count): (&Rule, &Count)| Some(rule.allowance(offer, self.left(offer.time, count).ok()?));
         self.profile.covering(offer).filter_map(allowed).min().unwrap_or(offer.contracts.count())
     }
 }
@@ -188,9 +188,9 @@ fn rejecting(answer: &Answer, root: Root) -> usize {
 }
 
 impl Passed {
-    /// The rules that tripped.
+    /// The places of the counts that tripped.
     pub fn tripping(&self) -> impl Iterator<Item = usize> + '_ {
-        self.cut_by.iter().chain(self.reached.iter().filter(|rule| !self.cut_by.contains(rule))).copied()
+        self.cut_by.iter().chain(self.reached.iter().filter(|count| !self.cut_by.contains(count))).copied()
     }
 
     /// Whether a person who watches a replay should see it: anything but a plain pass.

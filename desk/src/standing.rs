@@ -1,5 +1,6 @@
-//! How the levels stand: which are locked, since when and by what, and which rules have tripped.
+//! How the levels stand: which are locked, since when and by what, and which counts have tripped.
 
+use crate::counts::Count;
 use crate::profile::{Profile, Scope};
 use crate::words;
 use mbrumzheg::{Marks, Reset, Root, Time};
@@ -46,7 +47,7 @@ pub struct Lock {
     pub level: usize,
     /// Since when, in milliseconds.
     pub since: u64,
-    /// The rules whose trip is a cause, and when they tripped.
+    /// The places of the counts whose trip is a cause, and when they tripped.
     pub tripped: Option<(u64, Vec<usize>)>,
     /// When a user's lockout became a cause.
     pub by_hand: Option<u64>,
@@ -55,14 +56,14 @@ pub struct Lock {
 }
 
 impl Lock {
-    /// What locked the level, its rules by all their words.
+    /// What locked the level, its rules by all their words and with the unit that tripped.
     pub fn cause(&self, profile: &Profile) -> String {
-        self.cause_by(|number| profile.rules.get(number).map(|rule| profile.rule_words(rule)).unwrap_or_default())
+        self.cause_by(|count| profile.count_words(count))
     }
 
-    /// What locked the level, its rules by their numbers.
-    pub fn short_cause(&self) -> String {
-        self.cause_by(|number| format!("rule {number}"))
+    /// What locked the level, its rules by their numbers, with the unit that tripped where there are four.
+    pub fn short_cause(&self, profile: &Profile) -> String {
+        self.cause_by(|place| profile.counts.get(place).map(Count::short_words).unwrap_or_default())
     }
 
     /// A cause that came later than the lock is said with its time.
@@ -71,8 +72,8 @@ impl Lock {
             Ok(time) if ms > self.since => format!(" at {}", words::time(time)),
             _ => String::new(),
         };
-        let trip = self.tripped.as_ref().map(|(at, rules)| {
-            let names: Vec<String> = rules.iter().map(|number| name(*number)).collect();
+        let trip = self.tripped.as_ref().map(|(at, counts)| {
+            let names: Vec<String> = counts.iter().map(|place| name(*place)).collect();
             format!("{} tripped{}", names.join(" and "), later(*at))
         });
         let hand = self.by_hand.map(|at| format!("locked by hand{}", later(at)));
@@ -80,7 +81,7 @@ impl Lock {
     }
 }
 
-/// The levels' locks and the rules' trips.
+/// The levels' locks and the counts' trips.
 pub struct Standing {
     locks: Vec<Option<Lock>>,
     tripped: Vec<Option<u64>>,
@@ -89,7 +90,7 @@ pub struct Standing {
 impl Standing {
     /// Everything free.
     pub fn of(profile: &Profile) -> Standing {
-        Standing { locks: vec![None; profile.roots.len() + 1], tripped: vec![None; profile.rules.len()] }
+        Standing { locks: vec![None; profile.roots.len() + 1], tripped: vec![None; profile.counts.len()] }
     }
 
     /// The lock of a level, if it is locked.
@@ -97,9 +98,9 @@ impl Standing {
         self.locks.get(level)?.as_ref()
     }
 
-    /// When a rule tripped, if its level is still locked for it.
-    pub fn tripped(&self, rule: usize) -> Option<u64> {
-        self.tripped.get(rule).copied().flatten()
+    /// When the count at a place tripped, if its level is still locked for it.
+    pub fn tripped(&self, count: usize) -> Option<u64> {
+        self.tripped.get(count).copied().flatten()
     }
 
     /// All locks that hold.
@@ -107,18 +108,17 @@ impl Standing {
         self.locks.iter().flatten()
     }
 
-    /// Takes what the library says of a level's marks at a time, and the rules that tripped it then; answers the lock that has ended.
-    pub fn take(&mut self, profile: &Profile, level: usize, ms: u64, marks: Marks, rules: &[usize]) -> Option<Lock> {
-        for number in rules {
-            if let Some(tripped) = self.tripped.get_mut(*number) {
+    /// Takes what the library says of a level's marks at a time, and the places of the counts that tripped then; answers the lock that has ended.
+    pub fn take(&mut self, profile: &Profile, level: usize, ms: u64, marks: Marks, tripping: &[usize]) -> Option<Lock> {
+        for place in tripping {
+            if let Some(tripped) = self.tripped.get_mut(*place) {
                 *tripped = Some(ms);
             }
         }
-        let of_level = |number: usize| profile.rules.get(number).is_some_and(|rule| level_of(rule.scope) == level);
         if !marks.tripped {
-            let rules = self.tripped.iter_mut().enumerate().filter(|(number, _)| of_level(*number));
-            rules.for_each(|(_, tripped)| *tripped = None);
+            profile.counts_of(level).for_each(|count| self.tripped[count.place] = None);
         }
+        let of_level = |place: &usize| profile.counts.get(*place).is_some_and(|count| count.level() == level);
         let place = self.locks.get_mut(level)?;
         if !marks.locked() {
             return place.take();
@@ -127,7 +127,7 @@ impl Standing {
         lock.tripped = match (marks.tripped, lock.tripped.take()) {
             (false, _) => None,
             (true, Some(before)) => Some(before),
-            (true, None) => Some((ms, rules.iter().copied().filter(|number| of_level(*number)).collect())),
+            (true, None) => Some((ms, tripping.iter().copied().filter(of_level).collect())),
         };
         lock.by_hand = marks.locked_by_user.then(|| lock.by_hand.unwrap_or(ms));
         None

@@ -1,22 +1,22 @@
-//! The table of rules: limit, used, left and a bar; and how roots and firm stand.
+//! The table of limits: each rule and unit with what is used and left and a bar; and how roots and firm stand.
 
 use crate::answer::why_locked;
-use crate::asked::{listed, Shown};
+use crate::asked::listed;
 use crate::columns::{self, Row};
-use crate::profile::Rule;
+use crate::profile::Scope;
+use crate::shown::Shown;
 use crate::sitting::Sitting;
 use crate::standing::{level_name, Lock};
 use crate::words;
-use mbrumzheg::{Marks, Refusal, Time};
+use mbrumzheg::{Marks, Refusal, Time, UnitOfRoot};
 
 pub use crate::columns::share;
 
-/// The rules with what is used and left at a time, and below them what of it is locked.
-pub fn rules(sitting: &Sitting, time: Time, shown: Shown) -> Result<String, Refusal> {
-    let mut rows = Vec::new();
-    for rule in sitting.profile.rules.iter().filter(|rule| shown.has(rule)) {
-        rows.push(row(sitting, rule, sitting.unit.remaining(time, rule.number as u64)?));
-    }
+/// The limits with what is used and left at a time, a row for each rule and unit, and below them what of it is locked; a refusal says what to type.
+pub fn rules(sitting: &Sitting, time: Time, shown: Shown) -> Result<String, String> {
+    let asked = shown.asked(&sitting.profile);
+    let rows: Result<Vec<Row>, Refusal> = asked.into_iter().map(|(rule, unit)| row(sitting, time, rule, unit)).collect();
+    let rows = rows.map_err(|refusal| format!("{refusal}{}", advice(sitting, refusal, shown)))?;
     if rows.is_empty() {
         return Ok("no rule of the profile is for that".to_string());
     }
@@ -25,31 +25,48 @@ pub fn rules(sitting: &Sitting, time: Time, shown: Shown) -> Result<String, Refu
     Ok(lines.join("\n"))
 }
 
-fn row(sitting: &Sitting, rule: &Rule, left: u64) -> Row {
+/// What the library says of a rule and a unit.
+fn row(sitting: &Sitting, time: Time, rule: u64, unit: UnitOfRoot) -> Result<Row, Refusal> {
+    let left = sitting.unit.remaining(time, rule, unit)?;
+    let known = sitting.profile.rules.get(rule as usize);
+    let (rule, count) = known.and_then(|rule| sitting.profile.count(rule.place_of(unit))).ok_or(Refusal::Unknown)?;
     let used = rule.limit.saturating_sub(left);
     let cells = [
         rule.number.to_string(),
         rule.kind.clone(),
-        sitting.profile.scope_words(rule.scope),
+        sitting.profile.scope_words(count.of),
         rule.limit_words(),
         rule.amount(used).to_string(),
         rule.amount(left).to_string(),
         format!("[{left}]"),
     ];
-    Row { cells, used: (used, rule.limit) }
+    Ok(Row { cells, used: (used, rule.limit) })
+}
+
+/// What to type after a refusal.
+fn advice(sitting: &Sitting, refusal: Refusal, shown: Shown) -> String {
+    let profile = &sitting.profile;
+    match (refusal, shown) {
+        (Refusal::BadTime, _) => format!("; type remaining, or a time from {} on", words::time(sitting.unit.clock())),
+        (Refusal::Unknown, Shown::Rule(number, _)) => match profile.rules.get(number as usize) {
+            Some(rule) => {
+                let units = if rule.scope == Scope::Firm { ", all units together" } else { " alone" };
+                format!("; rule {number} is of {}{units}: type remaining rule {number}", profile.scope_words(rule.scope))
+            }
+            None => format!("; the rules are numbered 0 to {}", profile.rules.len() - 1),
+        },
+        _ => String::new(),
+    }
 }
 
 /// A line for each level among those shown that is locked: since when, and what locked it.
 fn locks(sitting: &Sitting, shown: Shown) -> Vec<String> {
-    let is_shown = |lock: &&Lock| match shown {
-        Shown::All => true,
-        Shown::Firm => lock.level == 0,
-        Shown::Root(root) => lock.level == root + 1,
-    };
+    let level = shown.level(&sitting.profile);
     let words = |lock: &Lock| {
         let since = Time::from_ms(lock.since).map(words::time).unwrap_or_default();
-        format!("{} is locked since {since}: {}", level_name(&sitting.profile, lock.level), lock.short_cause())
+        format!("{} is locked since {since}: {}", level_name(&sitting.profile, lock.level), lock.short_cause(&sitting.profile))
     };
+    let is_shown = |lock: &&Lock| level.is_none_or(|level| lock.level == level);
     sitting.standing.locks().filter(is_shown).flat_map(|lock| wrapped(&words(lock))).collect()
 }
 

@@ -1,10 +1,10 @@
-//! The tables of a page: the rules by the greatest share of their limit, the locks with what was rejected for each, and what did not simply pass.
+//! The tables of a page: the limits by their greatest share, the locks with what was rejected for each, and what did not simply pass.
 
 use crate::chart::escaped;
 use crate::day::Day;
 use crate::entries::{Entry, Group};
 use crate::export;
-use crate::figures::{face, RuleFigures};
+use crate::figures::{face, CountFigures};
 use crate::profile::Profile;
 use crate::standing::level_name;
 use crate::words::grouped;
@@ -21,10 +21,10 @@ fn table(id: &str, heads: &[(&str, &str)], rows: impl Iterator<Item = Vec<String
     format!("<div class=\"scroll\"><table id=\"{id}\"><thead><tr>{head}</tr></thead><tbody>{body}</tbody></table></div>")
 }
 
-/// The rules, the greatest share of its limit first, each with a link to its picture.
-pub fn overview(profile: &Profile, rules: &[RuleFigures]) -> String {
+/// The limits by count, the greatest share first, each with a link to its picture.
+pub fn overview(profile: &Profile, limits: &[CountFigures]) -> String {
     let heads = [
-        ("Rule, the greatest share of its limit first", ""),
+        ("Rule and unit, the greatest share of the limit first", ""),
         ("Most used", ""),
         ("Share", "n"),
         ("Amount", "n more"),
@@ -33,12 +33,12 @@ pub fn overview(profile: &Profile, rules: &[RuleFigures]) -> String {
         ("Cuts", "n"),
         ("Trips", "n"),
     ];
-    table("rules", &heads, rules.iter().map(|figures| overview_row(profile, figures)))
+    table("rules", &heads, limits.iter().map(|figures| overview_row(profile, figures)))
 }
 
-fn overview_row(profile: &Profile, figures: &RuleFigures) -> Vec<String> {
+fn overview_row(profile: &Profile, figures: &CountFigures) -> Vec<String> {
     let rule = figures.rule;
-    let words = escaped(&profile.rule_words(rule));
+    let words = escaped(&profile.count_words(figures.count.place));
     let class = match figures.share() {
         1_000.. => "full",
         800.. => "high",
@@ -47,7 +47,7 @@ fn overview_row(profile: &Profile, figures: &RuleFigures) -> Vec<String> {
         _ => "none",
     };
     vec![
-        if figures.is_used() { format!("<a href=\"#rule{}\">{words}</a>", rule.number) } else { words },
+        if figures.is_used() { format!("<a href=\"#{}\">{words}</a>", figures.count.id()) } else { words },
         format!("<span class=\"bar {class}\"><i style=\"width:{}%\"></i></span>", figures.percent()),
         figures.share_words(),
         rule.amount(figures.most).to_string(),

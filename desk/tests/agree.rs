@@ -7,9 +7,11 @@ use days::{day, sitting};
 use desk::answer;
 use desk::asked::Names;
 use desk::command::{self, Command};
+use desk::counts::Count;
 use desk::profile::{Profile, Rule, Scope};
+use desk::sitting::Sitting;
 use desk::spool::RecordReader;
-use mbrumzheg::{Event, Offer, Reset, Time, Verdict};
+use mbrumzheg::{Event, Offer, Refusal, Reset, Time, UnitOfRoot, Verdict};
 
 #[test]
 fn the_reading_of_an_accepted_profile_is_the_librarys() {
@@ -20,8 +22,15 @@ fn the_reading_of_an_accepted_profile_is_the_librarys() {
         assert_eq!(sitting.unit.rule_count(), sitting.profile.rules.len() as u64);
         let names: Vec<String> = sitting.unit.roots().map(|(_, name)| name.to_string()).collect();
         assert_eq!(names, sitting.profile.roots, "{text}");
-        for rule in &sitting.profile.rules {
-            assert_eq!(sitting.unit.remaining(Time::START, rule.number as u64), Ok(rule.limit), "{text}");
+        for (rule, count) in sitting.profile.each_count() {
+            assert_eq!(sitting.left(Time::START, count), Ok(rule.limit), "{text}");
+        }
+        // the library has just the counts that the desk knows, and refuses every other rule and unit
+        let rules = sitting.profile.rules.len() as u64;
+        let known: Vec<(u64, UnitOfRoot)> = sitting.profile.counts.iter().map(|count| (count.rule as u64, count.asked_unit())).collect();
+        for (rule, unit) in (0..=rules).flat_map(|rule| UnitOfRoot::ALL.map(|unit| (rule, unit))) {
+            let wanted = if known.contains(&(rule, unit)) { None } else { Some(Refusal::Unknown) };
+            assert_eq!(sitting.unit.remaining(Time::START, rule, unit).err(), wanted, "rule {rule}, {unit}\n{text}");
         }
     }
 }
@@ -49,9 +58,10 @@ fn the_rules_that_cut_are_those_that_the_grant_shows() {
             assert_eq!(answer.grant, least);
             assert_eq!(passed.is_cut(), !passed.cut_by.is_empty());
             let tripped: Vec<usize> = passed.cut_by.iter().chain(&passed.reached).copied().collect();
-            let of_firm = |number: &usize| sitting.profile.rules[*number].scope == Scope::Firm;
+            let of_firm = |place: &usize| sitting.profile.counts[*place].of == Scope::Firm;
             assert_eq!(answer.firm_trip, tripped.iter().any(of_firm));
-            assert_eq!(answer.root_trip, tripped.iter().any(|number| !of_firm(number)));
+            assert_eq!(answer.root_trip, tripped.iter().any(|place| !of_firm(place)));
+            assert!(tripped.iter().all(|place| sitting.profile.counts[*place].of.covers(&offer)), "a trip names the offer's own unit");
             assert_eq!(passed.covered, sitting.profile.covering(&offer).next().is_some());
             cuts += passed.cut_by.len();
             reached += passed.reached.len();
@@ -112,16 +122,12 @@ struct Fill {
     counts: [bool; 2],
 }
 
-/// What a rule has used at a time, by the scope paper's words and from the grants alone.
-fn used(rule: &Rule, fills: &[Fill], ms: u64) -> u64 {
+/// What a count has used at a time, by the scope paper's words and from the grants alone.
+fn used(rule: &Rule, count: &Count, fills: &[Fill], ms: u64) -> u64 {
     let level = usize::from(rule.scope == Scope::Firm);
     let inside = |fill: &&Fill| rule.window.is_none_or(|window| fill.offer.time.ms() + window > ms);
-    fills
-        .iter()
-        .filter(|fill| fill.counts[level] && rule.covers(&fill.offer))
-        .filter(inside)
-        .map(|fill| rule.adds(&fill.offer, fill.granted))
-        .sum()
+    let covered = |fill: &&Fill| rule.scope.covers(&fill.offer) && count.unit().is_none_or(|unit| unit == fill.offer.unit);
+    fills.iter().filter(|fill| fill.counts[level]).filter(covered).filter(inside).map(|fill| rule.adds(&fill.offer, fill.granted)).sum()
 }
 
 #[test]
@@ -131,7 +137,10 @@ fn the_page_draws_the_use_that_the_grants_make() {
         let text = profile(&mut dice);
         let mut sitting = sitting(&text);
         let mut fills: Vec<Fill> = Vec::new();
-        // what each rule had used just after each moment of the day
+        let all_used = |sitting: &Sitting, fills: &[Fill], ms: u64| -> Vec<u64> {
+            sitting.profile.each_count().map(|(rule, count)| used(rule, count, fills, ms)).collect()
+        };
+        // what each count had used just after each moment of the day
         let mut seen: Vec<(u64, Vec<u64>)> = Vec::new();
         for _ in 0..50 {
             let before = sitting.unit.clock().ms();
@@ -141,7 +150,7 @@ fn the_page_draws_the_use_that_the_grants_make() {
             let now = next.time().ms();
             for ms in [before + 1, (before + now) / 2, now.saturating_sub(1)] {
                 if before < ms && ms < now {
-                    seen.push((ms, sitting.profile.rules.iter().map(|rule| used(rule, &fills, ms)).collect()));
+                    seen.push((ms, all_used(&sitting, &fills, ms)));
                 }
             }
             match next {
@@ -150,7 +159,7 @@ fn the_page_draws_the_use_that_the_grants_make() {
                 _ => {}
             }
             seen.retain(|(ms, _)| *ms != now);
-            seen.push((now, sitting.profile.rules.iter().map(|rule| used(rule, &fills, now)).collect()));
+            seen.push((now, all_used(&sitting, &fills, now)));
         }
         // a stretch short enough has a bucket for each millisecond, so what is drawn there is exact
         let last = sitting.unit.clock().ms();
@@ -158,7 +167,7 @@ fn the_page_draws_the_use_that_the_grants_make() {
             let part = day(&sitting, Some((from, from + 2_047)));
             assert_eq!(part.curves.scale.map(|scale| scale.width), Some(1));
             for (ms, wanted) in seen.iter().filter(|(ms, _)| from <= *ms && *ms < from + 2_048) {
-                let drawn: Vec<u64> = part.curves.rules.iter().map(|curve| curve.in_bucket(ms - from).2).collect();
+                let drawn: Vec<u64> = part.curves.counts.iter().map(|curve| curve.in_bucket(ms - from).2).collect();
                 assert_eq!(&drawn, wanted, "seed {seed} at {ms} ms\n{text}");
             }
         }
@@ -166,7 +175,7 @@ fn the_page_draws_the_use_that_the_grants_make() {
         let whole = day(&sitting, None);
         let Some(scale) = whole.curves.scale else { continue };
         for (ms, wanted) in &seen {
-            for (curve, used) in whole.curves.rules.iter().zip(wanted) {
+            for (curve, used) in whole.curves.counts.iter().zip(wanted) {
                 let (least, most, _) = curve.in_bucket(scale.bucket(*ms));
                 assert!(least <= *used && *used <= most, "seed {seed} at {ms} ms: {used} is not from {least} to {most}");
                 assert!(curve.peak.1 >= *used);

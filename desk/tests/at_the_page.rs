@@ -150,5 +150,5 @@ fn fits(browser: &Browser, width: u32, armed: bool) {
     );
     assert_eq!(covered, Json::List(Vec::new()), "at {width}");
     let gauges = browser.script("scrollTo(0, 0); return document.querySelectorAll('#rules li .bar').length").number();
-    assert_eq!(gauges, if armed { 4 } else { 0 });
+    assert_eq!(gauges, if armed { 10 } else { 0 }, "one for each rule and unit that is counted for itself");
 }

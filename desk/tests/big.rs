@@ -41,7 +41,8 @@ fn report(place: &Path, words: &[&str]) -> (String, Option<u64>) {
 
 #[test]
 fn memory_does_not_grow_with_the_day() {
-    let (short, long) = (drawn("short", 20_000, 24, 1), drawn("long", 200_000, 24, 1));
+    // both have a fill in every step of every picture, and more than that is not kept
+    let (short, long) = (drawn("short", 20_000, 8, 1), drawn("long", 200_000, 8, 1));
     let (_, little) = report(&short, &["page.html"]);
     let (said, much) = report(&long, &["page.html"]);
     assert!(said.starts_with("wrote a page on 200,000 records to page.html"), "{said}");
@@ -61,6 +62,7 @@ fn a_page_of_256_rules_is_below_3_million_bytes() {
         report(&place, &["page.html"]);
         let page = fs::read_to_string(place.join("page.html")).expect("a page");
         assert_eq!(page.matches("<section class=\"rule\"").count(), 256, "every rule is drawn");
+        assert_eq!(page.matches("<div class=\"count\"").count(), 1_024, "on every unit");
         assert!(page.len() < 3_000_000, "{} bytes", page.len());
         assert_eq!(page.contains("use href=\"#trip\""), tight > 1, "trips are marked");
         fs::remove_dir_all(place).expect("removed");

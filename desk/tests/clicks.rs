@@ -73,8 +73,12 @@ fn by_clicks(name: &str, paper: &str) {
             }
             "remaining" => {
                 assert_eq!(gauge(&browser, 0), ["100%", "used 500 of 500 in 1 s", "left 0 [0]", "tripped at 10ms", "100%"]);
-                assert_eq!(gauge(&browser, 1), ["17%", "used $3,500 of $20,000", "left $16,500 [165000000]", "", "17.5%"]);
-                assert_eq!(gauge(&browser, 3), ["1%", "used 500 of 50,000", "left 49,500 [49500]", "", "1%"]);
+                // the other units of the rule have used nothing
+                for unit in 1..4 {
+                    assert_eq!(gauge(&browser, unit), ["0%", "used 0 of 500 in 1 s", "left 500 [500]", "", "0%"]);
+                }
+                assert_eq!(gauge(&browser, 4), ["17%", "used $3,500 of $20,000", "left $16,500 [165000000]", "", "17.5%"]);
+                assert_eq!(gauge(&browser, 9), ["1%", "used 500 of 50,000", "left 49,500 [49500]", "", "1%"]);
             }
             "status" => {
                 assert_eq!(browser.text("#where"), "firm ABCD, clock 2000ms");

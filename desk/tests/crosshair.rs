@@ -3,8 +3,10 @@ mod browser;
 mod common;
 use browser::{Browser, Looks};
 use common::{event, profile, Dice};
+use desk::counts::Count;
 use desk::day::Day;
 use desk::figures::face;
+use desk::profile::Rule;
 use desk::progress::Progress;
 use desk::report::{self, Made};
 use desk::sitting::Sitting;
@@ -12,9 +14,9 @@ use mbrumzheg::Unit;
 use std::fs;
 
 /// What the crosshair should say of a bucket, by the desk's own numbers.
-fn wanted_words(day: &Day, rule: &desk::profile::Rule, at: u64) -> String {
+fn wanted_words(day: &Day, rule: &Rule, count: &Count, at: u64) -> String {
     let scale = day.curves.scale.expect("a scale");
-    let (least, most, last) = day.curves.rules[rule.number].in_bucket(at);
+    let (least, most, last) = day.curves.counts[count.place].in_bucket(at);
     let begin = scale.begin(at);
     let when = if scale.width == 1 { face(begin) } else { format!("{} to {}", face(begin), face(begin + scale.width - 1)) };
     let range = if least == most { String::new() } else { format!(" (between {} and {})", rule.amount(least), rule.amount(most)) };
@@ -41,15 +43,15 @@ fn the_crosshair_says_what_the_desk_knows() {
         fs::write(&page, report::of_name("page.html", &sitting.profile, &day, &Made::at_the_desk(&sitting))).expect("written");
         browser.open(&format!("file://{}", page.display()));
         let count = day.curves.scale.zip(day.times).map_or(0, |(scale, (_, last))| scale.count(last));
-        for rule in &sitting.profile.rules {
+        for (rule, own) in sitting.profile.each_count() {
             let said = browser.script(&format!(
-                "const plot = document.querySelector('#rule{} .plot'); if (!plot) return []; const box = plot.getBoundingClientRect(); const said = []; \
+                "const plot = document.querySelector('#{} .plot'); if (!plot) return []; const box = plot.getBoundingClientRect(); const said = []; \
                  for (let at = 0; at < {count}; at++) {{ plot.dispatchEvent(new PointerEvent('pointermove', {{ clientX: box.left + box.width * (at + 0.5) / {count} }})); \
                  said.push(plot.parentElement.querySelector('.readout').innerText) }} return said",
-                rule.number
+                own.id()
             ));
             for (at, words) in said.list().iter().enumerate() {
-                assert_eq!(words.text(), wanted_words(&day, rule, at as u64), "seed {seed}, rule {}", rule.number);
+                assert_eq!(words.text(), wanted_words(&day, rule, own, at as u64), "seed {seed}, {}", own.short_words());
                 compared += 1;
             }
         }

@@ -1,4 +1,4 @@
-//! Locks, trips and times of random days: since when, by which rule, and what was rejected meanwhile.
+//! Locks, trips and times of random days: since when, by which rule and unit, and what was rejected meanwhile.
 mod common;
 #[path = "common/days.rs"]
 mod days;
@@ -46,18 +46,17 @@ fn locks_have_their_begin_their_cause_and_their_rejections() {
                 assert_eq!(lock.map(|lock| lock.since), *since, "seed {seed}");
                 let Some(lock) = lock else { continue };
                 assert_eq!((lock.tripped.is_some(), lock.by_hand.is_some()), (marks.tripped, marks.locked_by_user));
-                let rules = lock.tripped.iter().flat_map(|(_, rules)| rules).map(|rule| &sitting.profile.rules[*rule]);
-                assert!(rules.clone().all(|rule| sitting.standing.tripped(rule.number).is_some()));
-                assert!(!marks.tripped || rules.count() > 0, "a trip has a rule");
+                let counts = lock.tripped.iter().flat_map(|(_, counts)| counts).map(|place| &sitting.profile.counts[*place]);
+                assert!(counts.clone().all(|count| sitting.standing.tripped(count.place).is_some()));
+                assert!(!marks.tripped || counts.count() > 0, "a trip has a rule and a unit");
                 tripped += u64::from(marks.tripped);
                 by_hand += u64::from(marks.locked_by_user);
                 both += u64::from(marks.tripped && marks.locked_by_user);
             }
-            // a rule is called tripped only where its own trip locked its level
-            for rule in sitting.profile.rules.iter().filter(|rule| sitting.standing.tripped(rule.number).is_some()) {
-                let level = desk::standing::level_of(rule.scope);
-                let named = sitting.standing.lock(level).and_then(|lock| lock.tripped.as_ref());
-                assert!(named.is_some_and(|(_, rules)| rules.contains(&rule.number)), "seed {seed}: {rule:?}");
+            // a count is called tripped only where its own trip locked its level
+            for count in sitting.profile.counts.iter().filter(|count| sitting.standing.tripped(count.place).is_some()) {
+                let named = sitting.standing.lock(count.level()).and_then(|lock| lock.tripped.as_ref());
+                assert!(named.is_some_and(|(_, counts)| counts.contains(&count.place)), "seed {seed}: {count:?}");
             }
         }
         let day = day(&sitting, None);

@@ -4,6 +4,7 @@ mod common;
 #[path = "browser/json.rs"]
 mod json;
 use common::{event, profile, Dice};
+use desk::counts::Count;
 use desk::day::Day;
 use desk::progress::Progress;
 use desk::report::{self, Made};
@@ -59,6 +60,25 @@ fn tags(page: &str) -> Vec<String> {
     all
 }
 
+/// A rule that is drawn has a picture for each of its counts, or names the unit as not used.
+fn every_unit_is_told(sitting: &Sitting, page: &str) {
+    for rule in &sitting.profile.rules {
+        let section = between(page, &format!("<section class=\"rule\" id=\"rule{}\">", rule.number), "</section>");
+        if section.is_empty() {
+            continue;
+        }
+        let counts: Vec<&Count> = sitting.profile.counts.iter().filter(|count| count.rule == rule.number).collect();
+        let idle = between(section, "<p>Not used: ", ".</p>");
+        let idle: Vec<&str> = idle.split(", ").filter(|unit| !unit.is_empty()).collect();
+        assert_eq!(section.matches("<div class=\"count\"").count() + idle.len(), counts.len());
+        for count in counts.iter().filter(|count| count.is_one_of_four) {
+            let unit = desk::words::unit(count.unit().expect("a unit"));
+            let is_drawn = section.contains(&format!(" id=\"{}\"><h4>{unit}</h4>", count.id()));
+            assert_ne!(is_drawn, idle.contains(&unit), "rule {} on {unit}", rule.number);
+        }
+    }
+}
+
 #[test]
 fn pages_are_well_formed_and_fetch_nothing() {
     for seed in 0..60 {
@@ -70,7 +90,8 @@ fn pages_are_well_formed_and_fetch_nothing() {
         let drawn = page.matches("<section class=\"rule\"").count();
         let unused = between(&page, "<section id=\"unused\">", "</section>").matches("<li>").count();
         assert_eq!(drawn + unused, sitting.profile.rules.len(), "every rule is drawn, or named as not used");
-        assert_eq!(between(&page, "<table id=\"rules\">", "</table>").matches("<tr>").count(), 1 + sitting.profile.rules.len());
+        every_unit_is_told(&sitting, &page);
+        assert_eq!(between(&page, "<table id=\"rules\">", "</table>").matches("<tr>").count(), 1 + sitting.profile.counts.len());
         for place in page.match_indices("href=\"#").map(|(at, found)| &page[at + found.len()..]) {
             let name = place.split('"').next().expect("a name");
             assert!(page.contains(&format!("id=\"{name}\"")), "'{name}' is linked and is there");
@@ -111,7 +132,7 @@ fn json_and_csv_have_the_figures_of_the_page() {
         let sitting = sitting(seed);
         let [page, json, csv] = ["page.html", "day.json", "day.csv"].map(|name| written(&sitting, name, None));
         let read = json::Json::of(json.trim_end());
-        assert_eq!(read.get("rules").list().len(), sitting.profile.rules.len());
+        assert_eq!(read.get("rules").list().len(), sitting.profile.counts.len());
         assert_eq!(read.get("profile").get("file").text(), "profile");
         for (name, key) in [("records", "records"), ("cuts", "cuts"), ("rejected", "rejected"), ("faulty records", "faulty_records")] {
             let counts = between(&json, "\"counts\":", "\n");
@@ -119,14 +140,26 @@ fn json_and_csv_have_the_figures_of_the_page() {
             assert!(csv.contains(&format!("\r\n{name},{of_json}\r\n")), "{name} is {of_json} in both");
             assert!(page.contains(&format!("<dt>{name}</dt><dd>{of_json}</dd>")), "and in the page");
         }
-        // rules stand in the same order in all three: the greatest share first
-        let order: Vec<&str> = json.split("{\"rule\":").skip(1).map(|rest| rest.split(',').next().expect("a number")).collect();
+        // rules and units stand in the same order in all three: the greatest share first
+        let order: Vec<String> =
+            read.get("rules").list().iter().map(|row| format!("{},{}", row.get("rule").number(), row.get("of").text())).collect();
         let table = between(&page, "<table id=\"rules\">", "</table>");
-        let of_page: Vec<&str> = table.split("rule ").skip(1).map(|rest| rest.split(' ').next().expect("a number")).collect();
+        let of_row = |row: &str| -> Option<String> {
+            let (number, rest) = row.split_once(' ')?;
+            Some(format!("{number},{}", rest.split_once(" of ")?.1.split('<').next()?))
+        };
+        let of_page: Vec<String> = table.split(">rule ").skip(1).map(|row| of_row(row).expect("a rule of something")).collect();
         let (_, rows) = csv.split_once("\r\nrule,").expect("a table of rules");
-        let of_csv: Vec<&str> =
-            rows.lines().skip(1).take_while(|line| !line.is_empty()).map(|line| line.split(',').next().expect("a number")).collect();
+        let cells = |line: &str| -> Vec<String> { line.split(',').map(str::to_string).collect() };
+        let rows: Vec<Vec<String>> = rows.lines().skip(1).take_while(|line| !line.is_empty()).map(cells).collect();
+        let of_csv: Vec<String> = rows.iter().map(|cells| format!("{},{}", cells[0], cells[2])).collect();
         assert_eq!((&order, &order), (&of_page, &of_csv));
+        // and the unit's number is the one that the library takes: none for the firm
+        for (cells, own) in rows.iter().zip(read.get("rules").list()) {
+            let count = sitting.profile.counts.iter().find(|count| cells[2] == sitting.profile.scope_words(count.of));
+            let number = count.expect("a count").unit().map(|unit| unit.number().to_string());
+            assert_eq!((cells[3].clone(), own.get("unit") == &json::Json::Null), (number.clone().unwrap_or_default(), number.is_none()));
+        }
         let shares: Vec<f64> = json
             .split("\"share_percent\":")
             .skip(1)

@@ -83,28 +83,34 @@ fn stands_in_order(browser: &Browser, width: u32) {
     );
     let rows: Vec<&str> = rows.list().iter().map(Json::text).collect();
     let wanted = [
-        "rule 0 rate_vol 500 in 1 s of XYZ|100.0%",
-        "rule 1 abs_ntnl $20,000 of XYZ|17.5%",
+        "rule 0 rate_vol 500 in 1 s of XYZ call front|100.0%",
+        "rule 0 rate_vol 500 in 1 s of XYZ put front|90.0%",
+        "rule 1 abs_ntnl $20,000 of XYZ call front|17.5%",
         "rule 2 rate_count 10 in 1 min of QQQ put front|10.0%",
+        "rule 1 abs_ntnl $20,000 of XYZ put front|6.7%",
         "rule 3 abs_vol 50,000 of firm ABCD|3.1%",
+        "rule 0 rate_vol 500 in 1 s of XYZ call trailing|0.0%",
+        "rule 0 rate_vol 500 in 1 s of XYZ put trailing|0.0%",
+        "rule 1 abs_ntnl $20,000 of XYZ call trailing|0.0%",
+        "rule 1 abs_ntnl $20,000 of XYZ put trailing|0.0%",
     ];
     assert_eq!(rows, wanted);
-    // the bar of a rule at its limit is full, and that of 17.5% is as long
+    // the bar of a limit that was reached is full, that of 17.5% is as long, and one that was not used has none
     holds(
         browser,
-        "[[0, 1], [1, 0.175]].every(([row, share]) => { const bar = document.querySelectorAll('#rules .bar')[row]; \
+        "[[0, 1], [2, 0.175], [6, 0]].every(([row, share]) => { const bar = document.querySelectorAll('#rules .bar')[row]; \
         return Math.abs(bar.firstChild.getBoundingClientRect().width / bar.getBoundingClientRect().width - share) < 0.02 })",
     );
     for text in ["notional granted\n$9,650", "rejected\n3", "faulty records\n0", "cuts\n1"] {
         holds(browser, &format!("document.querySelector('#overview dl').innerText.includes({})", quoted(text)));
     }
     browser.resize(width, 500);
-    browser.click("#rules a[href='#rule1']");
-    browser.wait("(({ top }) => -2 < top && top < innerHeight - 100)(document.querySelector('#rule1').getBoundingClientRect())");
+    browser.click("#rules a[href='#rule1-put-front']");
+    browser.wait("(({ top }) => -2 < top && top < innerHeight - 100)(document.querySelector('#rule1-put-front').getBoundingClientRect())");
     browser.resize(width, 3200);
     browser.script("scrollTo(0, 0)");
     let first = "document.querySelector('#lock-list tbody tr').innerText";
-    holds(browser, &format!("{first}.startsWith('root XYZ') && {first}.includes('rule 0 rate_vol 500 in 1 s of XYZ tripped')"));
+    holds(browser, &format!("{first}.startsWith('root XYZ') && {first}.includes('rule 0 rate_vol 500 in 1 s of XYZ call front tripped')"));
     let groups = browser.script("return [...document.querySelectorAll('#events h3')].map((head) => head.innerText)");
     let groups: Vec<&str> = groups.list().iter().map(Json::text).collect();
     assert_eq!(
@@ -124,11 +130,22 @@ fn is_drawn_to_measure(browser: &Browser) {
         .every((box, at, all) => box.height > 10 && box.height < 20 && (at === 0 || all[at - 1].right + 2 < box.left))",
     );
     holds(browser, "[...document.querySelectorAll('.names b')].every((name) => name.scrollWidth <= name.clientWidth)");
-    for (rule, share) in [(0, 1.0), (1, 0.175), (2, 0.1), (3, 0.031)] {
+    let shares = [("0-call-front", 1.0), ("0-put-front", 0.9), ("1-call-front", 0.175), ("1-put-front", 0.0675), ("2", 0.1), ("3", 0.031)];
+    for (rule, share) in shares {
         let top = measured(browser, &format!("document.querySelector('#rule{rule} path.use').getBoundingClientRect().top - document.querySelector('#rule{rule} .plot').getBoundingClientRect().top"));
         let wanted = PLOT.1 - (PLOT.1 - PLOT.0) * share;
         assert!((top - wanted).abs() < 1.5, "rule {rule} reaches {top}, not {wanted}");
     }
+    // the names of the lines stand to the left of each picture, within its section
+    holds(browser, "[...document.querySelectorAll('.rule .plot')].every((plot) => { const box = plot.querySelector('use[href=\"#levels\"]').getBoundingClientRect(); \
+        return box.left < plot.getBoundingClientRect().left - 20 && box.left >= plot.closest('section').getBoundingClientRect().left })");
+    // a rule has a picture for each unit that was used, one below the other, and names the others
+    holds(
+        browser,
+        "['call front', 'put front'].join() === [...document.querySelectorAll('#rule0 h4')].map((head) => head.innerText).join()",
+    );
+    holds(browser, "document.querySelector('#rule0').innerText.includes('Not used: call trailing, put trailing.')");
+    holds(browser, "document.querySelector('#rule0-call-front').getBoundingClientRect().bottom <= document.querySelector('#rule0-put-front').getBoundingClientRect().top");
     // the one trip and the one cut of rule 0 are at its first records, at the left of its picture
     for mark in ["trip", "cut"] {
         let uses = format!("document.querySelectorAll('.rule use[href=\"#{mark}\"]')");
@@ -148,7 +165,7 @@ fn is_readable(browser: &Browser) {
         const light = (colour) => { const [r, g, b] = numbers(colour).map((n) => { const s = n / 255; return s <= 0.03928 ? s / 12.92 : ((s + 0.055) / 1.055) ** 2.4 }); return 0.2126 * r + 0.7152 * g + 0.0722 * b };
         const ground = (element) => { for (let e = element; e; e = e.parentElement) { const c = getComputedStyle(e).backgroundColor; if (numbers(c)[3] !== 0) return c } };
         const poor = [];
-        for (const name of ['h1', 'header p', 'dt', 'dd', 'th', 'td', 'td.numbers', 'a', '.tick', '.g i', '.names b', 'pre', 'code', 'footer p']) {
+        for (const name of ['h1', 'h4', 'header p', 'dt', 'dd', 'th', 'td', 'td.numbers', 'a', '.tick', '.names b', 'pre', 'code', 'footer p']) {
             const element = document.querySelector(name), style = getComputedStyle(element);
             const [high, low] = [light(element.matches('.tick') ? style.fill : style.color), light(ground(element))].sort((a, b) => b - a);
             if ((high + 0.05) / (low + 0.05) < 4.5) poor.push(name);
@@ -174,7 +191,7 @@ fn pixels(browser: &Browser, place: &Path, points: &[(f64, f64)]) -> Vec<String>
 
 /// What is on the screen has the style's colours: the page, a section, the area under a curve, a lock, and a line at 80 percent.
 fn is_coloured(browser: &Browser, place: &Path, dark: bool) {
-    let plot = |edge: &str| measured(browser, &format!("document.querySelector('#rule0 .plot').getBoundingClientRect().{edge}"));
+    let plot = |edge: &str| measured(browser, &format!("document.querySelector('#rule0-put-front .plot').getBoundingClientRect().{edge}"));
     let (left, top, width) = (plot("left"), plot("top"), plot("width"));
     let x = |ms: f64| left + width * ms / 3402.0;
     let y = |share: f64| top + PLOT.1 - (PLOT.1 - PLOT.0) * share;
@@ -194,11 +211,11 @@ fn is_coloured(browser: &Browser, place: &Path, dark: bool) {
 /// The crosshair by pointer and by keys: time, used, limit and left, within the window.
 fn has_a_crosshair(browser: &Browser) {
     for (rule, ms, words) in [
-        (0, 2_950, "2950ms to 2951ms: used 450, limit 500, left 50"),
-        (0, 1_000, "1000ms to 1001ms: used 0, limit 500, left 500"),
-        (0, 10, "10ms to 11ms: used 500 (between 450 and 500), limit 500, left 0"),
-        (1, 2_950, "2950ms to 2951ms: used $1,350, limit $20,000, left $18,650"),
-        (3, 3_401, "3400ms to 3401ms: used 1,550 (between 1,250 and 1,550), limit 50,000, left 48,450"),
+        ("0-put-front", 2_950, "2950ms to 2951ms: used 450, limit 500, left 50"),
+        ("0-put-front", 1_000, "1000ms to 1001ms: used 0, limit 500, left 500"),
+        ("0-call-front", 10, "10ms to 11ms: used 500 (between 450 and 500), limit 500, left 0"),
+        ("1-put-front", 2_950, "2950ms to 2951ms: used $1,350, limit $20,000, left $18,650"),
+        ("3", 3_401, "3400ms to 3401ms: used 1,550 (between 1,250 and 1,550), limit 50,000, left 48,450"),
     ] {
         let said = browser.script(&format!(
             "const plot = document.querySelector('#rule{rule} .plot'), box = plot.getBoundingClientRect(); \
@@ -211,12 +228,12 @@ fn has_a_crosshair(browser: &Browser) {
         browser.script(&format!("document.querySelector('#rule{rule} .plot').dispatchEvent(new PointerEvent('pointerleave'))"));
         holds(browser, "document.querySelector('.readout, .cross') === null");
     }
-    browser.script("document.querySelector('#rule0 .plot').focus()");
+    browser.script("document.querySelector('#rule0-call-front .plot').focus()");
     // keys go on from where the pointer was last, at 10 ms
     browser.press("\u{E014}\u{E014}");
-    assert_eq!(browser.text("#rule0 .readout"), "14ms to 15ms: used 500, limit 500, left 0");
+    assert_eq!(browser.text("#rule0-call-front .readout"), "14ms to 15ms: used 500, limit 500, left 0");
     browser.press("\u{E012}\u{E012}\u{E012}");
-    assert_eq!(browser.text("#rule0 .readout"), "8ms to 9ms: used 450, limit 500, left 50");
+    assert_eq!(browser.text("#rule0-call-front .readout"), "8ms to 9ms: used 450, limit 500, left 50");
     browser.script("document.querySelector('#rule2 .plot').focus()");
     browser.press("\u{E014}");
     assert_eq!(browser.text("#rule2 .readout"), "0ms to 1ms: used 0, limit 10, left 10");

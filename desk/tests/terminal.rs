@@ -3,10 +3,10 @@ mod common;
 #[path = "common/terminal.rs"]
 mod terminal;
 use common::{event, profile, Dice};
-use desk::asked::Shown;
 use desk::help;
 use desk::paint::{paint, Painter};
 use desk::program::USAGE;
+use desk::shown::Shown;
 use desk::sitting::Sitting;
 use desk::table;
 use mbrumzheg::{Refusal, Time, Unit};
@@ -32,7 +32,7 @@ fn tables_fit_80_columns() {
         }
         let text = table::rules(&sitting, sitting.unit.clock(), Shown::All).expect("a table");
         assert!(widest(&text) <= 80, "{text}");
-        assert_eq!(text.lines().filter(|line| line.ends_with('%')).count(), sitting.profile.rules.len(), "{text}");
+        assert_eq!(text.lines().filter(|line| line.ends_with('%')).count(), sitting.profile.counts.len(), "{text}");
     }
 }
 

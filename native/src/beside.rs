@@ -69,7 +69,7 @@ pub fn run_hand(step: &Step, m: &mut [u64], room: &mut [u8]) -> Row {
         Kind::Order => hand::order(m, a, b, c),
         Kind::Lockout => hand::lockout(m, a, b, c),
         Kind::Offer => hand::offer(m, a, b, c, d, e),
-        Kind::Remaining => hand::remaining(m, a, b),
+        Kind::Remaining => hand::remaining(m, a, b, c),
         Kind::Status => hand::status(m),
         Kind::Text => hand::text(a, room),
         Kind::Profile => hand::profile(m, room),

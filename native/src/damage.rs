@@ -4,8 +4,9 @@ use second::gen::Random;
 use second::lent::Lent;
 use second::memory;
 use second::place::*;
-use second::profile::{Level, MOST_ROOTS, MOST_RULES};
-use second::unit::{Armed, Entry, Marks, LOG_PLACES};
+use second::profile::{Level, Rule, MOST_ROOTS, MOST_RULES};
+use second::totals;
+use second::unit::{Armed, Entry, Marks, Totals, LOG_PLACES};
 use second::LAST_TIME;
 
 use crate::SIZE;
@@ -52,9 +53,10 @@ pub fn any_number(random: &mut Random) -> u64 {
 
 /// Places of the state and the numbers that they get.
 pub fn damage(random: &mut Random, second: &mut Lent) -> Vec<(usize, u64)> {
-    match (random.below(8), second.unit().armed.clone()) {
-        (0, _) => exchanged(random, second),
-        (1..=3, Some(armed)) => reshaped(random, armed, second.numbers()),
+    match (random.below(16), second.unit().armed.clone()) {
+        (0..=1, _) => exchanged(random, second),
+        (2, Some(armed)) => moved_totals(random, &armed, second.numbers()),
+        (3..=7, Some(armed)) => reshaped(random, armed, second.numbers()),
         _ => {
             let times = random.pick(&[1, 1, 1, 2, 3]);
             (0..times).map(|_| single(random, second)).collect()
@@ -88,7 +90,7 @@ fn part(random: &mut Random, second: &mut Lent) -> Vec<usize> {
         0 => (ALONE.to_vec(), ROOTS),
         1 => from(ROOTS, armed.roots.len()),
         2 => from(RULES, 2 * armed.profile.rules.len()),
-        3 => from(TOTALS, armed.totals.len()),
+        3 => from(TOTALS, totals::accounts(&armed.profile.rules).len()),
         4 | 5 => from(LOG, 2 * armed.log.len()),
         _ => from(0, SIZE),
     };
@@ -118,9 +120,14 @@ fn other_number(random: &mut Random, second: &mut Lent, place: usize) -> u64 {
     }
 }
 
+/// The rule that has an account at a place of the totals.
+fn rule_at(rules: &[Rule], place: usize) -> Option<&Rule> {
+    totals::accounts(rules).get(place).map(|(line, _)| &rules[*line])
+}
+
 /// A total about as large as the limit of the rule.
-fn total_near(random: &mut Random, second: &mut Lent, line: usize) -> u64 {
-    let rule = second.unit().armed.as_ref().and_then(|armed| armed.profile.rules.get(line));
+fn total_near(random: &mut Random, second: &mut Lent, place: usize) -> u64 {
+    let rule = second.unit().armed.as_ref().and_then(|armed| rule_at(&armed.profile.rules, place));
     let limit = rule.map_or(0, |rule| rule.limit);
     let less = random.pick(&[0, 1, 2, 9, 50]);
     random.pick(&[limit.saturating_sub(less), limit.saturating_sub(less), limit + less])
@@ -138,6 +145,19 @@ fn other_field(random: &mut Random, number: u64, place: usize) -> u64 {
     let (low, width) = random.pick(fields);
     let mask = u64::MAX >> (64 - width);
     number & !(mask << low) | (any_number(random) & mask) << low
+}
+
+/// The totals from some account on moved by a few places, as if a rule before them had another number of accounts.
+fn moved_totals(random: &mut Random, armed: &Armed, numbers: &[u64]) -> Vec<(usize, u64)> {
+    let accounts = totals::accounts(&armed.profile.rules).len();
+    let (first, by) = (random.below(accounts as u64) as usize, random.pick(&[1, 3, 4]));
+    let (before, after) = numbers[TOTALS..FIRM_TRIPPED].split_at(first);
+    let moved = match random.once_in(2) {
+        true => [before, &vec![0; by], after].concat(),
+        false => [before, &after[by.min(after.len())..], &vec![0; by]].concat(),
+    };
+    let places = (TOTALS..FIRM_TRIPPED).zip(moved);
+    places.filter(|(place, number)| numbers[*place] != *number).collect()
 }
 
 /// The numbers by which a state differs after its rules, roots or log were reshaped.
@@ -158,10 +178,10 @@ fn reshape_rules(random: &mut Random, armed: &mut Armed) {
     let [one, other] = [(); 2].map(|_| random.below(rules.len() as u64) as usize);
     match random.below(6) {
         0 => {
-            // the other kind; a rate rule has no total
+            // the other kind, its totals at 0
             let window = random.pick(&[99, 100, 1_000, 86_400_000, 86_400_001]);
             rules[one].window = if rules[one].window.is_some() { None } else { Some(window) };
-            armed.totals[one] *= u64::from(rules[one].window.is_none());
+            armed.totals[one] = Totals::default();
         }
         1 => rules.iter_mut().for_each(|rule| rule.window = None),
         2 => {
@@ -174,7 +194,7 @@ fn reshape_rules(random: &mut Random, armed: &mut Armed) {
         }
         4 if rules.len() < MOST_RULES => {
             rules.push(rules[one].clone());
-            armed.totals.push(0);
+            armed.totals.push(armed.totals[one]);
         }
         _ => {
             let root = random.below(armed.roots.len() as u64 + 1).min(63);

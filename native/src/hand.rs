@@ -6,6 +6,7 @@ mod map;
 mod profile;
 mod profile_out;
 mod records;
+mod reset;
 mod sound;
 
 pub use profile_out::profile;
@@ -13,6 +14,7 @@ pub use records::{read_record, write_record};
 
 use counted::{counted_by, Covering, Cuts, Offer};
 use map::*;
+use reset::carry_out;
 use sound::{longest_if_sound, Longest};
 
 use crate::Row;
@@ -103,14 +105,16 @@ pub fn status(m: &[u64]) -> Row {
     }))
 }
 
-pub fn remaining(m: &[u64], time: u64, rule: u64) -> Row {
+pub fn remaining(m: &[u64], time: u64, rule: u64, unit: u64) -> Row {
     row(state(m).and_then(|m| {
         armed_at(m, time)?;
         if rule >= m[RULE_COUNT] {
             return Err(13);
         }
-        let rule = Rule::at(m, rule as usize);
-        Ok([rule.ceiling().saturating_sub(counted_by(m, &rule, time)), 0, 0, 0])
+        let place = rule as usize;
+        let rule = Rule::at(m, place);
+        let account = rule.account(unit).ok_or(13u64)?;
+        Ok([rule.ceiling().saturating_sub(counted_by(m, place, account, unit, time)), 0, 0, 0])
     }))
 }
 
@@ -139,42 +143,6 @@ pub fn order(m: &mut [u64], time: u64, root: u64, reset: u64) -> Row {
         }
         Ok([verdict(m, root), 0, 0, 0])
     }))
-}
-
-/// Carries out a reset of a root, of the firm or of both.
-fn carry_out(m: &mut State, root: u64, of_root: bool, of_firm: bool) {
-    if of_root {
-        m[ROOTS_TRIPPED] &= !(1 << root);
-        m[ROOTS_LOCKED] &= !(1 << root);
-    }
-    if of_firm {
-        m[FIRM_TRIPPED] = 0;
-        m[FIRM_LOCKED] = 0;
-    }
-    zero_totals(m, root, of_root, of_firm);
-    clear_flags(m, root, of_root, of_firm);
-}
-
-/// Zeroes the totals of the root's rules, of firm rules, or of both.
-fn zero_totals(m: &mut State, root: u64, of_root: bool, of_firm: bool) {
-    let count = m[RULE_COUNT] as usize;
-    let (rules, totals) = m[RULES..FIRM_TRIPPED].split_at_mut(2 * MOST_RULES);
-    for (rule, total) in rules.chunks_exact(2).zip(&mut totals[..count]) {
-        let is_firm = rule[1] & SCOPE == 0;
-        let is_hit = if is_firm { of_firm } else { of_root && rule[1] >> 2 & 63 == root };
-        *total = if is_hit { 0 } else { *total };
-    }
-}
-
-/// Clears the root flag in the root's entries, the firm flag in all, or both.
-fn clear_flags(m: &mut State, root: u64, of_root: bool, of_firm: bool) {
-    let entries = m[ENTRY_COUNT] as usize;
-    let log = &mut m[LOG..][..2 * entries];
-    let firm = u64::from(of_firm);
-    for entry in log.chunks_exact_mut(2) {
-        let hit = u64::from(of_root && entry[0] & ENTRY_ROOT == root << 4) << 1;
-        entry[0] &= !(firm | hit);
-    }
 }
 
 pub fn offer(m: &mut [u64], time: u64, root: u64, unit: u64, premium: u64, contracts: u64) -> Row {

@@ -17,11 +17,30 @@ pub mod shrink;
 pub mod steps;
 pub mod tally;
 
-pub use mbrumzheg::raw::{arm, clear, lockout, offer, order, profile, remaining, status, text, write_record, Row, SIZE};
+pub use library::{arm, clear, lockout, offer, order, profile, read_record, remaining, status, text, write_record, Row, SIZE};
 
-/// An event record read: the refusal, then kind, time, root, unit, premium, contracts, reset and level.
-#[inline]
-pub fn read_record(bytes: &[u8]) -> [u64; 9] {
-    let (refusal, [kind, time, root, unit, premium, contracts, reset, level]) = mbrumzheg::raw::read_record(bytes);
-    [refusal, kind, time, root, unit, premium, contracts, reset, level]
+/// The proved library.
+#[cfg(feature = "library")]
+mod library {
+    pub use mbrumzheg::raw::{arm, clear, lockout, offer, order, profile, remaining, status, text, write_record, Row, SIZE};
+
+    /// An event record read: the refusal, then kind, time, root, unit, premium, contracts, reset and level.
+    #[inline]
+    pub fn read_record(bytes: &[u8]) -> [u64; 9] {
+        let (refusal, [kind, time, root, unit, premium, contracts, reset, level]) = mbrumzheg::raw::read_record(bytes);
+        [refusal, kind, time, root, unit, premium, contracts, reset, level]
+    }
+}
+
+/// The hand-written calls in its place, so that they can be compared with the second program before the library has a request.
+#[cfg(not(feature = "library"))]
+mod library {
+    pub use crate::hand::{arm, clear, lockout, offer, order, profile, read_record, remaining, status, text};
+    pub use second::lent::Row;
+    pub use second::place::NUMBERS as SIZE;
+
+    /// An event written as a record: the refusal.
+    pub fn write_record(numbers: [u64; 8], room: &mut [u8]) -> Row {
+        [crate::hand::write_record(numbers, room), 0, 0, 0, 0]
+    }
 }

@@ -59,7 +59,7 @@ pub fn run_unit(step: &Step, unit: &mut Unit, room: &mut [u8]) -> Row {
         Kind::Order => unit.order(a, b, c).numbers(),
         Kind::Lockout => unit.lockout(a, b, c).numbers(),
         Kind::Offer => unit.offer(a, b, c, d, e).numbers(),
-        Kind::Remaining => first(&unit.remaining(a, b).numbers()),
+        Kind::Remaining => first(&unit.remaining(a, b, c).numbers()),
         Kind::Status => unit.status().numbers(),
         Kind::Text => first(&unit::text(a, room).numbers()),
         Kind::Profile => first(&unit.profile(room).numbers()),
@@ -99,6 +99,12 @@ fn absolutes() -> Vec<u8> {
 fn long(lines: usize) -> Vec<u8> {
     let tails = [",,C,F", ",,C,T", ",,P,F", ",,P,T"];
     let line = |n: usize| format!("ABCD,{},R{},{WIDE},60000{}\n", TYPES[n % 6], n / 4, tails[n % 4]);
+    (0..lines).map(line).collect::<String>().into_bytes()
+}
+
+/// A profile of so many lines of all types, six of each root, all without call/put and month.
+fn whole(lines: usize) -> Vec<u8> {
+    let line = |n: usize| format!("ABCD,{},R{},{WIDE},60000\n", TYPES[n % 6], n / 6);
     (0..lines).map(line).collect::<String>().into_bytes()
 }
 
@@ -147,6 +153,8 @@ fn offers() -> Vec<Line> {
     lines.push(Line::new("Offer, 6 covering absolute rules".into(), &filled(absolutes(), 50), call));
     let others = "Offer, 1 covering rule of 256, 64 roots, 50 entries";
     lines.push(Line::new(others.into(), &filled(long(256), 50), Step::new(Kind::Offer, &[2_000, 0, 0, 70_000, 5])));
+    let wholes = "Offer, 6 covering rules of 256 without unit fields, 50 entries";
+    lines.push(Line::new(wholes.into(), &filled(whole(256), 50), Step::new(Kind::Offer, &[2_000, 0, 1, 70_000, 5])));
     lines
 }
 
@@ -157,6 +165,7 @@ fn small() -> Vec<Line> {
         ("6 rate rules, 50 entries", rates(3, 3), 50),
         ("16 rules, 512 entries", mixed(), 512),
         ("256 rules, 64 roots, no entry", long(256), 0),
+        ("256 rules without unit fields, 43 roots, no entry", whole(256), 0),
     ];
     let mut lines = Vec::new();
     for (words, profile, entries) in states {
@@ -166,12 +175,14 @@ fn small() -> Vec<Line> {
             ("Order without reset", Step::new(Kind::Order, &[time, 0, 0])),
             ("Order, reset BOTH", Step::new(Kind::Order, &[time, 0, 3])),
             ("Lockout of a root", Step::new(Kind::Lockout, &[time, 0, 0])),
-            ("Remaining of a rate rule", Step::new(Kind::Remaining, &[time, 0])),
+            ("Remaining of a rate rule", Step::new(Kind::Remaining, &[time, 0, 0])),
         ];
         for (call_words, call) in calls {
             lines.push(Line::new(format!("{call_words}, {words}"), &filled(profile.clone(), entries), call));
         }
     }
+    let last = "Remaining of the last rule, absolute, of 256 without unit fields, no entry";
+    lines.push(Line::new(last.into(), &filled(whole(256), 0), Step::new(Kind::Remaining, &[2_000, 255, 3])));
     lines
 }
 

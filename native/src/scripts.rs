@@ -20,7 +20,7 @@ pub enum Kind {
 }
 
 /// Each kind with its word and how many numbers follow it: the length; place and number; none (Arm has a text instead); none; time, root and
-/// reset; time, level and root; time, root, unit, premium and contracts; time and rule; none; verdict and room; room.
+/// reset; time, level and root; time, root, unit, premium and contracts; time, rule and unit; none; verdict and room; room.
 const WORDS: [(&str, Kind, usize); 11] = [
     ("length", Kind::Length, 1),
     ("damage", Kind::Damage, 2),
@@ -29,7 +29,7 @@ const WORDS: [(&str, Kind, usize); 11] = [
     ("order", Kind::Order, 3),
     ("lockout", Kind::Lockout, 3),
     ("offer", Kind::Offer, 5),
-    ("remaining", Kind::Remaining, 2),
+    ("remaining", Kind::Remaining, 3),
     ("status", Kind::Status, 0),
     ("text", Kind::Text, 2),
     ("profile", Kind::Profile, 1),

@@ -112,7 +112,7 @@ impl Day {
             Call::Order { time, root, reset } => Step::new(Kind::Order, &[time, root, reset]),
             Call::Lockout { time, level, root } => Step::new(Kind::Lockout, &[time, level, root]),
             Call::Offer { time, root, unit, premium, contracts } => Step::new(Kind::Offer, &[time, root, unit, premium, contracts]),
-            Call::Remaining { time, rule } => Step::new(Kind::Remaining, &[time, rule]),
+            Call::Remaining { time, rule, unit } => Step::new(Kind::Remaining, &[time, rule, unit]),
             Call::Status => Step::new(Kind::Status, &[]),
             Call::Text { verdict, room } => Step::new(Kind::Text, &[verdict, room]),
             Call::Profile { room } => Step::new(Kind::Profile, &[room]),

@@ -1,5 +1,7 @@
 //! What came up in a run: so that a run that saw too little does not pass.
 
+mod units;
+
 use std::fmt;
 
 use second::lent::{Lent, Row};
@@ -9,7 +11,7 @@ use crate::scripts::{Kind, Step};
 use crate::SIZE;
 
 /// What has to come up at least once, beside each refusal from 1 to 15, in groups that are printed a line each.
-const WANTED: [(&str, &[&str]); 11] = [
+const WANTED: [(&str, &[&str]); 13] = [
     ("calls", &["arm", "clear", "order", "lockout", "offer", "remaining", "status", "text", "profile"]),
     ("offers", &["granted whole", "cut above 0", "cut to 0", "under a locked firm", "under a locked root"]),
     ("trips", &["of a root", "of the firm", "of both", "of an absolute rule just reached"]),
@@ -19,8 +21,10 @@ const WANTED: [(&str, &[&str]); 11] = [
     ("armed with", &["256 rules", "64 roots", "10 firm rules", "6 rules on a unit", "firm rules alone"]),
     ("damaged states", &["sound", "unsound", "with mark 0", "taken back"]),
     ("offers on a full log when the oldest entry", &["left 1 ms ago", "leaves", "leaves in 1 ms"]),
-    ("lent numbers", &["0", "1", "1865", "other short", "1866", "1867", "more"]),
+    ("lent numbers", &["0", "1", "2633", "other short", "2634", "2635", "more"]),
     ("profiles out", &["into just enough room", "into more", "room one byte short", "shorter", "short memory", "not armed", "unsound"]),
+    ("Remaining of", units::ASKED),
+    ("offers while another unit of the rule has", units::BESIDE),
 ];
 /// The groups by their places.
 const CALLS: usize = 0;
@@ -34,6 +38,8 @@ const DAMAGED: usize = 7;
 const OLDEST: usize = 8;
 const LENT: usize = 9;
 const OUT: usize = 10;
+const ASKED: usize = 11;
+const BESIDE: usize = 12;
 
 /// Counts of what came up.
 #[derive(Default)]
@@ -42,7 +48,7 @@ pub struct Tally {
     refusals: [u64; 16],
     /// Offers that left a log of 512 entries.
     full_logs: u64,
-    seen: [[u64; 9]; WANTED.len()],
+    seen: [[u64; 10]; WANTED.len()],
     /// Was a number changed from outside since the last call, and was the state unsound before?
     damaged: Option<bool>,
 }
@@ -89,11 +95,12 @@ impl Tally {
         self.see(CALLS, step.kind as usize - Kind::Arm as usize);
         match step.kind {
             Kind::Profile => self.see(OUT, out_place(step.numbers[0], row)),
+            Kind::Remaining if [0, 13].contains(&row[0]) => self.see_remaining(step, second),
             _ if row[0] != 0 => {}
             Kind::Arm => self.see_profile(second),
             Kind::Order => self.see(RESETS, step.numbers[2] as usize),
             Kind::Lockout => self.see(LOCKOUTS, step.numbers[1] as usize),
-            Kind::Offer => self.see_offer(step.numbers[4], row, second),
+            Kind::Offer => self.see_offer(step, row, second),
             _ => {}
         }
     }
@@ -142,7 +149,14 @@ impl Tally {
         (0..shapes.len()).filter(|place| shapes[*place]).for_each(|place| self.see(PROFILES, place));
     }
 
-    fn see_offer(&mut self, contracts: u64, row: Row, second: &mut Lent) {
+    fn see_remaining(&mut self, step: &Step, second: &mut Lent) {
+        let [_, rule, unit, ..] = step.numbers;
+        let Some(armed) = &second.unit().armed else { return };
+        self.see(ASKED, units::asked(armed, rule, unit));
+    }
+
+    fn see_offer(&mut self, step: &Step, row: Row, second: &mut Lent) {
+        let [time, root, unit, _, contracts] = step.numbers;
         let [_, verdict, grant, root_trip, firm_trip] = row;
         self.see(
             OFFERS,
@@ -156,8 +170,10 @@ impl Tally {
         let just_reached = grant == contracts && root_trip + firm_trip > 0;
         let trips = [root_trip == 1, firm_trip == 1, root_trip + firm_trip == 2, just_reached];
         (0..trips.len()).filter(|place| trips[*place]).for_each(|place| self.see(TRIPS, place));
-        let is_full = second.unit().armed.as_ref().is_some_and(|armed| armed.log.len() == LOG_PLACES);
-        self.full_logs += u64::from(is_full && grant > 0);
+        let Some(armed) = &second.unit().armed else { return };
+        self.full_logs += u64::from(armed.log.len() == LOG_PLACES && grant > 0);
+        let beside = units::beside(armed, time, root, unit);
+        (0..beside.len()).filter(|place| verdict == 0 && beside[*place]).for_each(|place| self.see(BESIDE, place));
     }
 }
 

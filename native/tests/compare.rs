@@ -60,7 +60,7 @@ fn each_single_bit_of_a_state_is_judged_alike() {
         }
     }
     assert_eq!(agree(&mut pair, Step::new(Kind::Status, &[])), [0, 0, 0, 0, 64]);
-    assert!((110_000..119_424).contains(&refused), "{refused} of the single damaged bits are refused");
+    assert!((155_000..64 * SIZE as u64).contains(&refused), "{refused} of the single damaged bits are refused");
 }
 
 #[test]

@@ -77,7 +77,7 @@ fn each_single_bit_of_a_state_is_judged_alike_by_hand() {
             m[place] ^= 1 << bit;
         }
     }
-    assert!((100_000..119_424).contains(&refused), "{refused} of the single damaged bits are refused");
+    assert!((145_000..64 * SIZE as u64).contains(&refused), "{refused} of the single damaged bits are refused");
 }
 
 #[test]

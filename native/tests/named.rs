@@ -48,9 +48,9 @@ impl Both {
 }
 
 /// Good calls of each kind but Arm, Clear and Text.
-const GOOD: [&str; 6] = ["order 50 0 0", "lockout 50 0 0", "offer 50 0 0 1 1", "remaining 50 0", "status", "profile 14"];
+const GOOD: [&str; 6] = ["order 50 0 0", "lockout 50 0 0", "offer 50 0 0 1 1", "remaining 50 0 0", "status", "profile 14"];
 /// The same with every number wrong.
-const BAD: [&str; 5] = ["order 86400000 64 4", "lockout 86400000 2 64", "offer 86400000 64 4 0 0", "remaining 86400000 256", "profile 0"];
+const BAD: [&str; 5] = ["order 86400000 64 4", "lockout 86400000 2 64", "offer 86400000 64 4 0 0", "remaining 86400000 256 4", "profile 0"];
 
 #[test]
 fn refusal_1_short_memory_and_short_room() {
@@ -166,7 +166,7 @@ fn refusal_12_time() {
             format!("order {time} 64 4"),
             format!("lockout {time} 2 64"),
             format!("offer {time} 64 4 0 0"),
-            format!("remaining {time} 256"),
+            format!("remaining {time} 256 4"),
         ];
         both.refuses(12, &lines.each_ref().map(String::as_str));
     }
@@ -177,7 +177,10 @@ fn refusal_12_time() {
 fn refusal_13_numbers_not_known() {
     let mut both = Both::armed("A,abs_vol,Q,5");
     both.refuses(13, &["order 5 1 0", "order 5 0 4", "order 5 18446744073709551615 0", "lockout 5 0 1", "lockout 5 1 1", "lockout 5 2 0"]);
-    both.refuses(13, &["offer 5 1 0 0 0", "offer 5 0 4 1 1", "offer 5 64 0 1 1", "remaining 5 1", "remaining 5 256"]);
+    both.refuses(
+        13,
+        &["offer 5 1 0 0 0", "offer 5 0 4 1 1", "offer 5 64 0 1 1", "remaining 5 1 0", "remaining 5 256 0", "remaining 5 0 4"],
+    );
     both.refuses(13, &["text 0 20", "text 3 20", "text 0 0", "text 18446744073709551615 19"]);
     Both::armed("A,abs_vol,,5,,T")
         .refuses(13, &["order 0 0 0", "order 0 0 2", "offer 0 0 0 1 1", "lockout 0 0 0"])
@@ -204,7 +207,7 @@ fn refusal_15_log_full_exactly_inside_the_longest_window() {
 #[test]
 fn example_notional_is_premium_times_contracts() {
     let mut both = Both::armed("ABCD,abs_ntnl,XYZ,29");
-    both.says("offer 0 0 0 30000 5", &[0, 0, 5]).says("remaining 0 0", &[0, 14 * DOLLAR]).says("offer 0 0 0 20000 7", &[0, 0, 7, 1]);
+    both.says("offer 0 0 0 30000 5", &[0, 0, 5]).says("remaining 0 0 0", &[0, 14 * DOLLAR]).says("offer 0 0 0 20000 7", &[0, 0, 7, 1]);
 }
 
 #[test]
@@ -219,7 +222,7 @@ fn example_burst_sustained_and_absolute_rules_together() {
     for second in 0..50 {
         both.says(&format!("offer {} 0 0 10000 100", 1_000 * second), &[0, 0, 100]);
     }
-    both.says("remaining 50000 0", &[0, 100 * DOLLAR]).says("remaining 50000 1", &[0, 0]).says("remaining 50000 2", &[0, 9_950]);
+    both.says("remaining 50000 0 0", &[0, 100 * DOLLAR]).says("remaining 50000 1 0", &[0, 0]).says("remaining 50000 2 0", &[0, 9_950]);
     both.says("offer 50000 0 0 10000 1", &[0, 0, 0, 1]);
 }
 
@@ -240,8 +243,8 @@ fn example_of_the_program() {
 #[test]
 fn b1_notional_a_minute() {
     let mut both = Both::armed("ABCD,rate_ntnl,XYZ,1000,60000");
-    both.says("offer 0 0 0 70000 140", &[0, 0, 140]).says("remaining 9 0", &[0, 20 * DOLLAR]);
-    both.says("offer 9 0 0 70000 3", &[0, 0, 2, 1]).says("remaining 9 0", &[0, 6 * DOLLAR]);
+    both.says("offer 0 0 0 70000 140", &[0, 0, 140]).says("remaining 9 0 0", &[0, 20 * DOLLAR]);
+    both.says("offer 9 0 0 70000 3", &[0, 0, 2, 1]).says("remaining 9 0 0", &[0, 6 * DOLLAR]);
 }
 
 #[test]
@@ -252,9 +255,11 @@ fn b2_three_rules_and_a_reset() {
         both.says(&format!("offer {} 0 0 {} 500", 1_000 * second, dollars * DOLLAR), &[0, 0, 500]);
     }
     both.says("offer 37000 0 0 10000 100", &[0, 0, 100]).says("offer 38000 0 0 10000 400", &[0, 0, 400]);
-    both.says("remaining 38500 0", &[0, 100]).says("remaining 38500 1", &[0, 1_000]).says("remaining 38500 2", &[0, 75_000 * DOLLAR]);
+    both.says("remaining 38500 0 0", &[0, 100]).says("remaining 38500 1 0", &[0, 1_000]).says("remaining 38500 2 0", &[0, 75_000 * DOLLAR]);
     both.says("offer 38500 0 0 10000 200", &[0, 0, 100, 1]).says("order 38500 0 0", &[0, 2]).says("order 38500 0 1", &[0]);
-    both.says("remaining 38500 0", &[0, 500]).says("remaining 38500 1", &[0, 20_000]).says("remaining 38500 2", &[0, 100_000 * DOLLAR]);
+    both.says("remaining 38500 0 0", &[0, 500])
+        .says("remaining 38500 1 0", &[0, 20_000])
+        .says("remaining 38500 2 0", &[0, 100_000 * DOLLAR]);
 }
 
 #[test]
@@ -304,12 +309,15 @@ fn b9_and_b10_root_and_firm_cut() {
 fn b11_the_shortest_window_is_100() {
     for (limit, window) in [(",", 100), (",0", 100), (",99", 100), (",101", 101), ("", 100)] {
         let mut both = Both::armed(&format!("ABCD,rate_vol,XYZ,10{limit}"));
-        both.says("offer 0 0 0 1 4", &[0, 0, 4]).says(&format!("remaining {} 0", window - 1), &[0, 6]);
-        both.says(&format!("remaining {window} 0"), &[0, 10]);
+        both.says("offer 0 0 0 1 4", &[0, 0, 4]).says(&format!("remaining {} 0 0", window - 1), &[0, 6]);
+        both.says(&format!("remaining {window} 0 0"), &[0, 10]);
     }
 }
 
 #[test]
-fn b12_a_root_rule_covers_all_units() {
-    Both::armed("ABCD,abs_vol,XYZ,100").says("offer 0 0 0 1 60", &[0, 0, 60]).says("offer 1 0 3 1 60", &[0, 0, 40, 1]);
+fn b12_each_unit_of_a_root_rule_counts_for_itself() {
+    let mut both = Both::armed("ABCD,abs_vol,XYZ,100");
+    both.says("offer 0 0 0 1 60", &[0, 0, 60]).says("offer 1 0 3 1 60", &[0, 0, 60]).says("remaining 1 0 1", &[0, 100]);
+    both.says("offer 2 0 3 1 60", &[0, 0, 40, 1]).says("order 2 0 0", &[0, 2]).says("offer 2 0 1 1 1", &[0, 2]);
+    both.says("order 3 0 1", &[0]).says("remaining 3 0 0", &[0, 100]).says("remaining 3 0 3", &[0, 100]);
 }

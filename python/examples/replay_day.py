@@ -87,18 +87,22 @@ def print_day(unit: Unit, day: list[Passed]) -> None:
 # %% How near each rule came to its limit
 
 
+def left_now(unit: Unit) -> list[int]:
+    """Of each rule, what is left of it where it has counted most: a rule of a whole root counts each unit for itself."""
+    return [min(unit.remaining(unit.clock, rule.number, of) for of in rule.scope.units()) for rule in unit.rules()]
+
+
 def least_left(profile: str, stretch: bytes) -> list[int]:
     """Of each rule, the least that was left after any event of the day."""
     unit = Unit().arm(profile)
-    rules = range(unit.rule_count)
-    least = [unit.remaining(unit.clock, rule) for rule in rules]
+    least = left_now(unit)
     for read in records(stretch):
         if not isinstance(read, Refusal):
             try:
                 unit.answer(read)
             except Refused:
                 continue
-            least = [min(least[rule], unit.remaining(unit.clock, rule)) for rule in rules]
+            least = [min(before, now) for before, now in zip(least, left_now(unit))]
     return least
 
 

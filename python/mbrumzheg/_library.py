@@ -26,7 +26,7 @@ _FUNCTIONS = {
     "mbrumzheg_order": [Numbers, Length, Number, Number, Number, Numbers],
     "mbrumzheg_lockout": [Numbers, Length, Number, Number, Number, Numbers],
     "mbrumzheg_offer": [Numbers, Length, Number, Number, Number, Number, Number, Numbers],
-    "mbrumzheg_remaining": [Numbers, Length, Number, Number, Numbers],
+    "mbrumzheg_remaining": [Numbers, Length, Number, Number, Number, Numbers],
     "mbrumzheg_status": [Numbers, Length, Numbers],
     "mbrumzheg_root_named": [Numbers, Length, Bytes, Length, Numbers],
     "mbrumzheg_root_name": [Numbers, Length, Number, Room, Length, Numbers],

@@ -1,7 +1,9 @@
 """Where the numbers of a state stand, by the map in docs/MEMORY.md: part after part, a table with its count in front."""
 
-# how many places the tables of roots and of rules and the log have; a rule and an entry take two numbers each
+# how many places the tables of roots and of rules and the log have, a rule and an entry with two numbers each, and the accounts with one: four a rule where
+# every rule is one of a whole root
 _MOST_ROOTS, _MOST_RULES, _LOG_PLACES = 64, 256, 512
+_MOST_ACCOUNTS = 4 * _MOST_RULES
 
 MARK = 0
 CLOCK = MARK + 1
@@ -11,7 +13,7 @@ ROOTS = ROOT_COUNT + 1
 RULE_COUNT = ROOTS + _MOST_ROOTS
 RULES = RULE_COUNT + 1
 TOTALS = RULES + 2 * _MOST_RULES
-FIRM_TRIPPED = TOTALS + _MOST_RULES
+FIRM_TRIPPED = TOTALS + _MOST_ACCOUNTS
 FIRM_LOCKED = FIRM_TRIPPED + 1
 ROOTS_TRIPPED = FIRM_LOCKED + 1
 ROOTS_LOCKED = ROOTS_TRIPPED + 1

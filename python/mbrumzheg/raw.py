@@ -100,10 +100,10 @@ def offer(lent: Memory, time: int, root: int, unit: int, premium: int, contracts
     return _numbers(row)
 
 
-def remaining(lent: Memory, time: int, rule: int) -> Row:
-    """What remains of a rule's limit: refusal, the number."""
+def remaining(lent: Memory, time: int, rule: int, unit: int) -> Row:
+    """What remains of a rule's limit on a unit (0 for a firm rule): refusal, the number."""
     row = _Row()
-    _library.mbrumzheg_remaining(lent, len(lent), _u64(time), _u64(rule), row)
+    _library.mbrumzheg_remaining(lent, len(lent), _u64(time), _u64(rule), _u64(unit), row)
     return _numbers(row)
 
 

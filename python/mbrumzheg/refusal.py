@@ -39,7 +39,7 @@ class Refusal(IntEnum):
 
 
 _SENTENCES = {
-    Refusal.NO_ROOM: "the lent memory has fewer than 1,866 numbers, or the room is shorter than the call asks for",
+    Refusal.NO_ROOM: "the lent memory has fewer than 2,634 numbers, or the room is shorter than the call asks for",
     Refusal.UNSOUND: "the memory is marked, but what stands in it is no sound state",
     Refusal.ARMED_ALREADY: "the memory's armed mark is not 0, so clear it before arming",
     Refusal.NOT_ARMED: "the memory is not armed, so no rule stands behind this call",

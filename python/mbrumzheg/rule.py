@@ -25,7 +25,8 @@ class Measure(IntEnum):
 
 @dataclass(frozen=True)
 class Scope:
-    """Which fills a rule covers: those of one unit of a root, of all four units of a root if there is no unit, and every fill of the firm if there is no root."""
+    """Which fills a rule covers: those of one unit of a root, of all four units of a root if there is no unit, each counted for itself, and every fill of the
+    firm if there is no root."""
 
     root: Optional[Root] = None
     unit: Optional[UnitOfRoot] = None
@@ -34,10 +35,18 @@ class Scope:
         """Whether an offer is among them."""
         return self.root in (None, offer.root) and self.unit in (None, offer.unit)
 
+    def units(self) -> tuple[UnitOfRoot, ...]:
+        """The units for which a rule of this scope keeps a count of its own, as `remaining` takes them. A firm rule keeps one for all fills, and that is the
+        count of unit 0."""
+        if self.root is None:
+            return (UnitOfRoot(0),)
+        return tuple(UnitOfRoot) if self.unit is None else (self.unit,)
+
 
 @dataclass(frozen=True)
 class Rule:
-    """A rule of the profile. Its limit is in its measure, as `remaining` answers it; its window is in milliseconds, and an absolute rule has none."""
+    """A rule of the profile. Its limit is in its measure, as `remaining` answers it, and a rule of a whole root has as much for each unit; its window is in
+    milliseconds, and an absolute rule has none."""
 
     number: int
     measure: Measure

@@ -9,7 +9,7 @@ from typing import Optional, Union
 from . import raw
 from .event import Answer, Event, Lockout, Offer, Order
 from .refusal import Refusal, Refused
-from .values import Level, Reset, Root, Time, Verdict
+from .values import Level, Reset, Root, Time, UnitOfRoot, Verdict
 from .view import View
 
 
@@ -99,10 +99,14 @@ class Unit(View):
             return Answer(self.lockout(event.time, event.level))
         return self.offer(event)
 
-    def remaining(self, time: Time, rule: int) -> int:
-        """What remains of a rule's limit at a time: ten-thousandths of a dollar, contracts or executions, by the rule's type. Rules are numbered from 0
-        by line. Neither the clock nor anything else changes."""
-        return _accepted(raw.remaining(self._memory, time, rule))[1]
+    def remaining(self, time: Time, rule: int, unit: UnitOfRoot) -> int:
+        """What remains of a rule's limit on a unit at a time: ten-thousandths of a dollar, contracts or executions, by the rule's type. Rules are numbered
+        from 0 by line. Neither the clock nor anything else changes.
+
+        Refused with UNKNOWN for a rule that the profile does not have, and for a unit that is not the rule's: for a firm rule any but CALLS_FRONT, which is 0,
+        for a rule of one unit any but its own. A rule of a whole root has all four; `Scope.units` names those of each.
+        """
+        return _accepted(raw.remaining(self._memory, time, rule, unit))[1]
 
     def status(self) -> Status:
         """How the roots stand."""

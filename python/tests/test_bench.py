@@ -20,7 +20,7 @@ class Bench(unittest.TestCase):
     """The lines B1 to B12."""
 
     def left(self, unit: Unit, ms: int, *rules: int) -> list[int]:
-        return [unit.remaining(Time(ms), rule) for rule in rules]
+        return [unit.remaining(Time(ms), rule, UnitOfRoot.CALLS_FRONT) for rule in rules]
 
     def test_b1_notional_a_minute(self) -> None:
         unit = Unit().arm("ABCD,rate_ntnl,XYZ,1000,60000")
@@ -78,7 +78,7 @@ class Bench(unittest.TestCase):
             self.assertEqual(offered(unit, 0, 1, 4), (4, False, False))
             self.assertEqual(self.left(unit, window - 1, 0) + self.left(unit, window, 0), [6, 10])
 
-    def test_b12_a_root_rule_covers_all_units(self) -> None:
+    def test_b12_each_unit_counts_for_itself(self) -> None:
         unit = Unit().arm("ABCD,abs_vol,XYZ,100")
         self.assertEqual(offered(unit, 0, 1, 60), (60, False, False))
-        self.assertEqual(offered(unit, 1, 1, 60, UnitOfRoot.PUTS_TRAILING), (40, True, False))
+        self.assertEqual(offered(unit, 1, 1, 60, UnitOfRoot.PUTS_TRAILING), (60, False, False))

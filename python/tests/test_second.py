@@ -93,8 +93,12 @@ class Pair:
         elif word == "profile":
             # the class has room enough, so it answers where the call alone was short of room
             self.same(lambda: [0, len(self.unit.profile()), 0, 0, 0], (0, *row[1:]) if row[0] == Refusal.NO_ROOM else row)
-        elif word == "remaining" and int(rest[0]) <= Time.MOST:
-            self.same(lambda: [0, self.unit.remaining(Time(int(rest[0])), int(rest[1])), 0, 0, 0], row)
+        elif word == "remaining":
+            time, rule, unit = map(int, rest)
+            if time <= Time.MOST and unit in list(UnitOfRoot):
+                self.same(lambda: [0, self.unit.remaining(Time(time), rule, UnitOfRoot(unit)), 0, 0, 0], row)
+            else:
+                self.test.assertNotEqual(row[0], 0)
         elif word in ("order", "lockout", "offer"):
             happened = event(word, list(map(int, rest)))
             if happened is None:
@@ -177,7 +181,7 @@ class Second(unittest.TestCase):
                 pair.stands(line)
             else:
                 pair.call(line)
-        wanted = ["arm 0", "arm 3", "clear 0", "remaining 0", "remaining 12", "status 0", "status 4", "text 0", "text 1", "profile 0", "profile 1", "profile 4"]
+        wanted = ["arm 0", "arm 3", "clear 0", "remaining 0", "remaining 12", "remaining 13", "status 0", "status 4", "text 0", "text 1", "profile 0", "profile 1", "profile 4"]
         wanted += [f"offer {refusal}" for refusal in (0, 4, 12, 13, 14, 15)] + ["lockout 0", "order 0", "typed", "stands armed"]
         self.assertEqual((seen["day"], [word for word in wanted if not seen[word]]), (420, []), seen)
 

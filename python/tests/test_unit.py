@@ -4,6 +4,7 @@ from __future__ import annotations
 
 import re
 import unittest
+from dataclasses import replace
 from pathlib import Path
 
 from mbrumzheg import Contracts, Event, Level, Lockout, Marks, Offer, Order, Premium, Refusal, Refused, Reset, Root, Status, Time, Unit, UnitOfRoot, Verdict
@@ -15,6 +16,11 @@ REPOSITORY = Path(__file__).parents[2]
 
 def offer(ms: int, contracts: int, root: int = 0) -> Offer:
     return Offer(Time(ms), Root(root), UnitOfRoot.CALLS_FRONT, Premium.parse("7.00"), Contracts(contracts))
+
+
+def left(unit: Unit) -> list[list[int]]:
+    """What is left of each rule on each of its units."""
+    return [[unit.remaining(unit.clock, rule.number, of) for of in rule.scope.units()] for rule in unit.rules()]
 
 
 class Units(unittest.TestCase):
@@ -41,7 +47,7 @@ class Units(unittest.TestCase):
         unit = Unit()
         for call in (lambda: unit.order(Time(0), Root(0)), lambda: unit.offer(offer(0, 1)), lambda: unit.lockout(Time(0), Level()), unit.status):
             self.refused(Refusal.NOT_ARMED, call)
-        self.refused(Refusal.NOT_ARMED, unit.remaining, Time(0), 0)
+        self.refused(Refusal.NOT_ARMED, unit.remaining, Time(0), 0, UnitOfRoot(0))
         for view in ("clock", "firm", "rule_count", "root_count", "firm_marks"):
             self.refused(Refusal.NOT_ARMED, getattr, unit, view)
         self.refused(Refusal.NOT_ARMED, unit.root_marks, Root(0))
@@ -63,14 +69,14 @@ class Units(unittest.TestCase):
         self.refused(Refusal.LOG_FULL, unit.offer, offer(1_000, 1))
         self.refused(Refusal.BAD_TIME, unit.order, Time(510), Root(0), Reset.BOTH)
         self.refused(Refusal.UNKNOWN, unit.offer, offer(1_000, 1, root=1))
-        self.refused(Refusal.UNKNOWN, unit.remaining, Time(1_000), 1)
+        self.refused(Refusal.UNKNOWN, unit.remaining, Time(1_000), 1, UnitOfRoot(0))
         self.assertEqual(unit.memory(), before)
 
     def test_saved_memory_is_tested_before_it_is_taken(self) -> None:
         unit = Unit().arm(EXAMPLE)
         unit.offer(offer(5, 10))
         again = Unit.adopt(unit.memory())
-        self.assertEqual((again.armed, again.clock, again.remaining(Time(5), 0)), (True, 5, 990))
+        self.assertEqual((again.armed, again.clock, again.remaining(Time(5), 0, UnitOfRoot(0))), (True, 5, 990))
         other = unit.copy()
         other.offer(offer(6, 990))
         self.assertEqual((other.root_marks(Root(0)).tripped, unit.root_marks(Root(0)).tripped), (True, False))
@@ -80,6 +86,20 @@ class Units(unittest.TestCase):
         self.refused(Refusal.UNSOUND, Unit.adopt, bytes(damaged))
         self.assertFalse(Unit.adopt(bytes(8 * SIZE)).armed)
         self.assertEqual(raw.status(raw.memory(0)), (1, 0, 0, 0, 0))
+
+    def test_each_unit_counts_for_itself(self) -> None:
+        unit = Unit().arm("ABCD,abs_vol,XYZ,100\nABCD,rate_vol,XYZ,90,60000,,P,T\nABCD,abs_vol,,500,,T")
+        for of, contracts in zip(UnitOfRoot, (10, 20, 30, 40)):
+            answer = unit.offer(replace(offer(0, contracts), unit=of))
+            self.assertEqual((answer.grant, answer.root_trip), (contracts, False))
+        self.assertEqual(left(unit), [[90, 80, 70, 60], [50], [400]])
+        for rule, of in [(1, UnitOfRoot.CALLS_FRONT), (2, UnitOfRoot.PUTS_FRONT), (3, UnitOfRoot.CALLS_FRONT)]:
+            self.refused(Refusal.UNKNOWN, unit.remaining, Time(0), rule, of)
+        self.assertEqual(raw.remaining(unit._memory, 0, 0, 4), (13, 0, 0, 0, 0))
+        self.assertTrue(unit.offer(replace(offer(0, 80), unit=UnitOfRoot.CALLS_TRAILING)).root_trip)
+        self.assertEqual([unit.offer(replace(offer(0, 1), unit=of)).verdict for of in UnitOfRoot], [Verdict.ROOT_LOCKED] * 4)
+        self.assertEqual(unit.order(Time(0), Root(0), Reset.SYMBOL), Verdict.FREE)
+        self.assertEqual(left(unit), [[100] * 4, [90], [320]])
 
     def test_status_and_marks_agree(self) -> None:
         unit = Unit().arm("ABCD,abs_vol,XYZ,1000\nABCD,abs_vol,QQQ,1000\nABCD,abs_vol,SPY,1")

@@ -1,8 +1,10 @@
 //! Where the numbers of a state stand, by the map in `docs/MEMORY.md`: part after part, a table with its count in front.
 
-/// How many places the tables of roots and of rules and the log have; a rule and an entry take two numbers each.
+/// How many places the tables of roots and of rules and the log have, a rule and an entry with two numbers each, and the accounts with one: four a rule
+/// where every rule is one of a whole root.
 const MOST_ROOTS: usize = 64;
 const MOST_RULES: usize = 256;
+const MOST_ACCOUNTS: usize = 4 * MOST_RULES;
 const LOG_PLACES: usize = 512;
 
 const MARK: usize = 0;
@@ -13,7 +15,7 @@ const ROOTS: usize = ROOT_COUNT + 1;
 pub const RULE_COUNT: usize = ROOTS + MOST_ROOTS;
 const RULES: usize = RULE_COUNT + 1;
 const TOTALS: usize = RULES + 2 * MOST_RULES;
-pub const FIRM_TRIPPED: usize = TOTALS + MOST_RULES;
+pub const FIRM_TRIPPED: usize = TOTALS + MOST_ACCOUNTS;
 pub const FIRM_LOCKED: usize = FIRM_TRIPPED + 1;
 pub const ROOTS_TRIPPED: usize = FIRM_LOCKED + 1;
 pub const ROOTS_LOCKED: usize = ROOTS_TRIPPED + 1;

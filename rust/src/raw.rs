@@ -25,7 +25,7 @@ mod exported {
         pub fn mbrumzheg_order(m: *mut u64, len: usize, time: u64, root: u64, reset: u64, row: *mut Row);
         pub fn mbrumzheg_lockout(m: *mut u64, len: usize, time: u64, level: u64, root: u64, row: *mut Row);
         pub fn mbrumzheg_offer(m: *mut u64, len: usize, time: u64, root: u64, unit: u64, premium: u64, contracts: u64, row: *mut Row);
-        pub fn mbrumzheg_remaining(m: *const u64, len: usize, time: u64, rule: u64, row: *mut Row);
+        pub fn mbrumzheg_remaining(m: *const u64, len: usize, time: u64, rule: u64, unit: u64, row: *mut Row);
         pub fn mbrumzheg_status(m: *const u64, len: usize, row: *mut Row);
         pub fn mbrumzheg_root_named(m: *const u64, len: usize, name: *const u8, name_len: usize, row: *mut Row);
         pub fn mbrumzheg_root_name(m: *const u64, len: usize, root: u64, room: *mut u8, room_len: usize, row: *mut Row);
@@ -93,11 +93,11 @@ pub fn offer(memory: &mut [u64], time: u64, root: u64, unit: u64, premium: u64, 
     row
 }
 
-/// What remains of a rule's limit: refusal, the number.
+/// What remains of a rule's limit on a unit (0 for a firm rule): refusal, the number.
 #[inline]
-pub fn remaining(memory: &[u64], time: u64, rule: u64) -> Row {
+pub fn remaining(memory: &[u64], time: u64, rule: u64, unit: u64) -> Row {
     let mut row = [0; 5];
-    unsafe { exported::mbrumzheg_remaining(memory.as_ptr(), memory.len(), time, rule, &mut row) };
+    unsafe { exported::mbrumzheg_remaining(memory.as_ptr(), memory.len(), time, rule, unit, &mut row) };
     row
 }
 

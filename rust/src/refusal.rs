@@ -106,7 +106,7 @@ impl Refusal {
     /// What it means, in a sentence without its first capital and full stop.
     pub const fn sentence(self) -> &'static str {
         match self {
-            Refusal::NoRoom => "the lent memory has fewer than 1,866 numbers, or the room is shorter than the call asks for",
+            Refusal::NoRoom => "the lent memory has fewer than 2,634 numbers, or the room is shorter than the call asks for",
             Refusal::Unsound => "the memory is marked, but what stands in it is no sound state",
             Refusal::ArmedAlready => "the memory's armed mark is not 0, so clear it before arming",
             Refusal::NotArmed => "the memory is not armed, so no rule stands behind this call",

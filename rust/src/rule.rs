@@ -22,10 +22,33 @@ pub enum Measure {
 pub enum Scope {
     /// Every fill of the firm.
     Firm,
-    /// All four units of a root together.
+    /// All four units of a root, each of which counts for itself.
     Root(Root),
     /// One unit of a root.
     Unit(Root, UnitOfRoot),
+}
+
+impl Scope {
+    /// The units for which a rule of this scope keeps a count of its own, as [`Unit::remaining`] takes them. A firm rule keeps one for all fills, and that
+    /// is the count of unit 0.
+    ///
+    /// ```
+    /// # use mbrumzheg::{Time, Unit};
+    /// let unit = Unit::new().arm("ABCD,abs_vol,XYZ,100\nABCD,abs_vol,XYZ,70,,,P,T\nABCD,abs_vol,,500,,T").unwrap();
+    /// let mut left = Vec::new();
+    /// for rule in unit.rules() {
+    ///     left.extend(rule.scope.units().iter().map(|of| unit.remaining(Time::START, rule.number, *of).unwrap()));
+    /// }
+    /// assert_eq!(left, [100, 100, 100, 100, 70, 500]);
+    /// ```
+    pub fn units(self) -> &'static [UnitOfRoot] {
+        let all: &'static [UnitOfRoot] = &UnitOfRoot::ALL;
+        match self {
+            Scope::Firm => &all[..1],
+            Scope::Root(_) => all,
+            Scope::Unit(_, unit) => core::slice::from_ref(&all[unit as usize]),
+        }
+    }
 }
 
 /// A rule of the profile.
@@ -35,7 +58,8 @@ pub struct Rule {
     pub number: u64,
     /// What it counts.
     pub measure: Measure,
-    /// The limit in its measure, as [`Unit::remaining`] answers it: ten-thousandths of a dollar, contracts or executions.
+    /// The limit in its measure, as [`Unit::remaining`] answers it: ten-thousandths of a dollar, contracts or executions. A rule of a whole root has as
+    /// much for each of its units.
     pub limit: u64,
     /// The window of a rate rule in milliseconds; an absolute rule counts over the whole day.
     pub window: Option<u64>,

@@ -4,7 +4,7 @@ use crate::event::{Answer, Event, Offer};
 use crate::memory::{Memory, Usual};
 use crate::raw::{self, Row};
 use crate::refusal::{ArmRefusal, Refusal, Refused};
-use crate::values::{Level, Reset, Root, Time, Verdict};
+use crate::values::{Level, Reset, Root, Time, UnitOfRoot, Verdict};
 use core::fmt;
 use core::marker::PhantomData;
 
@@ -163,10 +163,25 @@ impl<M: Memory> Unit<M, Armed> {
         }
     }
 
-    /// What remains of a rule's limit at a time: ten-thousandths of a dollar, contracts or executions, by the rule's type.
+    /// What remains of a rule's limit on a unit at a time: ten-thousandths of a dollar, contracts or executions, by the rule's type.
     /// Rules are numbered from 0 by line. Neither the clock nor anything else changes.
-    pub fn remaining(&self, time: Time, rule: u64) -> Result<u64, Refusal> {
-        accepted(raw::remaining(self.memory.numbers(), time.ms(), rule)).map(|row| row[1])
+    ///
+    /// [`Refusal::Unknown`] for a rule that the profile does not have, and for a unit that is not the rule's: for a firm rule any but 0
+    /// ([`UnitOfRoot::CallsFront`]), for a rule of one unit any but its own. A rule of a whole root has all four; [`Scope::units`](crate::Scope::units) names
+    /// those of each.
+    ///
+    /// ```
+    /// # use mbrumzheg::{Contracts, Offer, Premium, Refusal, Root, Time, Unit, UnitOfRoot};
+    /// let mut unit = Unit::new().arm("ABCD,abs_vol,XYZ,100\nABCD,abs_vol,,500,,T").unwrap();
+    /// let (time, root, premium) = (Time::START, Root::new(0)?, Premium::from_ten_thousandths(70_000)?);
+    /// unit.offer(Offer { time, root, unit: UnitOfRoot::CallsFront, premium, contracts: Contracts::new(60)? })?;
+    /// assert_eq!(UnitOfRoot::ALL.map(|of| unit.remaining(time, 0, of)), [Ok(40), Ok(100), Ok(100), Ok(100)]);
+    /// assert_eq!(unit.remaining(time, 1, UnitOfRoot::CallsFront), Ok(440));
+    /// assert_eq!(unit.remaining(time, 1, UnitOfRoot::PutsFront), Err(Refusal::Unknown));
+    /// # Ok::<(), Refusal>(())
+    /// ```
+    pub fn remaining(&self, time: Time, rule: u64, unit: UnitOfRoot) -> Result<u64, Refusal> {
+        accepted(raw::remaining(self.memory.numbers(), time.ms(), rule, unit.number())).map(|row| row[1])
     }
 
     /// How the roots stand.

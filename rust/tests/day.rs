@@ -1,35 +1,25 @@
 //! The scope paper's example, the bench table's lines, and what the types promise of a unit.
+mod common;
+
+use common::{armed, contracts, offer, root, time, ArmedUnit};
 use mbrumzheg::{
-    Adopted, Armed, Contracts, Event, Level, Marks, Offer, Premium, RecordWriter, Records, Reset, Root, Status, Time, Unarmed, Unit,
-    UnitOfRoot, Verdict, SIZE,
+    Adopted, Armed, Event, Level, Marks, Offer, Premium, RecordWriter, Records, Reset, Status, Unarmed, Unit, UnitOfRoot, Verdict, SIZE,
 };
 
-fn time(ms: u64) -> Time {
-    Time::from_ms(ms).expect("a time of the day")
-}
-
-fn root() -> Root {
-    Root::new(0).expect("a root number")
-}
-
-fn offer(ms: u64, unit: UnitOfRoot, dollars: u64, contracts: u64) -> Offer {
-    let premium = Premium::from_ten_thousandths(dollars * 10_000).expect("a premium");
-    Offer { time: time(ms), root: root(), unit, premium, contracts: Contracts::new(contracts).expect("contracts") }
-}
-
-fn armed(profile: &str) -> Unit<Box<[u64]>, Armed> {
-    Unit::new().arm(profile).expect("the profile is accepted")
-}
-
 /// Grant, root trip and firm trip of an offer of calls in the front month.
-fn fill(unit: &mut Unit<Box<[u64]>, Armed>, ms: u64, dollars: u64, contracts: u64) -> (u64, bool, bool) {
-    let answer = unit.offer(offer(ms, UnitOfRoot::CallsFront, dollars, contracts)).expect("not refused");
+fn fill(unit: &mut ArmedUnit, ms: u64, dollars: u64, count: u64) -> (u64, bool, bool) {
+    let answer = unit.offer(offer(ms, UnitOfRoot::CallsFront, dollars, count)).expect("not refused");
     assert!(answer.verdict.passes());
     (answer.grant, answer.root_trip, answer.firm_trip)
 }
 
+/// What remains of a rule on calls in the front month.
+fn left(unit: &ArmedUnit, ms: u64, rule: u64) -> u64 {
+    unit.remaining(time(ms), rule, UnitOfRoot::CallsFront).expect("not refused")
+}
+
 /// The program's line for an event.
-fn line(unit: &mut Unit<Box<[u64]>, Armed>, place: usize, event: Event) -> String {
+fn line(unit: &mut ArmedUnit, place: usize, event: Event) -> String {
     match unit.answer(event) {
         Ok(a) => {
             let (root_trip, firm_trip) = (u8::from(a.root_trip), u8::from(a.firm_trip));
@@ -45,7 +35,7 @@ fn the_example_by_way_of_its_records() {
     for event in [
         Event::Offer(offer(0, UnitOfRoot::CallsFront, 7, 950)),
         Event::Offer(offer(10, UnitOfRoot::CallsFront, 7, 200)),
-        Event::Order { time: time(20), root: root(), reset: Reset::None },
+        Event::Order { time: time(20), root: root(0), reset: Reset::None },
     ] {
         writer.write(&event).expect("memory takes bytes");
     }
@@ -65,7 +55,7 @@ fn bench_lines_of_one_root() {
     let mut b1 = armed("ABCD,rate_ntnl,XYZ,1000,60000");
     assert_eq!(fill(&mut b1, 0, 7, 140), (140, false, false));
     assert_eq!(fill(&mut b1, 1, 7, 3), (2, true, false));
-    assert_eq!(b1.remaining(time(1), 0), Ok(60_000), "$6 are left of $1,000");
+    assert_eq!(left(&b1, 1, 0), 60_000, "$6 are left of $1,000");
 
     let mut b3 = armed("ABCD,abs_vol,XYZ,1000");
     assert_eq!(fill(&mut b3, 0, 1, 950), (950, false, false));
@@ -86,7 +76,7 @@ fn bench_lines_of_one_root() {
     let mut b12 = armed("ABCD,abs_vol,XYZ,100");
     assert_eq!(fill(&mut b12, 0, 1, 60), (60, false, false));
     let answer = b12.offer(offer(0, UnitOfRoot::PutsTrailing, 1, 60)).expect("not refused");
-    assert_eq!((answer.grant, answer.cuts(Contracts::new(60).expect("contracts"))), (40, true));
+    assert_eq!((answer.grant, answer.root_trip, answer.cuts(contracts(60))), (60, false, false));
 }
 
 #[test]
@@ -99,10 +89,10 @@ fn bench_lines_of_three_rules_and_of_counts() {
     assert_eq!(fill(&mut b2, 36_000, 1, 500), (500, false, false));
     assert_eq!(fill(&mut b2, 37_000, 1, 100), (100, false, false));
     assert_eq!(fill(&mut b2, 38_000, 16, 400), (400, false, false));
-    assert_eq!([0, 1, 2].map(|rule| b2.remaining(time(38_000), rule)), [Ok(100), Ok(1_000), Ok(750_000_000)]);
+    assert_eq!([0, 1, 2].map(|rule| left(&b2, 38_000, rule)), [100, 1_000, 750_000_000]);
     assert_eq!(fill(&mut b2, 38_000, 1, 200), (100, true, false));
-    assert_eq!(b2.order(time(38_000), root(), Reset::Symbol), Ok(Verdict::Free));
-    assert_eq!([0, 1, 2].map(|rule| b2.remaining(time(38_000), rule)), [Ok(500), Ok(20_000), Ok(1_000_000_000)]);
+    assert_eq!(b2.order(time(38_000), root(0), Reset::Symbol), Ok(Verdict::Free));
+    assert_eq!([0, 1, 2].map(|rule| left(&b2, 38_000, rule)), [500, 20_000, 1_000_000_000]);
 
     let mut b7 = armed("ABCD,abs_count,XYZ,10");
     for ms in 0..9 {
@@ -117,8 +107,7 @@ fn bench_lines_of_three_rules_and_of_counts() {
     for (window, shortest) in [("", 100), ("0", 100), ("99", 100), ("101", 101)] {
         let mut b11 = armed(&format!("ABCD,rate_count,XYZ,2,{window}"));
         assert_eq!(fill(&mut b11, 0, 1, 1), (1, false, false));
-        assert_eq!(b11.remaining(time(shortest - 1), 0), Ok(1), "window {window}");
-        assert_eq!(b11.remaining(time(shortest), 0), Ok(2), "window {window}");
+        assert_eq!((left(&b11, shortest - 1, 0), left(&b11, shortest, 0)), (1, 2), "window {window}");
     }
 }
 
@@ -139,12 +128,12 @@ fn status_and_marks_agree() {
     assert_eq!(unit.status(), Ok(none));
 
     assert_eq!(fill(&mut unit, 5, 1, 1001), (1000, true, false));
-    assert_eq!(unit.lockout(time(6), Level::Root(root())), Ok(Verdict::Free));
+    assert_eq!(unit.lockout(time(6), Level::Root(root(0))), Ok(Verdict::Free));
     let spy = unit.root_named("SPY").expect("the profile has it");
     assert_eq!(unit.lockout(time(7), Level::Root(spy)), Ok(Verdict::Free));
-    let status = Status { tripped: 1, locked_by_user: 2, locked: 2, lowest_locked: Some(root()) };
+    let status = Status { tripped: 1, locked_by_user: 2, locked: 2, lowest_locked: Some(root(0)) };
     assert_eq!((unit.status(), unit.clock()), (Ok(status), time(7)));
-    assert_eq!(unit.root_marks(root()), Marks { tripped: true, locked_by_user: true });
+    assert_eq!(unit.root_marks(root(0)), Marks { tripped: true, locked_by_user: true });
     assert_eq!(unit.root_marks(spy), Marks { tripped: false, locked_by_user: true });
     assert!(!unit.root_marks(unit.root_named("QQQ").expect("the profile has it")).locked());
 
@@ -157,7 +146,7 @@ fn status_and_marks_agree() {
 
 #[test]
 fn records_of_all_kinds_come_back() {
-    let roots = [0, 1, 63].map(|n| Root::new(n).expect("a root number"));
+    let roots = [0, 1, 63].map(root);
     let mut events = Vec::new();
     for (root, ms) in roots.into_iter().zip([0, 12_345_678, 86_399_999]) {
         events.extend(Reset::ALL.map(|reset| Event::Order { time: time(ms), root, reset }));
@@ -167,7 +156,7 @@ fn records_of_all_kinds_come_back() {
                 root,
                 unit,
                 premium: Premium::from_ten_thousandths(100_000_000).expect("the highest"),
-                contracts: Contracts::new(1_000_000).expect("the most"),
+                contracts: contracts(1_000_000),
             })
         }));
         events.push(Event::Lockout { time: time(ms), level: Level::Root(root) });
@@ -206,7 +195,7 @@ fn a_unit_stands_on_its_own_or_on_lent_memory() {
     let mut lent = vec![7; SIZE + 10];
     let unit: Unit<&mut [u64], Unarmed> = Unit::cleared(&mut lent[..]).expect("long enough");
     let mut unit = unit.arm("ABCD,abs_vol,XYZ,1000").expect("accepted");
-    assert_eq!(unit.order(time(1), root(), Reset::None), Ok(Verdict::Free));
+    assert_eq!(unit.order(time(1), root(0), Reset::None), Ok(Verdict::Free));
     assert_eq!(lent[SIZE..], [7; 10], "what is lent beyond the state is untouched");
     assert!(matches!(Unit::adopt(&mut lent[..]), Ok(Adopted::Armed(_))));
 }

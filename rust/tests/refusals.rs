@@ -1,24 +1,14 @@
 //! Each refusal from 1 to 16 comes up where it should, and changes nothing.
+mod common;
+
+use common::{armed, root, time};
 use mbrumzheg::{raw, Adopted, Contracts, Event, Level, Offer, Premium, Refusal, Reset, Root, Time, Unit, UnitOfRoot, Verdict, SIZE};
 
 const EXAMPLE: &str = "ABCD,abs_vol,XYZ,1000,0";
 
-fn time(ms: u64) -> Time {
-    Time::from_ms(ms).expect("a time of the day")
-}
-
-fn root(number: u64) -> Root {
-    Root::new(number).expect("a root number")
-}
-
-fn offer(ms: u64, root_number: u64, contracts: u64) -> Offer {
-    Offer {
-        time: time(ms),
-        root: root(root_number),
-        unit: UnitOfRoot::PutsTrailing,
-        premium: Premium::from_ten_thousandths(10_000).expect("a premium"),
-        contracts: Contracts::new(contracts).expect("contracts"),
-    }
+/// An offer at $1, on a root that the profile may not have.
+fn offer(ms: u64, on: u64, contracts: u64) -> Offer {
+    Offer { root: root(on), ..common::offer(ms, UnitOfRoot::PutsTrailing, 1, contracts) }
 }
 
 /// What arming a profile is refused with, and at which line.
@@ -57,12 +47,12 @@ fn short_memory_is_refused_with_1_and_given_back() {
 
 #[test]
 fn room_that_is_short_for_a_profile_is_refused_with_1_and_the_size_after_4_and_2() {
-    let mut memory = Unit::new().arm(EXAMPLE).expect("accepted").into_memory();
+    let mut memory = armed(EXAMPLE).into_memory();
     let mut room = [9; 22];
     assert_eq!(raw::profile(&memory, &mut []), [1, 22, 0, 0, 0]);
     assert_eq!((raw::profile(&memory, &mut room[..21]), room), ([1, 22, 0, 0, 0], [9; 22]));
     assert_eq!((raw::profile(&memory, &mut room), &room), ([0, 22, 0, 0, 0], b"ABCD,abs_vol,XYZ,1000\n"));
-    let unit = Unit::new().arm(EXAMPLE).expect("accepted");
+    let unit = armed(EXAMPLE);
     let refused = unit.profile_into(&mut room[..21]).expect_err("one byte is missing");
     assert_eq!((Refusal::from(refused), refused.needed), (Refusal::NoRoom, Some(22)));
     assert_eq!(refused.to_string(), format!("{} (it takes 22 bytes)", Refusal::NoRoom));
@@ -73,7 +63,7 @@ fn room_that_is_short_for_a_profile_is_refused_with_1_and_the_size_after_4_and_2
 
 #[test]
 fn memory_without_a_sound_state_is_refused_with_2() {
-    let mut memory = Unit::new().arm(EXAMPLE).expect("accepted").into_memory();
+    let mut memory = armed(EXAMPLE).into_memory();
     memory[SIZE - 1] = 7;
     let refused = Unit::adopt(memory).expect_err("a place that is not used holds a number");
     assert_eq!((refused.why, refused.kept[SIZE - 1]), (Refusal::Unsound, 7));
@@ -82,13 +72,13 @@ fn memory_without_a_sound_state_is_refused_with_2() {
 #[test]
 fn arming_armed_memory_is_3_and_calls_on_unarmed_memory_are_4() {
     // the types leave no way to these two, so the calls themselves are asked
-    let mut memory = Unit::new().arm(EXAMPLE).expect("accepted").into_memory();
+    let mut memory = armed(EXAMPLE).into_memory();
     assert_eq!(raw::arm(&mut memory, EXAMPLE.as_bytes()), [3, 0, 0, 0, 0]);
     let mut zeros = vec![0; SIZE];
     assert_eq!(raw::order(&mut zeros, 0, 0, 0), [4, 0, 0, 0, 0]);
     assert_eq!(raw::offer(&mut zeros, 0, 0, 0, 1, 1), [4, 0, 0, 0, 0]);
     assert_eq!(raw::lockout(&mut zeros, 0, 1, 0), [4, 0, 0, 0, 0]);
-    assert_eq!(raw::remaining(&zeros, 0, 0), [4, 0, 0, 0, 0]);
+    assert_eq!(raw::remaining(&zeros, 0, 0, 0), [4, 0, 0, 0, 0]);
     assert_eq!(raw::status(&zeros), [4, 0, 0, 0, 0]);
 }
 
@@ -120,16 +110,17 @@ fn times_numbers_and_amounts_are_refused_with_12_13_and_14() {
     for n in [0, 1_000_001, u64::MAX] {
         assert_eq!(Contracts::new(n), Err(Refusal::BadAmount));
     }
-    let mut unit = Unit::new().arm(EXAMPLE).expect("accepted");
+    let mut unit = armed(EXAMPLE);
     assert_eq!(unit.order(time(50), root(0), Reset::None), Ok(Verdict::Free));
     let before = unit.memory().to_vec();
     assert_eq!(unit.order(time(49), root(0), Reset::Both), Err(Refusal::BadTime));
     assert_eq!(unit.lockout(time(49), Level::Firm), Err(Refusal::BadTime));
-    assert_eq!(unit.remaining(time(49), 0), Err(Refusal::BadTime));
+    assert_eq!(unit.remaining(time(49), 0, UnitOfRoot::CallsFront), Err(Refusal::BadTime));
     assert_eq!(unit.offer(offer(60, 1, 1)), Err(Refusal::Unknown));
     assert_eq!(unit.lockout(time(60), Level::Root(root(1))), Err(Refusal::Unknown));
-    assert_eq!(unit.remaining(time(60), 1), Err(Refusal::Unknown));
-    assert_eq!(unit.remaining(time(60), u64::MAX), Err(Refusal::Unknown));
+    for rule in [1, u64::MAX] {
+        assert_eq!(unit.remaining(time(60), rule, UnitOfRoot::CallsFront), Err(Refusal::Unknown));
+    }
     assert_eq!(unit.memory(), before, "refusals change nothing");
     let mut memory = unit.into_memory();
     assert_eq!(raw::offer(&mut memory, 60, 0, 0, 0, 1), [14, 0, 0, 0, 0]);
@@ -137,7 +128,7 @@ fn times_numbers_and_amounts_are_refused_with_12_13_and_14() {
 
 #[test]
 fn the_513th_fill_inside_the_longest_window_is_refused_with_15() {
-    let mut unit = Unit::new().arm("ABCD,rate_vol,XYZ,1000000,60000").expect("accepted");
+    let mut unit = armed("ABCD,rate_vol,XYZ,1000000,60000");
     for n in 0..512 {
         assert_eq!(unit.offer(offer(n, 0, 1)).map(|answer| answer.grant), Ok(1));
     }

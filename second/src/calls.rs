@@ -53,7 +53,7 @@ impl Armed {
             return Ok(EventAnswer::verdict(verdict));
         }
         let allowances = self.allowances(&offer);
-        let grant = allowances.iter().map(|(_, allowance)| *allowance).min().unwrap_or(offer.contracts);
+        let grant = allowances.iter().map(|allowed| allowed.allowance).min().unwrap_or(offer.contracts);
         if grant > 0 && self.log_is_full(offer.time) {
             return Err(15);
         }
@@ -67,14 +67,12 @@ impl Armed {
         Ok(EventAnswer { refusal: 0, verdict: OPEN, grant, root_trip: root_trip.into(), firm_trip: firm_trip.into() })
     }
 
-    /// What a rule leaves at a time.
-    pub(crate) fn remaining(&self, time: u64, rule: u64) -> Result<u64, u64> {
+    /// What an account of a rule leaves at a time.
+    pub(crate) fn remaining(&self, time: u64, rule: u64, account: u64) -> Result<u64, u64> {
         self.check_time(time)?;
-        if rule >= self.profile.rules.len() as u64 {
-            return Err(13);
-        }
-        let place = rule as usize;
-        Ok(self.profile.rules[place].limit.saturating_sub(self.counted(place, time)))
+        let place = usize::try_from(rule).map_err(|_| 13u64)?;
+        let known = self.profile.rules.get(place).filter(|rule| rule.has_account(account)).ok_or(13u64)?;
+        Ok(known.limit.saturating_sub(self.counted(place, account, time)))
     }
 
     /// How many roots are marked, and the lowest that is locked.

@@ -13,16 +13,24 @@ pub(crate) struct Offer {
     pub contracts: u64,
 }
 
+/// What a rule allows of an offer, by the account that counts it.
+pub(crate) struct Allowed {
+    /// The rule's line, from 0.
+    place: usize,
+    account: u64,
+    pub allowance: u64,
+}
+
 impl Armed {
-    /// The counted amount of a rule: its total, or the sum over its window.
-    pub(crate) fn counted(&self, place: usize, time: u64) -> u64 {
+    /// The counted amount of a rule's account: its total, or the sum over its window.
+    pub(crate) fn counted(&self, place: usize, account: u64, time: u64) -> u64 {
         let rule = &self.profile.rules[place];
         match rule.window {
-            None => self.totals[place],
+            None => self.totals[place][account as usize],
             Some(window) => self
                 .log
                 .iter()
-                .filter(|entry| rule.covers(entry.root, entry.unit))
+                .filter(|entry| rule.account(entry.root, entry.unit) == Some(account))
                 .filter(|entry| if rule.is_firm() { entry.counts_for_firm } else { entry.counts_for_root })
                 .filter(|entry| entry.time + window > time)
                 .map(|entry| added(rule, entry.premium, entry.contracts))
@@ -30,13 +38,14 @@ impl Armed {
         }
     }
 
-    /// The place and the allowance of each rule that covers the offer.
-    pub(crate) fn allowances(&self, offer: &Offer) -> Vec<(usize, u64)> {
-        let covering = self.profile.rules.iter().enumerate().filter(|(_, rule)| rule.covers(offer.root, offer.unit));
+    /// What each rule that covers the offer allows.
+    pub(crate) fn allowances(&self, offer: &Offer) -> Vec<Allowed> {
+        let rules = self.profile.rules.iter().enumerate();
+        let covering = rules.filter_map(|(place, rule)| Some((place, rule, rule.account(offer.root, offer.unit)?)));
         covering
-            .map(|(place, rule)| {
-                let counted = self.counted(place, offer.time);
-                (place, allowance(rule, counted, offer.premium, offer.contracts))
+            .map(|(place, rule, account)| {
+                let counted = self.counted(place, account, offer.time);
+                Allowed { place, account, allowance: allowance(rule, counted, offer.premium, offer.contracts) }
             })
             .collect()
     }
@@ -49,9 +58,9 @@ impl Armed {
 
     /// Counts a fill: totals of covering absolute rules rise, and the log takes it if there is a rate rule.
     pub(crate) fn fill(&mut self, offer: &Offer, grant: u64) {
-        for (rule, total) in self.profile.rules.iter().zip(&mut self.totals) {
-            if rule.window.is_none() && rule.covers(offer.root, offer.unit) {
-                *total += added(rule, offer.premium, grant);
+        for (rule, totals) in self.profile.rules.iter().zip(&mut self.totals) {
+            if let (None, Some(account)) = (rule.window, rule.account(offer.root, offer.unit)) {
+                totals[account as usize] += added(rule, offer.premium, grant);
             }
         }
         if let Some(longest) = self.profile.longest_window() {
@@ -72,13 +81,13 @@ impl Armed {
     }
 
     /// Does a root rule trip, and does a firm rule?
-    pub(crate) fn trips(&self, allowances: &[(usize, u64)], grant: u64, contracts: u64) -> (bool, bool) {
+    pub(crate) fn trips(&self, allowances: &[Allowed], grant: u64, contracts: u64) -> (bool, bool) {
         let mut root_trip = false;
         let mut firm_trip = false;
-        for &(place, allowance) in allowances {
-            let rule = &self.profile.rules[place];
-            let cuts = grant < contracts && allowance == grant;
-            let reached = rule.window.is_none() && self.totals[place] == rule.limit;
+        for allowed in allowances {
+            let rule = &self.profile.rules[allowed.place];
+            let cuts = grant < contracts && allowed.allowance == grant;
+            let reached = rule.window.is_none() && self.totals[allowed.place][allowed.account as usize] == rule.limit;
             if cuts || reached {
                 root_trip |= !rule.is_firm();
                 firm_trip |= rule.is_firm();

@@ -14,6 +14,7 @@ pub mod profile_out;
 pub mod records;
 mod rule;
 mod state;
+pub mod totals;
 pub mod unit;
 
 /// The last millisecond of the day.

@@ -6,11 +6,9 @@ use crate::place::*;
 use crate::profile::{self, Level, Measure, Profile, Rule, UNITS};
 use crate::profile_out;
 use crate::rule::DOLLAR;
+use crate::totals;
 use crate::unit::{Armed, Entry, Marks, LOG_PLACES};
 use crate::{is_contracts, is_premium, is_time};
-
-/// The largest total of a rule.
-const MOST_TOTAL: u64 = 1_000_000_000_000_000;
 
 /// What the state's numbers hold.
 #[derive(Clone, Debug, PartialEq, Eq)]
@@ -41,7 +39,7 @@ pub fn write(armed: &Armed, numbers: &mut [u64]) {
     numbers[FIRM] = name_number(&profile.firm);
     write_table(&mut numbers[ROOT_COUNT..], profile.roots.iter().map(|name| [name_number(name)]));
     write_table(&mut numbers[RULE_COUNT..], profile.rules.iter().map(rule_numbers));
-    numbers[TOTALS..][..armed.totals.len()].copy_from_slice(&armed.totals);
+    totals::write(&profile.rules, &armed.totals, &mut numbers[TOTALS..FIRM_TRIPPED]);
     write_locks(armed, numbers);
     write_table(&mut numbers[ENTRY_COUNT..], armed.log.iter().map(entry_numbers));
 }
@@ -117,30 +115,22 @@ fn armed_of(numbers: &[u64]) -> Option<Armed> {
     let clock = Some(numbers[CLOCK]).filter(|clock| is_time(*clock))?;
     let roots = rows_of(&numbers[ROOT_COUNT..RULE_COUNT], 1)?;
     let rules = rows_of(&numbers[RULE_COUNT..TOTALS], 2)?;
-    let totals = used(&numbers[TOTALS..FIRM_TRIPPED], numbers[RULE_COUNT], 1)?;
     let log = rows_of(&numbers[ENTRY_COUNT..NUMBERS], 2)?;
     let profile = profile_of(numbers[FIRM], roots, rules)?;
-    if !totals.iter().zip(&profile.rules).all(|(total, rule)| is_total(*total, rule)) {
-        return None;
-    }
+    let totals = totals::read(&profile.rules, &numbers[TOTALS..FIRM_TRIPPED])?;
     let log = log_of(log, clock, roots.len() as u64)?;
     if profile.longest_window().is_none() && !log.is_empty() {
         return None;
     }
     let firm = Marks { tripped: flag(numbers[FIRM_TRIPPED])?, user: flag(numbers[FIRM_LOCKED])? };
     let roots = marks_of(numbers[ROOTS_TRIPPED], numbers[ROOTS_LOCKED], roots.len())?;
-    Some(Armed { profile, clock, totals: totals.to_vec(), firm, roots, log })
+    Some(Armed { profile, clock, totals, firm, roots, log })
 }
 
 /// The rows of a table that has their count in front, if there are so many places and the others hold 0.
 fn rows_of(table: &[u64], numbers_each: usize) -> Option<&[u64]> {
     let (count, places) = table.split_first()?;
-    used(places, *count, numbers_each)
-}
-
-/// The first so many of some places, if there are so many and the others hold 0.
-fn used(places: &[u64], count: u64, numbers_each: usize) -> Option<&[u64]> {
-    let length = usize::try_from(count).ok()?.checked_mul(numbers_each)?;
+    let length = usize::try_from(*count).ok()?.checked_mul(numbers_each)?;
     let (used, unused) = places.split_at_checked(length)?;
     unused.iter().all(|number| *number == 0).then_some(used)
 }
@@ -186,11 +176,6 @@ fn rule_of(numbers: &[u64]) -> Option<Rule> {
         _ => return None,
     };
     (spare == 0).then_some(Rule { measure, window, limit, level })
-}
-
-/// May the rule have this total? A rate rule has none, so its place holds 0.
-fn is_total(total: u64, rule: &Rule) -> bool {
-    total <= if rule.window.is_some() { 0 } else { MOST_TOTAL }
 }
 
 /// The log, if its entries are in range, in order of time and none later than the clock.

@@ -1,6 +1,7 @@
 //! Where the numbers of a state stand in lent memory, by docs/MEMORY.md: part after part, a table with its count in front.
 
 use crate::profile::{MOST_ROOTS, MOST_RULES};
+use crate::totals;
 use crate::unit::LOG_PLACES;
 
 /// The mark: 0 not armed, 1 armed.
@@ -17,10 +18,10 @@ pub const ROOTS: usize = ROOT_COUNT + 1;
 pub const RULE_COUNT: usize = ROOTS + MOST_ROOTS;
 /// Where the rules begin, two numbers each.
 pub const RULES: usize = RULE_COUNT + 1;
-/// Where the totals begin.
+/// Where the totals begin, as `totals` places them.
 pub const TOTALS: usize = RULES + 2 * MOST_RULES;
 /// Has the firm tripped?
-pub const FIRM_TRIPPED: usize = TOTALS + MOST_RULES;
+pub const FIRM_TRIPPED: usize = TOTALS + totals::PLACES;
 /// Has the user locked the firm?
 pub const FIRM_LOCKED: usize = FIRM_TRIPPED + 1;
 /// The word of roots that have tripped.

@@ -32,7 +32,7 @@ pub enum Measure {
 pub enum Level {
     /// Every fill of the firm.
     Firm,
-    /// A root, numbered from 0, and one of its units or all four together.
+    /// A root, numbered from 0, and one of its units, or all four, each counted for itself.
     Root { root: u64, unit: Option<u64> },
 }
 
@@ -58,10 +58,23 @@ impl Rule {
 
     /// Does the rule cover a fill on this root and unit?
     pub fn covers(&self, root: u64, unit: u64) -> bool {
+        self.account(root, unit).is_some()
+    }
+
+    /// The account that counts a fill on this root and unit: that of the unit, or 0 for a firm rule; none if the rule doesn't cover it.
+    pub fn account(&self, root: u64, unit: u64) -> Option<u64> {
         match self.level {
-            Level::Firm => true,
-            Level::Root { root: own, unit: None } => own == root,
-            Level::Root { root: own, unit: Some(own_unit) } => own == root && own_unit == unit,
+            Level::Firm => Some(0),
+            Level::Root { root: own, .. } => (own == root && self.has_account(unit)).then_some(unit),
+        }
+    }
+
+    /// Has the rule this account: 0 for a firm rule, its own unit for a rule of one unit, any of the four for another root rule?
+    pub fn has_account(&self, number: u64) -> bool {
+        match self.level {
+            Level::Firm => number == 0,
+            Level::Root { unit: None, .. } => number < UNITS,
+            Level::Root { unit: Some(own), .. } => number == own,
         }
     }
 

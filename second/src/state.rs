@@ -3,7 +3,7 @@
 use std::collections::VecDeque;
 
 use crate::is_time;
-use crate::profile::Profile;
+use crate::profile::{Profile, UNITS};
 
 /// The places of the log.
 pub const LOG_PLACES: usize = 512;
@@ -40,13 +40,16 @@ pub struct Entry {
     pub counts_for_firm: bool,
 }
 
+/// A rule's totals by account.
+pub type Totals = [u64; UNITS as usize];
+
 /// The state of an armed unit.
 #[derive(Clone, Debug, PartialEq, Eq)]
 pub struct Armed {
     pub profile: Profile,
     pub clock: u64,
-    /// One total for each rule by line; a rate rule's stays 0.
-    pub totals: Vec<u64>,
+    /// The totals of each rule by line, one for each of its accounts; all others stay 0, and a rate rule has none.
+    pub totals: Vec<Totals>,
     pub firm: Marks,
     pub roots: Vec<Marks>,
     pub log: VecDeque<Entry>,
@@ -57,7 +60,7 @@ impl Armed {
     pub(crate) fn new(profile: Profile) -> Armed {
         Armed {
             clock: 0,
-            totals: vec![0; profile.rules.len()],
+            totals: vec![Totals::default(); profile.rules.len()],
             firm: Marks::default(),
             roots: vec![Marks::default(); profile.roots.len()],
             log: VecDeque::new(),
@@ -92,9 +95,9 @@ impl Armed {
 
     /// SYMBOL: the totals of the root's rules, the root flags of its entries, its trip and lockout.
     pub(crate) fn reset_root(&mut self, root: u64) {
-        for (rule, total) in self.profile.rules.iter().zip(&mut self.totals) {
+        for (rule, totals) in self.profile.rules.iter().zip(&mut self.totals) {
             if rule.is_of_root(root) {
-                *total = 0;
+                *totals = Totals::default();
             }
         }
         for entry in self.log.iter_mut().filter(|entry| entry.root == root) {
@@ -105,9 +108,9 @@ impl Armed {
 
     /// FIRM: the totals of firm rules, the firm flags of all entries, the firm's marks.
     pub(crate) fn reset_firm(&mut self) {
-        for (rule, total) in self.profile.rules.iter().zip(&mut self.totals) {
+        for (rule, totals) in self.profile.rules.iter().zip(&mut self.totals) {
             if rule.is_firm() {
-                *total = 0;
+                *totals = Totals::default();
             }
         }
         for entry in &mut self.log {

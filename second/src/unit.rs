@@ -5,7 +5,7 @@ pub use crate::calls::NO_ROOT;
 use crate::counting::Offer;
 use crate::profile;
 use crate::profile_out;
-pub use crate::state::{Armed, Entry, Marks, FIRM_LOCKED, LOG_PLACES, OPEN, ROOT_LOCKED};
+pub use crate::state::{Armed, Entry, Marks, Totals, FIRM_LOCKED, LOG_PLACES, OPEN, ROOT_LOCKED};
 
 /// The text for verdict 1.
 pub const FIRM_TEXT: &[u8] = b"f: RiskMgmtFirmLevel";
@@ -64,9 +64,9 @@ impl Unit {
         self.event(|armed| armed.offer(Offer { time, root, unit, premium, contracts }))
     }
 
-    /// Remaining amount of a rule, numbered from 0 by line.
-    pub fn remaining(&self, time: u64, rule: u64) -> RemainingAnswer {
-        let result = self.armed.as_ref().ok_or(4).and_then(|armed| armed.remaining(time, rule));
+    /// Remaining amount of a rule, numbered from 0 by line, on a unit: the rule's own, or 0 for a firm rule.
+    pub fn remaining(&self, time: u64, rule: u64, unit: u64) -> RemainingAnswer {
+        let result = self.armed.as_ref().ok_or(4).and_then(|armed| armed.remaining(time, rule, unit));
         match result {
             Ok(value) => RemainingAnswer { refusal: 0, value },
             Err(refusal) => RemainingAnswer { refusal, value: 0 },

@@ -1,4 +1,4 @@
-//! The bench table B1 to B12 of document 01.
+//! The bench table B1 to B12 of document 01, with B12 as document 02's request 3 has it.
 
 use second::profile::{self, Measure};
 use second::unit::Unit;
@@ -17,9 +17,9 @@ const DOLLAR: u64 = 10_000;
 fn b1_notional_a_minute() {
     let mut unit = armed("ABCD,rate_ntnl,XYZ,1000,60000");
     assert_eq!(unit.offer(0, 0, 0, 7 * DOLLAR, 140).numbers(), [0, 0, 140, 0, 0]);
-    assert_eq!(unit.remaining(10, 0).numbers(), [0, 20 * DOLLAR]);
+    assert_eq!(unit.remaining(10, 0, 0).numbers(), [0, 20 * DOLLAR]);
     assert_eq!(unit.offer(10, 0, 0, 7 * DOLLAR, 3).numbers(), [0, 0, 2, 1, 0]);
-    assert_eq!(unit.remaining(10, 0).numbers(), [0, 6 * DOLLAR]);
+    assert_eq!(unit.remaining(10, 0, 0).numbers(), [0, 6 * DOLLAR]);
 }
 
 #[test]
@@ -31,7 +31,7 @@ fn b2_three_rules_and_a_reset() {
     }
     assert_eq!(unit.offer(37_000, 0, 0, DOLLAR, 100).grant, 100);
     assert_eq!(unit.offer(38_000, 0, 0, DOLLAR, 400).grant, 400);
-    let left = |unit: &Unit| [0, 1, 2].map(|rule| unit.remaining(38_500, rule).value);
+    let left = |unit: &Unit| [0, 1, 2].map(|rule| unit.remaining(38_500, rule, 0).value);
     assert_eq!(left(&unit), [100, 1_000, 75_000 * DOLLAR]);
     assert_eq!(unit.offer(38_500, 0, 0, DOLLAR, 200).numbers(), [0, 0, 100, 1, 0]);
     assert_eq!(unit.order(38_500, 0, 0).numbers(), [0, 2, 0, 0, 0]);
@@ -118,8 +118,8 @@ fn b11_shortest_window() {
 }
 
 #[test]
-fn b12_root_rule_covers_all_units() {
+fn b12_each_unit_counts_for_itself() {
     let mut unit = armed("ABCD,abs_vol,XYZ,100");
     assert_eq!(unit.offer(0, 0, 0, DOLLAR, 60).numbers(), [0, 0, 60, 0, 0]);
-    assert_eq!(unit.offer(1, 0, 3, DOLLAR, 60).numbers(), [0, 0, 40, 1, 0]);
+    assert_eq!(unit.offer(1, 0, 3, DOLLAR, 60).numbers(), [0, 0, 60, 0, 0]);
 }

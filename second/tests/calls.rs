@@ -32,10 +32,10 @@ fn reading_13_no_grant_leaves_the_log_but_sets_the_clock() {
 fn reading_14_remaining_never_sets_the_clock() {
     let mut unit = armed("A,rate_vol,X,5,1000");
     assert_eq!(unit.offer(100, 0, 0, 1, 2).grant, 2);
-    assert_eq!(unit.remaining(99, 0).numbers(), [12, 0]);
-    assert_eq!(unit.remaining(1_099, 0).numbers(), [0, 3]);
-    assert_eq!(unit.remaining(1_100, 0).numbers(), [0, 5]);
-    assert_eq!(unit.remaining(100, 0).numbers(), [0, 3]);
+    assert_eq!(unit.remaining(99, 0, 0).numbers(), [12, 0]);
+    assert_eq!(unit.remaining(1_099, 0, 0).numbers(), [0, 3]);
+    assert_eq!(unit.remaining(1_100, 0, 0).numbers(), [0, 5]);
+    assert_eq!(unit.remaining(100, 0, 0).numbers(), [0, 3]);
 }
 
 #[test]
@@ -46,7 +46,7 @@ fn reading_15_firm_rules_alone_have_no_root() {
     refused(&unit, 13, |unit| unit.offer(0, 0, 0, 1, 1).numbers());
     refused(&unit, 13, |unit| unit.lockout(0, 0, 0).numbers());
     assert_eq!(unit.lockout(3, 1, 0).numbers(), [0, 0, 0, 0, 0]);
-    assert_eq!(unit.remaining(3, 0).numbers(), [0, 5]);
+    assert_eq!(unit.remaining(3, 0, 0).numbers(), [0, 5]);
     assert_eq!(unit.status().numbers(), [0, 0, 0, 0, 64]);
 }
 
@@ -81,14 +81,14 @@ fn reading_17_status_counts_the_roots_own_marks() {
 #[test]
 fn reading_18_total_at_its_limit_trips_at_grant_0() {
     let mut unit = armed("A,abs_vol,X,5\nA,abs_count,X,1000,,,C,F");
-    unit.armed.as_mut().unwrap().totals[0] = 5;
+    unit.armed.as_mut().unwrap().totals[0][0] = 5;
     assert_eq!(unit.offer(0, 0, 0, 1, 1).numbers(), [0, 0, 0, 1, 0]);
     let mut unit = armed("A,abs_vol,X,5\nA,abs_vol,,5,,T");
-    unit.armed.as_mut().unwrap().totals = vec![6, 5];
+    unit.armed.as_mut().unwrap().totals = vec![[6, 0, 0, 0], [5, 0, 0, 0]];
     assert_eq!(unit.offer(0, 0, 0, 1, 1).numbers(), [0, 0, 0, 1, 1]);
     let mut unit = armed("A,abs_vol,X,5");
-    unit.armed.as_mut().unwrap().totals = vec![6];
-    assert_eq!(unit.remaining(0, 0).numbers(), [0, 0]);
+    unit.armed.as_mut().unwrap().totals = vec![[6, 0, 0, 0]];
+    assert_eq!(unit.remaining(0, 0, 0).numbers(), [0, 0]);
 }
 
 #[test]
@@ -129,16 +129,16 @@ fn reading_21_arm_answers_firm_rules_and_roots() {
 fn notional_has_no_multiplier() {
     let mut unit = armed("A,abs_ntnl,X,29");
     assert_eq!(unit.offer(0, 0, 0, 30_000, 5).numbers(), [0, 0, 5, 0, 0]);
-    assert_eq!(unit.armed.as_ref().unwrap().totals, [150_000]);
+    assert_eq!(unit.armed.as_ref().unwrap().totals, [[150_000, 0, 0, 0]]);
     assert_eq!(unit.offer(0, 0, 0, 20_000, 7).numbers(), [0, 0, 7, 1, 0]);
-    assert_eq!(unit.armed.as_ref().unwrap().totals, [290_000]);
+    assert_eq!(unit.armed.as_ref().unwrap().totals, [[290_000, 0, 0, 0]]);
 }
 
 #[test]
 fn no_covering_rule_grants_all() {
     let mut unit = armed("A,abs_vol,X,5,,,C,F");
     assert_eq!(unit.offer(0, 0, 1, 1, 1_000_000).numbers(), [0, 0, 1_000_000, 0, 0]);
-    assert_eq!(unit.remaining(0, 0).numbers(), [0, 5]);
+    assert_eq!(unit.remaining(0, 0, 0).numbers(), [0, 5]);
 }
 
 #[test]
@@ -156,7 +156,7 @@ fn symbol_reset_leaves_firm_rules() {
     assert_eq!(unit.offer(0, 0, 0, 1, 7).grant, 7);
     assert_eq!(unit.offer(0, 1, 0, 1, 3).grant, 3);
     assert_eq!(unit.order(1, 0, 1).verdict, 0);
-    let left: Vec<u64> = (0..5).map(|rule| unit.remaining(1, rule).value).collect();
+    let left: Vec<u64> = (0..5).map(|rule| unit.remaining(1, rule, 0).value).collect();
     assert_eq!(left, [10, 2, 100, 90, 6]);
     assert_eq!(unit.offer(1, 0, 0, 1, 7).numbers(), [0, 0, 2, 0, 1]);
 }
@@ -168,10 +168,10 @@ fn firm_reset_leaves_roots() {
     assert_eq!(unit.lockout(0, 0, 0).refusal, 0);
     assert_eq!(unit.lockout(0, 1, 0).refusal, 0);
     assert_eq!(unit.order(1, 0, 2).verdict, 2);
-    let left: Vec<u64> = (0..4).map(|rule| unit.remaining(1, rule).value).collect();
+    let left: Vec<u64> = (0..4).map(|rule| unit.remaining(1, rule, 0).value).collect();
     assert_eq!(left, [3, 12, 93, 100]);
     assert_eq!(unit.order(1, 0, 3).verdict, 0);
-    let left: Vec<u64> = (0..4).map(|rule| unit.remaining(1, rule).value).collect();
+    let left: Vec<u64> = (0..4).map(|rule| unit.remaining(1, rule, 0).value).collect();
     assert_eq!(left, [10, 12, 100, 100]);
 }
 
@@ -183,8 +183,8 @@ fn a_locked_offer_counts_nothing() {
     assert_eq!(unit.offer(1, 1, 0, 1, 5).numbers(), [0, 0, 5, 0, 0]);
     assert_eq!(unit.lockout(2, 1, 0).refusal, 0);
     assert_eq!(unit.offer(2, 1, 0, 1, 50).numbers(), [0, 1, 0, 0, 0]);
-    assert_eq!(unit.remaining(2, 0).numbers(), [0, 10]);
-    assert_eq!(unit.remaining(2, 1).numbers(), [0, 5]);
+    assert_eq!(unit.remaining(2, 0, 0).numbers(), [0, 10]);
+    assert_eq!(unit.remaining(2, 1, 0).numbers(), [0, 5]);
 }
 
 #[test]

@@ -97,8 +97,8 @@ struct History {
 }
 
 impl History {
-    /// The amount that the rule counts at a time, by the history alone.
-    fn counted(&self, rule: &Rule, time: u64) -> u64 {
+    /// The amount that the rule counts at a time on a unit, by the history alone; a firm rule counts all units as 0.
+    fn counted(&self, rule: &Rule, unit: u64, time: u64) -> u64 {
         let from = match rule.level {
             Level::Firm => self.firm_from,
             Level::Root { root, .. } => self.root_from[root as usize],
@@ -108,7 +108,7 @@ impl History {
             .iter()
             .filter(|fill| match rule.level {
                 Level::Firm => true,
-                Level::Root { root, unit } => root == fill.root && unit.is_none_or(|unit| unit == fill.unit),
+                Level::Root { root, .. } => root == fill.root && unit == fill.unit,
             })
             .filter(inside)
             .map(|fill| match rule.measure {
@@ -117,6 +117,15 @@ impl History {
                 Measure::Count => 1,
             })
             .sum()
+    }
+}
+
+/// The units that Remaining takes for a rule.
+fn units(rule: &Rule) -> Vec<u64> {
+    match rule.level {
+        Level::Firm => vec![0],
+        Level::Root { unit: Some(unit), .. } => vec![unit],
+        Level::Root { unit: None, .. } => vec![0, 1, 2, 3],
     }
 }
 
@@ -142,10 +151,12 @@ fn the_history_never_passes_a_limit() {
                 }
                 Call::Offer { time, root, unit: own, premium, .. } if numbers[2] > 0 => {
                     history.fills.push(Fill { time, root, unit: own, premium, contracts: numbers[2] });
-                    for (place, rule) in rules.iter().enumerate() {
-                        let counted = history.counted(rule, time);
-                        assert!(counted <= rule.limit, "seed {seed}, rule {place}");
-                        assert_eq!(unit.remaining(time, place as u64).numbers(), [0, rule.limit - counted]);
+                    for (place, rule) in (0..).zip(&rules) {
+                        for of_rule in units(rule) {
+                            let counted = history.counted(rule, of_rule, time);
+                            assert!(counted <= rule.limit, "seed {seed}, rule {place}");
+                            assert_eq!(unit.remaining(time, place, of_rule).numbers(), [0, rule.limit - counted]);
+                        }
                     }
                 }
                 _ => {}

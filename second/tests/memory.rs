@@ -9,7 +9,7 @@ use second::unit::Unit;
 /// A firm rule, a rule of one unit and a rule of a whole root; two fills, a trip of root 0 and a lockout of root 1.
 fn example() -> (Unit, Vec<u64>) {
     let mut unit = Unit::new();
-    let text = b"AB9,abs_ntnl,,1000,x,T\nAB9,rate_vol,XYZ,500,60000,,P,T\nAB9,rate_count,Q,7,1000\nAB9,abs_count,XYZ,2";
+    let text = b"AB9,abs_ntnl,,1000,x,T\nAB9,rate_vol,XYZ,500,60000,,P,T\nAB9,rate_count,Q,7,1000\nAB9,abs_vol,XYZ,5";
     assert_eq!(unit.arm(text).numbers(), [0, 0, 0x41_4239, 4, 2]);
     assert_eq!(unit.offer(10, 0, 3, 70_000, 3).numbers(), [0, 0, 3, 0, 0]);
     assert_eq!(unit.offer(12, 0, 0, 1, 5).numbers(), [0, 0, 5, 1, 0]);
@@ -31,6 +31,9 @@ fn with(changes: &[(usize, u64)]) -> Held {
     changes.iter().for_each(|(place, number)| numbers[*place] = *number);
     read(&numbers)
 }
+
+/// Where the first account of each rule of the example has its total, and where the first place is that is not used.
+const TOTAL: [usize; 5] = [TOTALS, TOTALS + 1, TOTALS + 2, TOTALS + 6, TOTALS + 10];
 
 /// The first and last number of `4 to 67`, or of one number alone.
 fn span_of(text: &str) -> Option<(usize, usize)> {
@@ -79,8 +82,9 @@ fn the_example_stands_where_the_map_says() {
     put(RULES, &[1_000 << 27, 1 << 10]);
     put(RULES + 2, &[500 << 27 | 60_000, 1 << 11 | 2 << 8 | 3]);
     put(RULES + 4, &[7 << 27 | 1_000, 2 << 11 | 1 << 8 | 1 << 2]);
-    put(RULES + 6, &[2 << 27, 2 << 11 | 1 << 10 | 1 << 8]);
-    put(TOTALS, &[210_005, 0, 0, 2]);
+    put(RULES + 6, &[5 << 27, 1 << 11 | 1 << 10 | 1 << 8]);
+    put(TOTAL[0], &[210_005]);
+    put(TOTAL[3], &[5, 0, 0, 3]);
     put(FIRM_TRIPPED, &[0]);
     put(FIRM_LOCKED, &[0]);
     put(ROOTS_TRIPPED, &[0b01]);
@@ -158,9 +162,12 @@ fn each_part_of_the_sentence_can_fail() {
         &[(RULES + 1, 1 << 10 | 1)],
         &[(RULES + 5, 2 << 11 | 1 << 8 | 5)],          // a unit where the scope has none
         &[(RULES + 3, 1 << 11 | 2 << 8 | 2 << 2 | 3)], // a root that is not there
-        &[(TOTALS, 1_000_000_000_000_001)],
-        &[(TOTALS + 1, 1)], // a total too large, one of a rate rule
-        &[(LOG, 13 << 10)], // entries out of order
+        &[(TOTAL[0], 1_000_000_000_000_001)],
+        &[(TOTAL[3] + 2, 1_000_000_000_000_001)],
+        &[(TOTAL[1], 1)],
+        &[(TOTAL[2], 1)],
+        &[(TOTAL[2] + 3, 1)], // totals too large, some of rate rules
+        &[(LOG, 13 << 10)],   // entries out of order
         &[(LOG, 10 << 10 | 2 << 4)],
         &[(LOG, 1 << 37)], // an unknown root, spare bits
         &[(LOG + 1, 3)],
@@ -172,7 +179,7 @@ fn each_part_of_the_sentence_can_fail() {
         &[(RULE_COUNT - 1, 1)],
         &[(RULES + 8, 1)],
         &[(TOTALS - 1, 1)],
-        &[(TOTALS + 4, 1)],
+        &[(TOTAL[4], 1)],
         &[(FIRM_TRIPPED - 1, 1)],
         &[(LOG + 4, 1)],
         &[(NUMBERS - 1, 1)], // places that are not used, the first and the last of each part
@@ -191,7 +198,7 @@ fn what_no_day_gives_may_still_be_sound() {
         &[(FIRM_TRIPPED, 1), (FIRM_LOCKED, 1), (ROOTS_TRIPPED, 3), (ROOTS_LOCKED, 0)],
         &[(RULES, 100_000_000_000 << 27)],
         &[(RULES + 2, 1_000_000_000 << 27 | 86_400_000)],
-        &[(TOTALS, 1_000_000_000_000_000), (TOTALS + 3, 1_000_000_000_000_000)],
+        &[(TOTAL[0], 1_000_000_000_000_000), (TOTAL[3], 1_000_000_000_000_000), (TOTAL[3] + 3, 1_000_000_000_000_000)],
         &[(LOG, 12 << 10 | 1 << 4), (LOG + 1, 100_000_000 << 20 | 1_000_000)],
         &[(ENTRY_COUNT, 0), (LOG, 0), (LOG + 1, 0), (LOG + 2, 0), (LOG + 3, 0)],
     ];

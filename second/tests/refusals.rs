@@ -22,7 +22,7 @@ fn refusal_4_not_armed() {
     assert_eq!(unit.order(u64::MAX, 0, 9).numbers(), [4, 0, 0, 0, 0]);
     assert_eq!(unit.lockout(0, 0, 0).numbers(), [4, 0, 0, 0, 0]);
     assert_eq!(unit.offer(0, 0, 0, 0, 0).numbers(), [4, 0, 0, 0, 0]);
-    assert_eq!(unit.remaining(0, 0).numbers(), [4, 0]);
+    assert_eq!(unit.remaining(0, 0, 0).numbers(), [4, 0]);
     assert_eq!(unit.status().numbers(), [4, 0, 0, 0, 0]);
     assert_eq!(unit.clear().numbers(), [0]);
     assert_eq!(unit, Unit::new());
@@ -54,7 +54,7 @@ fn refusal_12_time() {
         refused(&unit, 12, |unit| unit.order(time, 9, 9).numbers());
         refused(&unit, 12, |unit| unit.lockout(time, 9, 9).numbers());
         refused(&unit, 12, |unit| unit.offer(time, 9, 9, 0, 0).numbers());
-        assert_eq!(unit.remaining(time, 9).numbers(), [12, 0]);
+        assert_eq!(unit.remaining(time, 9, 0).numbers(), [12, 0]);
     }
     assert_eq!(unit.order(50, 0, 0).refusal, 0);
     assert_eq!(unit.order(LAST, 0, 0).refusal, 0);
@@ -68,7 +68,7 @@ fn refusal_13_numbers_not_known() {
         refused(&unit, 13, |unit| unit.offer(5, number, 0, 0, 0).numbers());
         refused(&unit, 13, |unit| unit.lockout(5, 0, number).numbers());
         refused(&unit, 13, |unit| unit.lockout(5, 1, number).numbers());
-        assert_eq!(unit.remaining(5, number).numbers(), [13, 0]);
+        assert_eq!(unit.remaining(5, number, 0).numbers(), [13, 0]);
     }
     refused(&unit, 13, |unit| unit.order(5, 0, 4).numbers());
     refused(&unit, 13, |unit| unit.offer(5, 0, 4, 0, 0).numbers());

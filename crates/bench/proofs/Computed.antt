@@ -5,7 +5,8 @@ use Prim.Native.Nat.{ℕ, _^_}
 use mathlib.Core.Bool.{Bool, true, false, _&&_}
 use mathlib.Core.List.{List, [], _∷_, _++_, map}
 use lib.Dec.{ltb}
-use Rattle.machine.specs.State.{cellsOf, rulesIn, noLocks, fresh, armed}
+use Rattle.rules.specs.Units.{unitsOf, isUnitOf, placeIn, scopeFor, ofUnit}
+use Rattle.machine.specs.State.{cellsBy, cellsOf, rulesIn, noLocks, fresh, armed}
 use Rattle.machine.specs.Deeds.{clockAfter}
 use Rattle.machine.specs.Step.{accountsAfter, locksAfter, logAfter, partAfter, after}
 use Rattle.rules.specs.Amounts.{numberOf as amountNumber, amountIn}
@@ -19,7 +20,7 @@ use Rattle.machine.specs.Calls.{Call, offer}
 use Rattle.machine.specs.Locks.{isTripped, isByUser, isLocked, verdictOf, lifted, trippedBy, lockedOut}
 use Rattle.machine.specs.Offers.{counted, coversOffer, grantOf, sameLevel, levelTrips, credited, windowOf, longest, entryOf, joinedLog}
 use Rattle.machine.specs.Refusals.{used, logFull, firstOf, badTime, isRoot, refusalOf}
-use Rattle.machine.specs.Remaining.{noAccount, accountAt, leftOf, standing}
+use Rattle.machine.specs.Remaining.{noAccount, ruleAt, isCell, cellAt, accountAt, accountFor, leftOf, standing}
 use Rattle.machine.specs.Judge.{grantedSo, offered, ordered, judged, unless, judge, stepIn, step, numbers}
 use Rattle.bits.specs.Locks.{bit, withBit, withoutBit, either, count, here, first, standingOf}
 use Rattle.text.specs.Text.{bytes, all, onto, pieces, indexOf, made, numeral, numberOf, nameOf}
@@ -72,7 +73,7 @@ computed : (every fits (table ++ (examples ++ tried)) ≡ true)
     × (outcomeOf hundred .profile .rules ≡ hundredRule ∷ [])
     × (answersOf (armed (outcomeOf hundred .profile)) (offer forty ∷ offer forty ∷ offer forty ∷ [])
     ≡ Judged 0 40 false false ∷ Judged 0 40 false false ∷ Judged 0 20 true false ∷ [])
-unfolding every table examples tried refusedTexts readingOf seen wanted afterCall runFrom answersThen answersOf same bit withBit withoutBit either count here first standingOf levelNamed all onto pieces indexOf made numeral numberOf nameOf typeOf isAbsolute limitsOf limitOf kindOf timeOf letterOf malformed otherFirm outOfRange levelClash unitClash faultOf scopeOf ruleOf lineOf withRoot rootsWith numbered joined howMany isFirmRule onUnit crowded tooMany afterLine readOn outcomeOf levelOf covers isRate counts countedOf executions added ceiling share zeroing lifting largest allowance trips unflagged flagOf entryShare sumOf keep recent hasRate cellsOf rulesIn noLocks fresh armed effectOf clockAfter isTripped isByUser isLocked verdictOf lifted trippedBy lockedOut wiped unflaggedLog counted coversOffer grantOf anyOf sameLevel levelTrips credited windowOf longest entryOf joinedLog used logFull firstOf badTime isRoot refusalOf leftOf accountAt noAccount standing accountsAfter locksAfter logAfter partAfter after grantedSo offered ordered judged unless judge stepIn step amountNumber amountIn numbers
+unfolding every table examples tried refusedTexts readingOf seen wanted afterCall runFrom answersThen answersOf same bit withBit withoutBit either count here first standingOf levelNamed all onto pieces indexOf made numeral numberOf nameOf typeOf isAbsolute limitsOf limitOf kindOf timeOf letterOf malformed otherFirm outOfRange levelClash unitClash faultOf scopeOf ruleOf lineOf withRoot rootsWith numbered joined howMany isFirmRule onUnit crowded tooMany afterLine readOn outcomeOf levelOf covers isRate counts countedOf executions added ceiling share zeroing lifting largest allowance trips unflagged flagOf entryShare sumOf keep recent hasRate unitsOf isUnitOf placeIn scopeFor ofUnit cellsBy cellsOf rulesIn noLocks fresh armed effectOf clockAfter isTripped isByUser isLocked verdictOf lifted trippedBy lockedOut wiped unflaggedLog counted coversOffer grantOf anyOf sameLevel levelTrips credited windowOf longest entryOf joinedLog used logFull firstOf badTime isRoot refusalOf leftOf ruleAt isCell cellAt accountAt accountFor noAccount standing accountsAfter locksAfter logAfter partAfter after grantedSo offered ordered judged unless judge stepIn step amountNumber amountIn numbers
 computed = (refl, refl, refl, refl, refl, refl, refl)
 
 pub rows-fit : every fits (table ++ (examples ++ tried)) ≡ true

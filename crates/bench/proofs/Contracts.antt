@@ -55,7 +55,7 @@ offer-says κs args x e = refl
 
 -- Remaining and Status borrow the memory without writing it; the calls' meaning keeps it too (`remaining-keeps`, `status-keeps` of `calls`)
 pub remaining-says : (κs : Lfts 1) (args : Dens κs remaining-kinds.ps) (x : resT remaining-kinds.r κs .Denot) (e : AtExit (endedOf 1 remaining-kinds.ps remaining-kinds.r) κs)
-    → remaining-reads.Learnt κs args x e ≡ (x ≡ callAnswer (args .0 .now) (remaining (args .1 .0) (args .1 .1 .0)))
+    → remaining-reads.Learnt κs args x e ≡ (x ≡ callAnswer (args .0 .now) (remaining (args .1 .0) (args .1 .1 .0) (args .1 .1 .1 .0)))
 remaining-says κs args x e = refl
 
 pub status-says : (κs : Lfts 1) (args : Dens κs status-kinds.ps) (x : resT status-kinds.r κs .Denot) (e : AtExit (endedOf 1 status-kinds.ps status-kinds.r) κs)

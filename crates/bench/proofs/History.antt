@@ -10,7 +10,8 @@ use Rattle.rules.specs.declared.Rule.{Rule}
 use Rattle.profile.specs.Profile.{outcomeOf}
 use Rattle.profile.specs.declared.Reading.the-variants.{Accepted}
 use Rattle.state.specs.State.{size}
-use Rattle.machine.specs.State.{State, cellsOf}
+use Rattle.rules.specs.Units.{isUnitOf, scopeFor, ofUnit}
+use Rattle.machine.specs.State.{State}
 use Rattle.machine.specs.declared.Offer.{Offer}
 use Rattle.machine.specs.Calls.{offer}
 use Rattle.machine.specs.Deeds.{granted, filling}
@@ -37,8 +38,8 @@ forty-filled zero roottrip firmtrip e = refl
 forty-filled (suc verdict) roottrip firmtrip e = absurd (omega arith)
 
 -- three such fills are more than 100
-three-fills : Within hundredRule (filling granted forty 40 ∷ filling granted forty 40 ∷ filling granted forty 40 ∷ []) → ⊥
-unfolding Within NoneOf zeroes sumIn inStretch amountOf coversOffer covers added ceiling
+three-fills : Within (ofUnit hundredRule 0) (filling granted forty 40 ∷ filling granted forty 40 ∷ filling granted forty 40 ∷ []) → ⊥
+unfolding Within NoneOf zeroes sumIn inStretch amountOf coversOffer covers added ceiling ofUnit scopeFor
 three-fills within =
     let least : 120 ≤ 100 = within [] (filling granted forty 40 ∷ filling granted forty 40 ∷ filling granted forty 40 ∷ []) [] refl (refl, (refl, (refl, tt))) 0 in
     omega arith
@@ -55,8 +56,7 @@ filled o same verdict roottrip firmtrip answer is =
 -- a library whose days meet demand 3, the text of a limit of 100, and an offer of 40
 module _ (l : Library) (meets : MeetsDemand3 l) (t : Text) (isHundred : t .now ≡ hundred) (o : Offered) (isForty : o .offer ≡ forty) where
   module _ (m : Memory) (firm rules roots : ℕ) (ok : l .arm m t .answer ≡ Accepted firm rules roots) where
-    its-rule : List·Memᴰ hundredRule (cellsOf (outcomeOf (t .now) .profile .rules))
-    unfolding cellsOf
+    its-rule : List·Memᴰ hundredRule (outcomeOf (t .now) .profile .rules)
     its-rule =
         subst⁻¹ (λ (all : List Rule). List·Memᴰ hundredRule all) (ap (λ (text : List ℕ). outcomeOf text .profile .rules) isHundred ∙ hundred-rule)
         (List·Memᴰ·head refl)
@@ -64,14 +64,14 @@ module _ (l : Library) (meets : MeetsDemand3 l) (t : Text) (isHundred : t .now �
     -- NEVER THREE TIMES 40, at whatever verdicts
     pub not-thrice-forty : (u v w : ℕ) (a b c d e f : Bool) → answerTo l o (armedBy l m t) ≡ Judged u 40 a b → answerTo l o (memoryAfter l o (armedBy l m t)) ≡ Judged v 40 c d
         → answerTo l o (memoryAfter l o (memoryAfter l o (armedBy l m t))) ≡ Judged w 40 e f → ⊥
-    unfolding historyBy Each deedsOf
+    unfolding historyBy Each deedsOf isUnitOf
     not-thrice-forty u v w a b c d e f first second third =
         let met = meets m t firm rules roots ok (sent o ∷ sent o ∷ sent o ∷ []) .1 in
         let told = met .answers in
         let fill1 = filled (o .offer) isForty u a b (answerTo l o (armedBy l m t)) first (told .1 .1 .0 .summed) in
         let fill2 = filled (o .offer) isForty v c d (answerTo l o (memoryAfter l o (armedBy l m t))) second (told .1 .0 .summed) in
         let fill3 = filled (o .offer) isForty w e f (answerTo l o (memoryAfter l o (memoryAfter l o (armedBy l m t)))) third (told .0 .summed) in
-        three-fills (subst (Within hundredRule) (λ i. fill3 i ∷ fill2 i ∷ fill1 i ∷ []) (met .sums hundredRule its-rule))
+        three-fills (subst (Within (ofUnit hundredRule 0)) (λ i. fill3 i ∷ fill2 i ∷ fill1 i ∷ []) (met .sums hundredRule its-rule 0 refl))
 
     -- so one that counts the first fill alone, and grants the first two, does not meet demand 3
     pub not-first-only-by-demand : CountsFirstOnly l → (u v : ℕ) (a b c d : Bool) → answerTo l o (armedBy l m t) ≡ Judged u 40 a b

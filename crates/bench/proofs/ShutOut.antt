@@ -13,7 +13,7 @@ use Rattle.machine.specs.State.{State, armed as justArmed}
 use Rattle.machine.specs.Calls.{offer, remaining, status}
 use Rattle.machine.specs.Locks.{verdictOf}
 use Rattle.machine.specs.Offers.{grantOf, covering}
-use Rattle.machine.specs.Remaining.{accountAt, leftOf, standing}
+use Rattle.machine.specs.Remaining.{accountFor, leftOf, standing}
 use Rattle.machine.specs.Judge.{grantedSo, offered as offeredSo, judged, step, isRefusal}
 use Rattle.shapes.proofs.Tables.{length-zeros}
 use Rattle.profile.specs.Profile.{outcomeOf}
@@ -92,10 +92,10 @@ module _ (l : Library) (meets : Meets l) where
   arm-stores m t u ok = let h = arm-leaves l meets m t u ok in (holds-ready h, h .state)
 
   -- Remaining is the limit less the counted amount, or 0 if that is below 0
-  pub remaining-is : (m : Memory) (c : Sent) (time rule : ℕ) → c .call ≡ remaining time rule → refusalIn (m .now) (remaining time rule) ≡ 0
-      → l .call m c .answer ≡ Left (leftOf (decode (m .now)) time (accountAt (decode (m .now) .part .accounts) rule))
+  pub remaining-is : (m : Memory) (c : Sent) (time rule unit : ℕ) → c .call ≡ remaining time rule unit → refusalIn (m .now) (remaining time rule unit) ≡ 0
+      → l .call m c .answer ≡ Left (leftOf (decode (m .now)) time (accountFor (decode (m .now) .part) rule unit))
   unfolding judged
-  remaining-is m c time rule is e = meets .callAnswers m c ∙ ap (callAnswer (m .now)) is ∙ acted-answer (m .now) (remaining time rule) e
+  remaining-is m c time rule unit is e = meets .callAnswers m c ∙ ap (callAnswer (m .now)) is ∙ acted-answer (m .now) (remaining time rule unit) e
 
   -- Status is how the two words stand
   pub status-is : (m : Memory) (c : Sent) → c .call ≡ status → refusalIn (m .now) status ≡ 0
@@ -176,8 +176,8 @@ module _ (l k : Library) (meets : Meets l) (too : Meets k) where
   pub same-answer : (m : Memory) (c : Sent) → l .call m c .answer ≡ k .call m c .answer
   same-answer m c = one (meets .callAnswers m c) (too .callAnswers m c)
 
-  pub not-inventing-remaining : (m : Memory) (c : Sent) (time rule : ℕ) → c .call ≡ remaining time rule → l .call m c .answer ≡ k .call m c .answer
-  not-inventing-remaining m c time rule is = same-answer m c
+  pub not-inventing-remaining : (m : Memory) (c : Sent) (time rule unit : ℕ) → c .call ≡ remaining time rule unit → l .call m c .answer ≡ k .call m c .answer
+  not-inventing-remaining m c time rule unit is = same-answer m c
 
   pub not-inventing-status : (m : Memory) (c : Sent) → c .call ≡ status → l .call m c .answer ≡ k .call m c .answer
   not-inventing-status m c is = same-answer m c

@@ -34,7 +34,7 @@ use Rattle.made.specs.Names.{nameBytes, isNameNumber}
 use Rattle.made.specs.Made.{areRoots}
 use Rattle.text.proofs.Bytes.{made-most}
 use Rattle.text.proofs.InBase.{digits-room}
-use Rattle.state.specs.State.{size, number, marksOf, locksShape, linesOf, profileShape, totalsShape, partShape, numbersShape, totalsIn, numbersOf, encode, stored}
+use Rattle.state.specs.State.{size, number, marksOf, locksShape, linesOf, profileShape, totalsShape, partShape, numbersShape, totalsIn, numbersOf, encode, stored, totalsSize}
 use Rattle.state.specs.Sound.{SoundState}
 use Rattle.state.proofs.Exactly.{MadeParts}
 use Rattle.bench.specs.Lent.{Below}
@@ -145,7 +145,7 @@ module _ (s : State) (k : SoundState s) (m : MadeParts (s .part .profile)) where
 
   sums-words : Below (2 ^ 64) (totalsShape rules .write sums)
   unfolding totalsShape rows one number table
-  sums-words = ones-words 256 sums (totals-words (s .part .accounts) (k .totals))
+  sums-words = ones-words totalsSize sums (totals-words (s .part .accounts) (k .totals))
 
   locks-words : Below (2 ^ 64) (locksShape .write (s .part .locks))
   unfolding locksShape marksOf named both word flag number one rootsIn

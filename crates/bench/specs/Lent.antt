@@ -27,7 +27,7 @@ abbrev pub numbersIn : Call → List ℕ
 numbersIn (order time root reset) = time ∷ root ∷ reset ∷ []
 numbersIn (lockout time level root) = time ∷ level ∷ root ∷ []
 numbersIn (offer o) = o .time ∷ o .root ∷ o .unit ∷ o .premium ∷ o .contracts ∷ []
-numbersIn (remaining time rule) = time ∷ rule ∷ []
+numbersIn (remaining time rule unit) = time ∷ rule ∷ unit ∷ []
 numbersIn status = []
 
 pub record Sent : Type 0 where

@@ -17,9 +17,13 @@ at time premium contracts answer = fill time 0 0 premium contracts answer
 abbrev pub grants : ℕ → ℕ → ℕ → List ℕ
 grants grant roottrip firmtrip = 0 ∷ 0 ∷ grant ∷ roottrip ∷ firmtrip ∷ []
 
--- what remains of a rule's limit at a time, in ten-thousandths, contracts or executions
+-- what remains of a rule's limit for a unit at a time, in ten-thousandths, contracts or executions
+abbrev pub leavesOn : ℕ → ℕ → ℕ → ℕ → Call × List ℕ
+leavesOn unit time rule left = (remaining time rule unit, 0 ∷ left ∷ 0 ∷ 0 ∷ 0 ∷ [])
+
+-- for unit 0, which is that of a firm rule's one count too
 abbrev pub leaves : ℕ → ℕ → ℕ → Call × List ℕ
-leaves time rule left = (remaining time rule, 0 ∷ left ∷ 0 ∷ 0 ∷ 0 ∷ [])
+leaves time rule left = leavesOn 0 time rule left
 
 -- an order for root 0 with a reset, and its verdict
 abbrev pub ordered : ℕ → ℕ → ℕ → Call × List ℕ
@@ -117,8 +121,8 @@ table =
           ∷ fill 100 3 0 1 1 (grants 0 1 0)
           ∷ [];
     }
-    -- B12: a rule without unit fields covers all four units together
-    ∷ record { text = "ABCD,abs_vol,XYZ,100"; windows = 0 ∷ []; day = fill 0 0 0 1 60 (grants 60 0 0) ∷ fill 1 0 3 1 60 (grants 40 1 0) ∷ [] }
+    -- B12: a rule without unit fields counts each of the four units for itself
+    ∷ record { text = "ABCD,abs_vol,XYZ,100"; windows = 0 ∷ []; day = fill 0 0 0 1 60 (grants 60 0 0) ∷ fill 1 0 3 1 60 (grants 60 0 0) ∷ [] }
     ∷ []
 
 unfoldable pub examples : List Row

@@ -1,4 +1,4 @@
--- Rows beyond document 01's table: rules of one unit, FIRM and BOTH, lockouts at both levels, Status, verdict 1, the refusals 12 to 14, a profile
+-- Rows beyond document 01's table: rules of one unit, units that count for themselves, FIRM and BOTH, lockouts at both levels, Status, verdict 1, the refusals 12 to 14, a profile
 -- of firm rules alone; and texts that Arm refuses. Assumes nothing.
 use Prim.Native.Nat.{ℕ, _≤_}
 use Prim.Native.String.{String}
@@ -11,7 +11,7 @@ use Rattle.machine.specs.Calls.{Call, order, lockout, offer, remaining, status}
 use Rattle.bench.specs.Lent.{Memory, Text, Verdict}
 use Rattle.bench.specs.Library.{Library}
 use Rattle.bench.specs.Rows.{Row}
-use Rattle.bench.specs.Table.{fill, at, grants, leaves, ordered}
+use Rattle.bench.specs.Table.{fill, at, grants, leaves, leavesOn, ordered}
 
 -- a lockout of root 0 or of the firm: verdict 0
 abbrev locksOut : ℕ → ℕ → Call × List ℕ
@@ -39,7 +39,35 @@ tried =
     record {
       text = "ABCD,abs_vol,XYZ,10,,,C,T";
       windows = 0 ∷ [];
-      day = fill 0 0 2 1 500 (grants 500 0 0) ∷ leaves 0 0 10 ∷ fill 1 0 1 1 12 (grants 10 1 0) ∷ ordered 2 0 2 ∷ [];
+      day = fill 0 0 2 1 500 (grants 500 0 0) ∷ leavesOn 1 0 0 10 ∷ refused (remaining 0 0 0) 13 ∷ fill 1 0 1 1 12 (grants 10 1 0) ∷ ordered 2 0 2 ∷ [];
+    }
+    -- each unit counts for itself: a unit that is tripped locks its root for the others too, and SYMBOL zeroes all four
+    ∷ record {
+      text = "ABCD,abs_vol,XYZ,100";
+      windows = 0 ∷ [];
+      day =
+          fill 0 0 0 1 60 (grants 60 0 0)
+          ∷ fill 1 0 1 1 70 (grants 70 0 0)
+          ∷ fill 2 0 2 1 80 (grants 80 0 0)
+          ∷ fill 3 0 3 1 90 (grants 90 0 0)
+          ∷ leavesOn 0 4 0 40
+          ∷ leavesOn 1 4 0 30
+          ∷ leavesOn 2 4 0 20
+          ∷ leavesOn 3 4 0 10
+          ∷ fill 5 0 2 1 30 (grants 20 1 0)
+          ∷ fill 6 0 0 1 1 (lockedOut 2)
+          ∷ ordered 7 1 0
+          ∷ leavesOn 0 7 0 100
+          ∷ leavesOn 1 7 0 100
+          ∷ leavesOn 2 7 0 100
+          ∷ leavesOn 3 7 0 100
+          ∷ [];
+    }
+    -- so does a rate rule: for an offer it counts the entries of the offer's unit alone
+    ∷ record {
+      text = "ABCD,rate_vol,XYZ,100,1000";
+      windows = 1000 ∷ [];
+      day = fill 0 0 0 1 60 (grants 60 0 0) ∷ fill 1 0 3 1 60 (grants 60 0 0) ∷ leavesOn 3 1 0 40 ∷ leavesOn 2 1 0 100 ∷ fill 2 0 0 1 60 (grants 40 1 0) ∷ [];
     }
     -- FIRM zeroes the firm's counter and leaves the root as it is; BOTH zeroes both; a locked firm comes before a locked root
     ∷ record {
@@ -100,8 +128,10 @@ tried =
           ∷ refused (offers 5 0 100_000_001 1) 14
           ∷ refused (offers 5 0 1 0) 14
           ∷ refused (offers 5 0 1 1_000_001) 14
-          ∷ refused (remaining 4 0) 12
-          ∷ refused (remaining 5 1) 13
+          ∷ refused (remaining 4 0 9) 12
+          ∷ refused (remaining 5 1 0) 13
+          ∷ refused (remaining 5 0 4) 13
+          ∷ leavesOn 3 5 0 10
           ∷ leaves 6 0 10
           ∷ ordered 5 0 0
           ∷ [];
@@ -116,6 +146,7 @@ tried =
           ∷ refused (lockout 0 0 0) 13
           ∷ locksOut 0 1
           ∷ leaves 0 0 100
+          ∷ refused (remaining 0 0 1) 13
           ∷ stands 0 0 0 64
           ∷ [];
     }

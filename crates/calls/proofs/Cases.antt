@@ -9,7 +9,7 @@ use Rattle.profile.specs.Profile.{outcomeOf, readingOf, scanOf}
 use Rattle.profile.specs.declared.Scan.{Scan}
 use Rattle.profile.specs.declared.Reading.the-variants.{Accepted, Refused as NotRead}
 use Rattle.profile.proofs.Laws.{lawful, reading-accepted, reading-refused}
-use Rattle.state.specs.State.{size}
+use Rattle.state.specs.State.{size, restSize}
 use Rattle.state.proofs.Armed.{armed-stored}
 use Rattle.machine.specs.Refusals.{firstOf}
 use Rattle.calls.specs.declared.Clearing.the-variants.{Done, Refused as NotCleared}
@@ -57,12 +57,12 @@ module _ (xs text : List ℕ) where
 
     pub arm-accepted : (firm rules roots : ℕ) → scan .reading ≡ Accepted firm rules roots
         → (Accepted firm rules roots ≡ armAnswer xs text)
-        × ((1 ∷ 0 ∷ firm ∷ roots ∷ []) ++ (scan .roots ++ ((rules ∷ []) ++ (scan .rules ++ (zeros 1285 ++ drop size xs)))) ≡ armMemory xs text)
+        × ((1 ∷ 0 ∷ firm ∷ roots ∷ []) ++ (scan .roots ++ ((rules ∷ []) ++ (scan .rules ++ (zeros restSize ++ drop size xs)))) ≡ armMemory xs text)
     unfolding armAnswer armMemory armRefusal isShort firstOf scanOf
     arm-accepted firm rules roots r =
         let f = reading-accepted (outcomeOf text) firm rules roots (sym read-is ∙ r) in (
           rw (le-ltb _ _ h, eq-eqb _ _ m) (sym r ∙ read-is),
           rw (le-ltb _ _ h, eq-eqb _ _ m, eq-eqb _ _ (f .0))
-              ((λ i. (1 ∷ 0 ∷ f .1 i ∷ f .3 i ∷ []) ++ (e i .roots ++ ((f .2 i ∷ []) ++ (e i .rules ++ (zeros 1285 ++ drop size xs)))))
+              ((λ i. (1 ∷ 0 ∷ f .1 i ∷ f .3 i ∷ []) ++ (e i .roots ++ ((f .2 i ∷ []) ++ (e i .rules ++ (zeros restSize ++ drop size xs)))))
               ∙ armed-stored (outcomeOf text .profile) xs (lawful text .rules-most)),
         )

@@ -166,9 +166,9 @@ same-memory xs call same = go (memoryRefusal xs) refl
     go zero e = either (isRefusal (step (decode xs) call .answer)) _ (ap (λ (s : State). stored s xs) same ∙ sym (laid xs e .is))
     go (suc n) e = rw (ne-eqb (suc n) 0 (λ z. omega arith))
 
-pub remaining-keeps : (xs : List ℕ) (time rule : ℕ) → callMemory xs (remaining time rule) ≡ xs
+pub remaining-keeps : (xs : List ℕ) (time rule unit : ℕ) → callMemory xs (remaining time rule unit) ≡ xs
 unfolding step
-remaining-keeps xs time rule = same-memory xs (remaining time rule) (remaining-same logPlaces (decode xs) time rule)
+remaining-keeps xs time rule unit = same-memory xs (remaining time rule unit) (remaining-same logPlaces (decode xs) time rule unit)
 
 pub status-keeps : (xs : List ℕ) → callMemory xs status ≡ xs
 unfolding step

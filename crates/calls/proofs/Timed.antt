@@ -9,7 +9,8 @@ use lib.ListN.{length}
 use lib.Dec.{eqb, leb, ltb}
 use borrow.Author.Tests.{ne-eqb, lt-leb}
 use Rattle.measures.specs.Ranges.{isIn, times}
-use Rattle.machine.specs.State.{rootsIn}
+use Rattle.machine.specs.State.{rootsIn, rulesIn}
+use Rattle.machine.specs.Remaining.{isCell}
 use Rattle.machine.specs.Calls.{order, lockout, remaining}
 use Rattle.machine.specs.Effects.{lastReset}
 use Rattle.machine.specs.Refusals.{firstOf, badTime, isRoot, refusalOf}
@@ -57,7 +58,7 @@ module _ (xs : List ℕ) (time : ℕ) where
     pub timed-met : timedRefusal xs time ≡ 0 → rest ≡ memoryOr xs (cond late 12 rest)
     timed-met e = let t = timed-on e in rw (t .0, t .1)
 
-  -- 13, by the roots and the accounts that were read
+  -- 13, by the roots and the rules that were read
   module _ (root reset : ℕ) where
     pub order-timed : (n : ℕ) → n ≡ timedRefusal xs time → (n ≡ 0 → ⊥) → n ≡ refusalIn xs (order time root reset)
     unfolding refusalIn refusalOf firstOf
@@ -68,15 +69,15 @@ module _ (xs : List ℕ) (time : ℕ) where
     unfolding refusalIn refusalOf firstOf isRoot rootsIn
     order-known e roots r b f = rw (← f, r) (timed-met _ e)
 
-  module _ (rule : ℕ) where
-    pub remaining-timed : (n : ℕ) → n ≡ timedRefusal xs time → (n ≡ 0 → ⊥) → n ≡ refusalIn xs (remaining time rule)
+  module _ (rule unit : ℕ) where
+    pub remaining-timed : (n : ℕ) → n ≡ timedRefusal xs time → (n ≡ 0 → ⊥) → n ≡ refusalIn xs (remaining time rule unit)
     unfolding refusalIn refusalOf firstOf
     remaining-timed n e h = timed-refused _ n e h
 
-    pub remaining-known : timedRefusal xs time ≡ 0 → (accounts : ℕ) → accounts ≡ length (decode xs .part .accounts) → (b : Bool) → not (ltb rule accounts) ≡ b
-        → cond b 13 0 ≡ refusalIn xs (remaining time rule)
+    pub remaining-known : timedRefusal xs time ≡ 0 → (known : Bool) → known ≡ isCell (rulesIn (decode xs)) rule unit → (b : Bool) → not known ≡ b
+        → cond b 13 0 ≡ refusalIn xs (remaining time rule unit)
     unfolding refusalIn refusalOf firstOf
-    remaining-known e accounts r b f = rw (← f, r) (timed-met _ e)
+    remaining-known e known r b f = rw (← f, r) (timed-met _ e)
 
   either-level : (level : ℕ) (a c : Bool) → (eqb level 0 && a || eqb level 1 && c) ≡ (leb level 1 && cond (eqb level 0) a c)
   either-level zero true c = refl

@@ -7,6 +7,8 @@ ghost use Prim.Native.Nat.{_≤_};
 ghost use lib.ListN.{length};
 ghost use Rattle.machine.specs.Entries.{areOrdered};
 ghost use Rattle.machine.specs.Calls.{Call};
+ghost use Rattle.machine.specs.State.{rulesIn};
+ghost use Rattle.machine.specs.Remaining.{isCell};
 ghost use Rattle.state.specs.State.{decode};
 ghost use Rattle.state.specs.Laid.{Laid};
 ghost use Rattle.calls.specs.Calls.{isFull, Granting, memoryRefusal, timedRefusal, refusalIn, offerRefusal, callAnswer, callMemory, armAnswer, armMemory, clearAnswer, clearMemory, sayAnswer, sayMemory, textAnswer, textMemory};
@@ -284,29 +286,41 @@ pub fn offer(m: &mut [u64], o: Offer) -> Answer
     granted(m, o)
 }
 
+// Whether there is such a rule, and it counts for such a unit.
+fn is_cell(m: &[u64], rule: u64, unit: u64) -> bool
+    requires { ⌜ Laid (now m) ⌝ }
+    ensures { λ r. ⌜ r ≡ isCell (rulesIn (decode (now (m .entry)))) rule unit ⌝ }
+{
+    if state::rules_in(m) as u64 <= rule {
+        return false;
+    }
+    let known = state::rule_in(m, rule as usize);
+    known.counts_for(unit)
+}
+
 // The refusal that a question after what remains meets, 0 for none.
-fn remaining_refusal(m: &[u64], time: u64, rule: u64) -> u64
-    ensures { λ r. ⌜ r ≡ refusalIn (now (m .entry)) (Call.remaining time rule) ⌝ }
+fn remaining_refusal(m: &[u64], time: u64, rule: u64, unit: u64) -> u64
+    ensures { λ r. ⌜ r ≡ refusalIn (now (m .entry)) (Call.remaining time rule unit) ⌝ }
 {
     let refusal = timed_refusal(m, time);
     if refusal != 0 {
         return refusal;
     }
-    if !(rule < state::accounts_in(m) as u64) {
+    if !is_cell(m, rule, unit) {
         return 13;
     }
     0
 }
 
-// What remains of a rule's limit at a time.
-pub fn remaining(m: &[u64], time: u64, rule: u64) -> Answer
-    ensures { λ r. ⌜ r ≡ callAnswer (now (m .entry)) (Call.remaining time rule) ⌝ }
+// What remains of a rule's limit for a unit at a time.
+pub fn remaining(m: &[u64], time: u64, rule: u64, unit: u64) -> Answer
+    ensures { λ r. ⌜ r ≡ callAnswer (now (m .entry)) (Call.remaining time rule unit) ⌝ }
 {
-    let refusal = remaining_refusal(m, time, rule);
+    let refusal = remaining_refusal(m, time, rule, unit);
     if refusal != 0 {
         return Answer::Refused(refusal);
     }
-    let left = counting::left(m, time, rule as usize);
+    let left = counting::left(m, time, rule as usize, unit);
     Answer::Left(left.number())
 }
 

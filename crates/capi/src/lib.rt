@@ -196,10 +196,16 @@ pub extern "C" fn mbrumzheg_lockout(
 
 // What remains of a rule's limit: refusal, the number.
 #[no_mangle]
-pub extern "C" fn mbrumzheg_remaining(m: &[u64], time: u64, rule: u64, row: &mut [u64; 5])
-    ensures { λ _. ⌜ now (row .exit) ≡ numbers (callAnswer (now (m .entry)) (Call.remaining time rule)) ⌝ }
+pub extern "C" fn mbrumzheg_remaining(
+    m: &[u64],
+    time: u64,
+    rule: u64,
+    unit: u64,
+    row: &mut [u64; 5],
+)
+    ensures { λ _. ⌜ now (row .exit) ≡ numbers (callAnswer (now (m .entry)) (Call.remaining time rule unit)) ⌝ }
 {
-    let answer = calls::remaining(m, time, rule);
+    let answer = calls::remaining(m, time, rule, unit);
     rows::put_answer(answer, row)
 }
 

@@ -70,9 +70,9 @@ module _ {xs : List ℕ} (h : Laid xs) {i : ℕ} (l : i < length (decode xs .par
   account-measured = ap (isOf (rule .limit)) account-counted ∙ of-in (rule .limit) _
 
   pub account-left : {r : Amount} → r ≡ amountIn (rule .limit) (ceiling (rule .limit) - numberOf sum)
-      → r ≡ amountIn (accountIn xs i .rule .limit) (leftOf (decode xs) time (accountIn xs i))
+      → r ≡ amountIn (rule .limit) (leftOf (decode xs) time (accountIn xs i))
   unfolding leftOf
   account-left e =
       let n = counted (decode xs .log) time (accountIn xs i) in
       e ∙ ap (λ (k : ℕ). amountIn (rule .limit) (ceiling (rule .limit) - k)) (ap numberOf account-counted ∙ number-in (rule .limit) n)
-      ∙ ap (λ (q : Rule). amountIn (q .limit) (ceiling (q .limit) - n)) is
+      ∙ ap (λ (q : Rule). amountIn (rule .limit) (ceiling (q .limit) - n)) is

@@ -7,7 +7,9 @@ ghost use Rattle.rules.specs.Amounts.{amountIn};
 ghost use Rattle.rules.specs.Valid.{isRule};
 ghost use Rattle.machine.specs.Entries.{areOrdered};
 ghost use Rattle.machine.specs.Offers.{counted};
-ghost use Rattle.machine.specs.Remaining.{leftOf};
+ghost use Rattle.rules.specs.Units.{isUnitOf};
+ghost use Rattle.machine.specs.State.{rulesIn};
+ghost use Rattle.machine.specs.Remaining.{ruleAt, accountFor, leftOf};
 ghost use Rattle.log.specs.Memo.{sumIn, RightTwo};
 ghost use Rattle.state.specs.State.{decode};
 ghost use Rattle.state.specs.Laid.{Laid, accountIn};
@@ -67,13 +69,22 @@ pub fn counted_by(m: &[u64], i: usize, rule: Rule, time: u64, memos: Two) -> Tol
 }
 
 // What remains of the limit of account i at a time, and 0 if more than the limit is counted.
-pub fn left(m: &[u64], time: u64, i: usize) -> Amount
-    requires { ⌜ Laid (now m) × (i < length (decode (now m) .part .accounts)) × (areOrdered 0 time (decode (now m) .log) ≡ true) ⌝ }
-    ensures { λ r. ⌜ r ≡ amountIn (accountIn (now (m .entry)) i .rule .limit) (leftOf (decode (now (m .entry))) time (accountIn (now (m .entry)) i)) ⌝ }
+fn left_of(m: &[u64], time: u64, i: usize, rule: Rule) -> Amount
+    requires { ⌜ Laid (now m) × (i < length (decode (now m) .part .accounts)) × (rule ≡ accountIn (now m) i .rule) × (areOrdered 0 time (decode (now m) .log) ≡ true) ⌝ }
+    ensures { λ r. ⌜ r ≡ amountIn (rule .limit) (leftOf (decode (now (m .entry))) time (accountIn (now (m .entry)) i)) ⌝ }
 {
-    let rule = state::rule_in(m, i);
     let limit = rule.limit;
     let total = state::total_in(m, i, limit);
     let counted = rule.counted(total, logged(m, rule, time));
     rule.left(counted)
+}
+
+// What remains of a rule's limit for a unit at a time, and 0 if more than the limit is counted.
+pub fn left(m: &[u64], time: u64, rule: usize, unit: u64) -> Amount
+    requires { ⌜ Laid (now m) × (rule < length (rulesIn (decode (now m)))) × (isUnitOf (ruleAt (rulesIn (decode (now m))) rule .scope) unit ≡ true) × (areOrdered 0 time (decode (now m) .log) ≡ true) ⌝ }
+    ensures { λ r. ⌜ r ≡ amountIn (ruleAt (rulesIn (decode (now (m .entry)))) rule .limit) (leftOf (decode (now (m .entry))) time (accountFor (decode (now (m .entry)) .part) rule unit)) ⌝ }
+{
+    let own = state::rule_in(m, rule);
+    let place = state::account_at(m, rule, unit);
+    left_of(m, time, place, own.of_unit(unit))
 }

@@ -4,6 +4,7 @@ use mathlib.Core.Path.{_≡_}
 use mathlib.Core.List.{List, [], _∷_, map}
 use native.Mathlib.Nat.{le-refl}
 use Rattle.rules.specs.Allowance.{All}
+use Rattle.rules.specs.Units.{ofUnit}
 use Rattle.rules.specs.declared.Level.{Level}
 use Rattle.rules.specs.declared.Rule.{Rule}
 use Rattle.rules.specs.declared.Account.{Account}
@@ -12,6 +13,7 @@ use Rattle.machine.specs.State.{Profile, State, cellsOf, ruleOf}
 use Rattle.machine.specs.Deeds.{Deed, clockAfter}
 use Rattle.machine.specs.Locks.{isTripped, isByUser}
 use Rattle.machine.specs.Offers.{counted, longest}
+use Rattle.machine.proofs.Cells.{cells-all}
 use Rattle.demand.specs.Locked.{countedIn}
 use Rattle.demand.specs.Answers.{trippedIn, byUserIn}
 use Rattle.demand.proofs.Past.{Kept}
@@ -26,17 +28,20 @@ clockIn (deed ∷ earlier) = clockAfter deed (clockIn earlier)
 unfoldable pub Right : State → List Deed → Account → Type 0
 Right s h a = (t : ℕ) → s .part .clock ≤ t → counted (s .log) t a ≡ countedIn (a .rule) h t
 
--- the state has the profile and an account a cell, counts what the deeds have, each grant found room, and marks and clock are what the deeds say
+-- the state has the profile and its rules' accounts, counts what the deeds have, each grant found room, and marks and clock are what the deeds say
 pub record Inv (p : Profile) (s : State) (h : List Deed) : Type 0 where
   pub profile : s .part .profile ≡ p
   pub same : map ruleOf (s .part .accounts) ≡ cellsOf (p .rules)
   pub right : All (Right s h) (s .part .accounts)
   pub kept : All (λ rule. Kept rule h) (cellsOf (p .rules))
-  pub tripped : (level : Level) → isTripped (s .part .locks) level ≡ trippedIn (cellsOf (p .rules)) level h
+  pub tripped : (level : Level) → isTripped (s .part .locks) level ≡ trippedIn (p .rules) level h
   pub byUser : (level : Level) → isByUser (s .part .locks) level ≡ byUserIn level h
   pub clock : s .part .clock ≡ clockIn h
 
--- the windows of the cells are those of the rules
+-- the windows of the accounts are those of the rules
 pub cells-fit : (rules : List Rule) → All (λ rule. Fits (longest rules) (hasRate rules) (rule .kind)) (cellsOf rules)
-unfolding cellsOf
-cells-fit rules = all-fit rules (longest rules) (hasRate rules) (le-refl (longest rules)) (λ e. e)
+unfolding ofUnit
+cells-fit rules =
+    cells-all (λ rule. Fits (longest rules) (hasRate rules) (rule .kind)) (λ rule. Fits (longest rules) (hasRate rules) (rule .kind))
+    (λ rule unit known fits. fits) rules
+    (all-fit rules (longest rules) (hasRate rules) (le-refl (longest rules)) (λ e. e))

@@ -3,8 +3,7 @@ use Prim.Native.Nat.{ℕ}
 use mathlib.Core.Path.{_≡_, refl, ap, _∙_}
 use mathlib.Core.Bool.{false}
 use mathlib.Core.List.{List, _∷_}
-use Rattle.rules.specs.declared.Rule.{Rule}
-use Rattle.machine.specs.State.{Profile, State, cellsOf}
+use Rattle.machine.specs.State.{Profile, State}
 use Rattle.machine.specs.declared.Answer.the-variants.{Judged, Left, Standing as Stand}
 use Rattle.machine.specs.Effects.{effectOf}
 use Rattle.machine.specs.Deeds.{Deed, resetting}
@@ -21,11 +20,8 @@ use Rattle.demand.proofs.Invariant.{Inv}
 use Rattle.demand.proofs.Tells.{verdict-now, standing-same, offered-same, left-same}
 
 module _ (p : Profile) (s : State) (h : List Deed) (i : Inv p s h) where
-  abbrev cells : List Rule
-  cells = cellsOf (p .rules)
-
   -- the verdict after a deed
-  verdict-after : (deed : Deed) (root : ℕ) → Meets s deed → verdictOf (locksAfter deed s) root ≡ verdictIn cells root (deed ∷ h)
+  verdict-after : (deed : Deed) (root : ℕ) → Meets s deed → verdictOf (locksAfter deed s) root ≡ verdictIn (p .rules) root (deed ∷ h)
   unfolding after partAfter
   verdict-after deed root m = verdict-now p (after deed s) (deed ∷ h) (deed-keeps p s h i deed m) root
 
@@ -37,8 +33,9 @@ module _ (p : Profile) (s : State) (h : List Deed) (i : Inv p s h) where
       (verdict-after (resetting time root (effectOf reset)) root (orderable room s time root reset e .0))
   judged-same room (lockout time level root) e = refl
   judged-same room (offer o) e =
-      offered-same p s h i o (verdictOf (s .part .locks) (o .root)) (accepted room s o e .time .after)
-      ∙ ap (offerAnswer cells h o) (verdict-now p s h i (o .root))
-  judged-same room (remaining time rule) e =
-      let a = askable room s time rule e in ap Left (left-same p s h i time rule (a .0 .after) (a .1))
+      let a = accepted room s o e in
+      offered-same p s h i o (verdictOf (s .part .locks) (o .root)) (a .unit) (a .time .after)
+      ∙ ap (offerAnswer (p .rules) h o) (verdict-now p s h i (o .root))
+  judged-same room (remaining time rule unit) e =
+      let a = askable room s time rule unit e in ap Left (left-same p s h i time rule unit (a .0 .after) (a .1))
   judged-same room status e = ap Stand (standing-same p s h i)

@@ -30,7 +30,7 @@ deed-keeps p s h i deed m = record {
   same = same-rules deed (s .part .accounts) ∙ i .same;
   right = right-after p s h i deed (later s deed m);
   kept = kept-after p s h i deed m;
-  tripped = λ level. tripped-after p s h i deed level (later s deed m) ∙ rw (i .tripped level);
+  tripped = λ level. tripped-after p s h i deed level m ∙ rw (i .tripped level);
   byUser = λ level. byUser-after p s h i deed level ∙ rw (i .byUser level);
   clock = ap (clockAfter deed) (i .clock);
 }

@@ -4,6 +4,7 @@ pub mod Since
 pub mod Marks
 pub mod Counted
 pub mod Invariant
+pub mod Looked
 pub mod Amounts
 pub mod Trips
 pub mod Keeps

@@ -2,7 +2,7 @@
 use Prim.Native.Nat.{ℕ, zero, suc, _+_, _<_}
 use mathlib.Core.Path.{_≡_, refl, sym, ap, ap₂, _∙_, subst⁻¹}
 use mathlib.Core.Logic.{_↔_}
-use mathlib.Core.Bool.{Bool, true, false, cond, _||_, false≢true, or-true}
+use mathlib.Core.Bool.{Bool, true, false, cond, _&&_, _||_, false≢true, and-false, or-true}
 use mathlib.Core.List.{List, [], _∷_, _++_, map, List·Memᴰ, List·Memᴰ·head, List·Memᴰ·tail}
 use lib.ListN.{length, getD}
 use native.Mathlib.Omega.{arith}
@@ -80,6 +80,26 @@ module _ {A : Type 0} where
   unfolding anyOf
   any-none p h [] = refl
   any-none p h (x ∷ xs) = rw (h x) (any-none p h xs)
+
+  pub any-ext : {p q : A → Bool} → ((a : A) → p a ≡ q a) → (xs : List A) → anyOf p xs ≡ anyOf q xs
+  unfolding anyOf
+  any-ext h [] = refl
+  any-ext h (x ∷ xs) = ap₂ _||_ (h x) (any-ext h xs)
+
+  -- a test that only those pass which pass another too is looked for among these
+  pub any-kept : (a c p : A → Bool) (xs : List A) → anyOf (λ x. a x && (c x && p x)) xs ≡ anyOf (λ (b : Bool). b) (map (λ x. a x && p x) (keep c xs))
+  unfolding anyOf keep
+  any-kept a c p [] = refl
+  any-kept a c p (x ∷ xs) = rw (any-kept a c p xs) (go (c x))
+    where
+      rest : List A
+      rest = keep c xs
+
+      go : (b : Bool)
+          → ((a x && (b && p x)) || anyOf (λ (b : Bool). b) (map (λ y. a y && p y) rest))
+          ≡ anyOf (λ (b : Bool). b) (map (λ y. a y && p y) (cond b (x ∷ rest) rest))
+      go true = refl
+      go false = rw (and-false (a x))
 
   -- some element of a list passes a test
   pub any-by : (p : A → Bool) (xs : List A) → (anyOf p xs ≡ true) ↔ ((x : A) × List·Memᴰ x xs × (p x ≡ true))

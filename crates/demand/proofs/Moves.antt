@@ -24,7 +24,7 @@ unfolding judged ordered isRefusal
 judged-accepted s (order time root reset) = refl
 judged-accepted s (lockout time level root) = refl
 judged-accepted s (offer o) = offered-accepted s o (verdictOf (s .part .locks) (o .root))
-judged-accepted s (remaining time rule) = refl
+judged-accepted s (remaining time rule unit) = refl
 judged-accepted s status = refl
 
 -- a call moves what it moves, whatever room the log has

@@ -25,7 +25,7 @@ unfolding deedOf ifAccepted ifGranted
 refused-deed (order time root reset) n = refl
 refused-deed (lockout time level root) n = refl
 refused-deed (offer o) n = refl
-refused-deed (remaining time rule) n = refl
+refused-deed (remaining time rule unit) n = refl
 refused-deed status n = refl
 
 offered-deed : (s : State) (o : Offer) (verdict : ℕ)
@@ -42,7 +42,7 @@ unfolding judged ordered deedOf ifAccepted contractsOf grantedBy
 judged-deed s (order time root reset) = (refl, refl)
 judged-deed s (lockout time level root) = (refl, refl)
 judged-deed s (offer o) = offered-deed s o (verdictOf (s .part .locks) (o .root))
-judged-deed s (remaining time rule) = (refl, refl)
+judged-deed s (remaining time rule unit) = (refl, refl)
 judged-deed s status = (refl, refl)
 
 -- a call that is not refused sets the clock to its time, Remaining apart
@@ -57,7 +57,7 @@ unfolding judged ordered clockAfter isRefusal setsTo
 judged-timed s (order time root reset) c = refl
 judged-timed s (lockout time level root) c = refl
 judged-timed s (offer o) c = offered-timed s o (verdictOf (s .part .locks) (o .root)) c
-judged-timed s (remaining time rule) c = refl
+judged-timed s (remaining time rule unit) c = refl
 judged-timed s status c = refl
 
 -- what one call keeps and tells

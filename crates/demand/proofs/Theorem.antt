@@ -8,6 +8,7 @@ use lib.Pow.{pow-pos}
 use native.Mathlib.Nat.{le-refl}
 use Rattle.bits.proofs.Words.{bit-beyond}
 use Rattle.rules.specs.Rules.{levelOf, countedOf}
+use Rattle.rules.specs.Units.{ofUnit}
 use Rattle.rules.specs.declared.Level.{Level}
 use Rattle.rules.specs.declared.Level.the-variants.{Firm, Root}
 use Rattle.rules.specs.declared.Kind.{Kind}
@@ -21,6 +22,7 @@ use Rattle.machine.specs.Locks.{isTripped, isByUser}
 use Rattle.machine.specs.Offers.{counted, sameLevel}
 use Rattle.machine.specs.Calls.{Call}
 use Rattle.machine.specs.Judge.{logPlaces, stepIn, step}
+use Rattle.machine.proofs.Cells.{cell-in}
 use Rattle.demand.specs.Run.{Event, Run, afterCall, runFrom, runOf}
 use Rattle.demand.specs.History.{deedsOf, lifts}
 use Rattle.demand.specs.Locked.{countedIn, tripsOn, locksOut, ruleTrips, locks, LockedBy}
@@ -114,12 +116,13 @@ clock-told rules (event ∷ earlier) t = rw (clock-told rules earlier (t .1)) (t
 pub stands-demand : (p : Profile) (now : State) (history : List Event) → Inv p now (deedsOf history) → Each (Told (p .rules)) history
     → Demand3 (p .rules) now history
 stands-demand p now history i told =
-    let rules = cellsOf (p .rules) in
     let deeds = deedsOf history in
     record {
-      sums = λ rule m. kept-within rule deeds (all-mem (λ r. Kept r deeds) rules m (i .kept));
-      locksExactly = λ level. rw (locked-now p now deeds i level) (locked-by rules level deeds);
-      meaning = locked-by rules;
+      sums =
+          λ rule m unit known.
+          kept-within (ofUnit rule unit) deeds (all-mem (λ r. Kept r deeds) (cellsOf (p .rules)) (cell-in rule unit known (p .rules) m) (i .kept));
+      locksExactly = λ level. rw (locked-now p now deeds i level) (locked-by (p .rules) level deeds);
+      meaning = locked-by (p .rules);
       answers = told;
       clock = i .clock ∙ clock-told (p .rules) history told;
     }

@@ -1,60 +1,43 @@
 -- After each deed the marks are those that the deeds leave. Assumes nothing.
-use Prim.Native.Nat.{ℕ, _≤_}
-use mathlib.Core.Path.{_≡_, refl, sym, ap, _∙_}
-use mathlib.Core.Bool.{Bool, true, false, not, _&&_, _||_, and-assoc, and-false}
-use mathlib.Core.List.{List, [], _∷_, map}
+use Prim.Native.Nat.{ℕ}
+use mathlib.Core.Path.{_≡_, refl, sym, _∙_}
+use mathlib.Core.Bool.{Bool, true, false, not, _&&_, _||_, and-false}
+use mathlib.Core.List.{List}
 use lib.Dec.{eqb}
 use borrow.Author.Tests.{eqb-true, ne-eqb}
 use Rattle.rules.specs.Rules.{levelOf, covers}
-use Rattle.rules.specs.Allowance.{All}
 use Rattle.rules.specs.declared.Level.{Level}
 use Rattle.rules.specs.declared.Level.the-variants.{Root}
 use Rattle.rules.specs.declared.Scope.{Scope}
 use Rattle.rules.specs.declared.Scope.the-variants.{EveryFill, WholeRoot, OneUnit}
 use Rattle.rules.specs.declared.Rule.{Rule}
 use Rattle.rules.specs.declared.Account.{Account}
-use Rattle.laws.specs.Folds.{anyOf}
-use Rattle.machine.specs.State.{Profile, State, cellsOf, ruleOf}
+use Rattle.machine.specs.State.{Profile, State}
 use Rattle.machine.specs.declared.Offer.{Offer}
 use Rattle.machine.specs.declared.Effect.{Effect}
 use Rattle.machine.specs.Effects.{lifting}
-use Rattle.machine.specs.Deeds.{Source, Deed, nothing, passing, filling, resetting, lockingOut, clockAfter}
+use Rattle.machine.specs.Deeds.{Deed, nothing, passing, filling, resetting, lockingOut}
 use Rattle.machine.specs.Locks.{isTripped, isByUser}
 use Rattle.machine.specs.Offers.{coversOffer, sameLevel, levelTrips}
 use Rattle.machine.specs.Step.{locksAfter}
+use Rattle.machine.proofs.Sound.{Meets}
 use Rattle.demand.specs.History.{lifts}
 use Rattle.demand.specs.Locked.{tripsOn, locksOut, ruleTrips}
 use Rattle.demand.proofs.Lists.{any-none}
 use Rattle.demand.proofs.Marks.{Only, lifted-tripped, lifted-byUser, tripped-tripped, tripped-byUser, lockedOut-tripped, lockedOut-byUser}
-use Rattle.demand.proofs.Invariant.{Right, Inv}
+use Rattle.demand.proofs.Invariant.{Inv}
+use Rattle.demand.proofs.Looked.{trips-same}
 
 module _ (p : Profile) (s : State) (h : List Deed) (i : Inv p s h) where
   abbrev accounts : List Account
   accounts = s .part .accounts
 
-  abbrev cells : List Rule
-  cells = cellsOf (p .rules)
-
-  -- the trips of the state are those of the deeds
-  trips-each : (source : Source) (o : Offer) (n : ℕ) (level : Level) (some : List Account) → s .part .clock ≤ o .time → All (Right s h) some
-      → levelTrips (s .log) o n some level ≡ ruleTrips (map ruleOf some) level (filling source o n) h
-  unfolding levelTrips ruleTrips tripsOn anyOf Right
-  trips-each source o n level [] le right = refl
-  trips-each source o n level (a ∷ rest) le right =
-      rw (right .0 (o .time) le, trips-each source o n level rest le (right .1))
-      (ap (λ (b : Bool). b || ruleTrips (map ruleOf rest) level (filling source o n) h)
-      (and-assoc (sameLevel (levelOf (a .rule .scope)) level) (coversOffer o (a .rule)) _))
-
-  pub trips-same : (source : Source) (o : Offer) (n : ℕ) (level : Level) → s .part .clock ≤ o .time
-      → levelTrips (s .log) o n accounts level ≡ ruleTrips cells level (filling source o n) h
-  trips-same source o n level le = trips-each source o n level accounts le (i .right) ∙ rw (i .same)
-
   -- only a grant trips rules
-  no-trip : (level : Level) (deed : Deed) → ((rule : Rule) → tripsOn rule deed h ≡ false) → ruleTrips cells level deed h ≡ false
+  no-trip : (level : Level) (deed : Deed) → ((rule : Rule) → tripsOn rule deed h ≡ false) → ruleTrips (p .rules) level deed h ≡ false
   unfolding ruleTrips
   no-trip level deed none =
       any-none (λ (rule : Rule). sameLevel (levelOf (rule .scope)) level && tripsOn rule deed h)
-      (λ rule. rw (none rule) (and-false (sameLevel (levelOf (rule .scope)) level))) cells
+      (λ rule. rw (none rule) (and-false (sameLevel (levelOf (rule .scope)) level))) (p .rules)
 
   -- two tests never hold together
   never : (a b : Bool) → (a ≡ true → b ≡ false) → (a && b) ≡ false
@@ -83,17 +66,18 @@ module _ (p : Profile) (s : State) (h : List Deed) (i : Inv p s h) where
   lifting-only effect root r f = rw (ne-eqb r root f)
 
   -- what each deed leaves of a level's trip, and of its lockout by the user
-  pub tripped-after : (deed : Deed) (level : Level) → s .part .clock ≤ clockAfter deed (s .part .clock)
-      → isTripped (locksAfter deed s) level ≡ (not (lifts level deed) && (ruleTrips cells level deed h || isTripped (s .part .locks) level))
-  unfolding locksAfter lifts tripsOn clockAfter
-  tripped-after nothing level le = rw (no-trip level nothing (λ rule. refl))
-  tripped-after (passing time) level le = rw (no-trip level (passing time) (λ rule. refl))
-  tripped-after (filling source o n) level le =
-      tripped-tripped (s .part .locks) (o .root) (levelTrips (s .log) o n accounts) (trips-only o n) level ∙ rw (trips-same source o n level le)
-  tripped-after (resetting time root effect) level le =
+  pub tripped-after : (deed : Deed) (level : Level) → Meets s deed
+      → isTripped (locksAfter deed s) level ≡ (not (lifts level deed) && (ruleTrips (p .rules) level deed h || isTripped (s .part .locks) level))
+  unfolding locksAfter lifts tripsOn Meets
+  tripped-after nothing level m = rw (no-trip level nothing (λ rule. refl))
+  tripped-after (passing time) level m = rw (no-trip level (passing time) (λ rule. refl))
+  tripped-after (filling source o n) level m =
+      tripped-tripped (s .part .locks) (o .root) (levelTrips (s .log) o n accounts) (trips-only o n) level
+      ∙ rw (trips-same p s h i o (m .unit) source n level (m .time .after))
+  tripped-after (resetting time root effect) level m =
       rw (no-trip level (resetting time root effect) (λ rule. refl))
       (lifted-tripped (s .part .locks) root (lifting effect root) (lifting-only effect root) level)
-  tripped-after (lockingOut time named) level le =
+  tripped-after (lockingOut time named) level m =
       rw (no-trip level (lockingOut time named) (λ rule. refl)) (lockedOut-tripped (s .part .locks) named level)
 
   pub byUser-after : (deed : Deed) (level : Level)

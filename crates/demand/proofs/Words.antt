@@ -1,53 +1,35 @@
 -- What demand 3 tells of each answer, in words. Assumes nothing.
-use Prim.Native.Nat.{ℕ, zero, suc, min}
-use mathlib.Core.Path.{_≡_, refl, ap, subst, subst⁻¹}
-use mathlib.Core.Bool.{Bool, true, false, cond}
-use mathlib.Core.List.{List, [], _∷_, _++_, map}
+use Prim.Native.Nat.{ℕ, zero, suc}
+use mathlib.Core.Path.{_≡_, refl, subst, subst⁻¹}
+use mathlib.Core.Bool.{Bool, false}
+use mathlib.Core.List.{List, [], _∷_, _++_}
 use native.Mathlib.Omega.{arith}
-use Rattle.laws.specs.Folds.{keep}
-use Rattle.rules.specs.Allowance.{Largest, KeepsAll, allowance, leastOf}
+use Rattle.rules.specs.Allowance.{Largest, KeepsAll}
 use Rattle.rules.specs.declared.Level.{Level}
 use Rattle.rules.specs.declared.Level.the-variants.{Firm, Root}
-use Rattle.rules.specs.declared.Limit.{Limit}
 use Rattle.rules.specs.declared.Rule.{Rule}
 use Rattle.rules.proofs.Laws.{grant-largest}
 use Rattle.machine.specs.declared.Answer.{Answer}
 use Rattle.machine.specs.declared.Answer.the-variants.{Judged}
 use Rattle.machine.specs.declared.Offer.{Offer}
-use Rattle.machine.specs.State.{Profile, State, cellsOf}
+use Rattle.machine.specs.State.{Profile, State}
 use Rattle.machine.specs.Calls.{Call, order, lockout, offer, remaining, status}
 use Rattle.machine.specs.Deeds.{granted, Deed, filling}
-use Rattle.machine.specs.Offers.{coversOffer}
 use Rattle.demand.specs.Run.{Event, runOf}
 use Rattle.demand.specs.History.{deedsOf}
-use Rattle.demand.specs.Locked.{countedIn, ruleTrips}
+use Rattle.demand.specs.Locked.{ruleTrips}
 use Rattle.demand.specs.Answers.{verdictIn, grantIn, grantedAnswer, offerAnswer, answerIn, Told, Each}
 use Rattle.machine.specs.Judge.{isRefusal}
 use Rattle.demand.specs.Demand.{Demand3}
 use Rattle.demand.specs.Words.{_answered_, VerdictBy, Nothing, limitsIn, StandingBy, Words}
+use Rattle.demand.proofs.Looked.{least-of}
 use Rattle.demand.proofs.Theorem.{demand3}
 use Rattle.demand.proofs.Verdict.{verdict-by, trips-by, standing-by}
 
 -- the grant that the deeds tell is the largest that keeps the limits
 module _ (deeds : List Deed) (o : Offer) where
-  abbrev allowed : Limit × ℕ → ℕ
-  allowed l = allowance (l .0) (l .1) (o .premium) (o .contracts)
-
-  least-of : (rules : List Rule) → grantIn deeds o rules ≡ leastOf (o .contracts) (map allowed (limitsIn rules deeds o))
-  unfolding grantIn leastOf keep
-  least-of [] = refl
-  least-of (rule ∷ rest) = go (coversOffer o rule) (keep (coversOffer o) rest) (least-of rest)
-    where
-      limit : Rule → Limit × ℕ
-      limit r = (r .limit, countedIn r deeds (o .time))
-
-      go : (b : Bool) (more : List Rule) {n : ℕ} → n ≡ leastOf (o .contracts) (map allowed (map limit more))
-          → cond b (min (allowed (limit rule)) n) n ≡ leastOf (o .contracts) (map allowed (map limit (cond b (rule ∷ more) more)))
-      go true more e = ap (min (allowed (limit rule))) e
-      go false more e = e
-
   largest-in : (rules : List Rule) → Largest (KeepsAll (limitsIn rules deeds o) (o .premium)) (o .contracts) (grantIn deeds o rules)
-  largest-in rules = rw (least-of rules) (grant-largest (limitsIn rules deeds o) (o .premium) (o .contracts))
+  largest-in rules = rw (least-of deeds o rules) (grant-largest (limitsIn rules deeds o) (o .premium) (o .contracts))
 
 -- a grant trips a level
 abbrev tripped : List Rule → List Deed → Offer → ℕ → Level → Bool
@@ -78,8 +60,8 @@ module _ (rules : List Rule) (deeds : List Deed) where
   unfolding answerIn
   locked-nothing (order time root reset) e = (cc, cc, cc)
   locked-nothing {verdict} (lockout time level root) e = let z : suc verdict ≡ 0 = cc in absurd (omega arith)
-  locked-nothing (offer o) e = offer-nothing (cellsOf rules) deeds o (verdictIn (cellsOf rules) (o .root) deeds) e
-  locked-nothing (remaining time rule) e = let z : _≡_ {A = ℕ} 0 1 = cc in absurd (omega arith)
+  locked-nothing (offer o) e = offer-nothing rules deeds o (verdictIn rules (o .root) deeds) e
+  locked-nothing (remaining time rule unit) e = let z : _≡_ {A = ℕ} 0 1 = cc in absurd (omega arith)
   locked-nothing status e = let z : _≡_ {A = ℕ} 0 1 = cc in absurd (omega arith)
 
   -- an event is told by its call
@@ -91,23 +73,20 @@ module _ (rules : List Rule) (deeds : List Deed) where
   pub told-words : (event : Event) → Told rules event deeds → Words rules event deeds
   unfolding answerIn isRefusal
   told-words event t = record {
-    orders = λ {time} {root} {reset} e. subst⁻¹ (VerdictBy cells root _) (let x = told-as t e refl in cc) (verdict-by cells root _);
-    offers = λ {o} e. subst⁻¹ (VerdictBy cells (o .root) deeds) (offer-verdict cells deeds o (verdict o) (told-as t e refl)) (verdict-by cells (o .root) deeds);
+    orders = λ {time} {root} {reset} e. subst⁻¹ (VerdictBy rules root _) (let x = told-as t e refl in cc) (verdict-by rules root _);
+    offers = λ {o} e. subst⁻¹ (VerdictBy rules (o .root) deeds) (offer-verdict rules deeds o (verdict o) (told-as t e refl)) (verdict-by rules (o .root) deeds);
     lockedOut = λ {call} e. locked-nothing call (told-as t e refl);
     ordered = λ e. let x = told-as t e refl in (cc, cc, cc);
     lockouts = λ e. let x = told-as t e refl in (cc, (cc, cc, cc));
-    grants = λ {o} e. rw (offer-grant cells deeds o (verdict o) (told-as t e refl) .0) (largest-in deeds o cells);
-    rootTrips = λ {o} {grant} e. rw (offer-grant cells deeds o (verdict o) (told-as t e refl) .1) (trips-by cells (Root (o .root)) (filling granted o grant) deeds);
-    firmTrips = λ {o} {grant} e. rw (offer-grant cells deeds o (verdict o) (told-as t e refl) .2) (trips-by cells Firm (filling granted o grant) deeds);
+    grants = λ {o} e. rw (offer-grant rules deeds o (verdict o) (told-as t e refl) .0) (largest-in deeds o rules);
+    rootTrips = λ {o} {grant} e. rw (offer-grant rules deeds o (verdict o) (told-as t e refl) .1) (trips-by rules (Root (o .root)) (filling granted o grant) deeds);
+    firmTrips = λ {o} {grant} e. rw (offer-grant rules deeds o (verdict o) (told-as t e refl) .2) (trips-by rules Firm (filling granted o grant) deeds);
     remains = λ e. let x = told-as t e refl in cc;
-    stands = λ e. subst⁻¹ (StandingBy cells deeds) (let x = told-as t e refl in cc) (standing-by cells deeds);
+    stands = λ e. subst⁻¹ (StandingBy rules deeds) (let x = told-as t e refl in cc) (standing-by rules deeds);
   }
     where
-      cells : List Rule
-      cells = cellsOf rules
-
       verdict : Offer → ℕ
-      verdict o = verdictIn (cellsOf rules) (o .root) deeds
+      verdict o = verdictIn rules (o .root) deeds
 
 -- THE WORDS: what demand 3 tells of a history, it tells in words
 pub demand-words : (rules : List Rule) (now : State) (history : List Event) → Demand3 rules now history → Each (Words rules) history

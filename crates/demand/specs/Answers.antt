@@ -3,10 +3,10 @@ use Prim.Native.Nat.{ℕ, zero, suc, _-_, min}
 use mathlib.Core.Path.{_≡_}
 use mathlib.Core.Bool.{Bool, true, false, not, cond, _&&_, _||_}
 use mathlib.Core.List.{List, [], _∷_}
-use lib.ListN.{getD}
 use Rattle.bits.specs.Locks.{count, first}
 use Rattle.bits.specs.declared.Standing.{Standing}
 use Rattle.rules.specs.Rules.{ceiling}
+use Rattle.rules.specs.Units.{ofUnit}
 use Rattle.rules.specs.Allowance.{allowance}
 use Rattle.rules.specs.declared.Level.{Level}
 use Rattle.rules.specs.declared.Level.the-variants.{Firm, Root}
@@ -15,12 +15,11 @@ use Rattle.machine.specs.declared.Answer.{Answer}
 use Rattle.machine.specs.Judge.{isRefusal}
 use Rattle.machine.specs.declared.Answer.the-variants.{Refused, Judged, Left, Standing as Stand}
 use Rattle.machine.specs.declared.Offer.{Offer}
-use Rattle.machine.specs.State.{cellsOf}
 use Rattle.machine.specs.Effects.{effectOf}
 use Rattle.machine.specs.Calls.{Call, order, lockout, offer, remaining, status}
 use Rattle.machine.specs.Deeds.{granted, Deed, filling, resetting, clockAfter}
 use Rattle.machine.specs.Offers.{coversOffer}
-use Rattle.machine.specs.Remaining.{noAccount}
+use Rattle.machine.specs.Remaining.{ruleAt}
 use Rattle.demand.specs.Run.{Event}
 use Rattle.demand.specs.History.{deedOf, deedsOf, contractsOf, lifts}
 use Rattle.demand.specs.Locked.{countedIn, locksOut, ruleTrips, locks}
@@ -46,12 +45,12 @@ lockedIn rules level deeds = since (lifts level) (locks rules level) deeds
 unfoldable pub verdictIn : List Rule → ℕ → List Deed → ℕ
 verdictIn rules root deeds = cond (lockedIn rules Firm deeds) 1 (cond (lockedIn rules (Root root) deeds) 2 0)
 
--- the least allowance of the rules that cover the offer, by what counts for them
+-- the least allowance of the rules that cover the offer, by what counts for them on the offer's unit
 unfoldable pub grantIn : List Deed → Offer → List Rule → ℕ
 grantIn deeds o [] = o .contracts
 grantIn deeds o (rule ∷ rest) =
     cond (coversOffer o rule)
-    (min (allowance (rule .limit) (countedIn rule deeds (o .time)) (o .premium) (o .contracts)) (grantIn deeds o rest))
+    (min (allowance (rule .limit) (countedIn (ofUnit rule (o .unit)) deeds (o .time)) (o .premium) (o .contracts)) (grantIn deeds o rest))
     (grantIn deeds o rest)
 
 -- 1 if a test holds
@@ -77,18 +76,18 @@ unfoldable pub offerAnswer : List Rule → List Deed → Offer → ℕ → Answe
 offerAnswer rules deeds o zero = grantedAnswer rules deeds o (grantIn deeds o rules)
 offerAnswer rules deeds o (suc verdict) = Judged (suc verdict) 0 false false
 
--- the rule that Remaining asks for
-unfoldable pub ruleAt : List Rule → ℕ → Rule
-ruleAt rules rule = getD (cellsOf rules) rule (noAccount .rule)
+-- what remains of a rule's limit on a unit: the limit less what counts there, 0 if more counts
+unfoldable pub leftIn : Rule → ℕ → List Deed → ℕ → ℕ
+leftIn rule unit deeds time = ceiling (rule .limit) - countedIn (ofUnit rule unit) deeds time
 
 -- what a call is answered that is not refused, by the rules and what was done before it
 unfoldable pub answerIn : List Rule → List Deed → Call → Answer
 answerIn rules deeds (order time root reset) =
-    Judged (verdictIn (cellsOf rules) root (resetting time root (effectOf reset) ∷ deeds)) 0 false false
+    Judged (verdictIn rules root (resetting time root (effectOf reset) ∷ deeds)) 0 false false
 answerIn rules deeds (lockout time level root) = Judged 0 0 false false
-answerIn rules deeds (offer o) = offerAnswer (cellsOf rules) deeds o (verdictIn (cellsOf rules) (o .root) deeds)
-answerIn rules deeds (remaining time rule) = Left (ceiling (ruleAt rules rule .limit) - countedIn (ruleAt rules rule) deeds time)
-answerIn rules deeds status = Stand (standingIn (cellsOf rules) deeds)
+answerIn rules deeds (offer o) = offerAnswer rules deeds o (verdictIn rules (o .root) deeds)
+answerIn rules deeds (remaining time rule unit) = Left (leftIn (ruleAt rules rule) unit deeds time)
+answerIn rules deeds status = Stand (standingIn rules deeds)
 
 -- the contracts that an answer grants
 unfoldable pub grantedBy : Answer → ℕ
@@ -102,7 +101,7 @@ unfoldable pub setsTo : Call → ℕ → ℕ
 setsTo (order time root reset) clock = time
 setsTo (lockout time level root) clock = time
 setsTo (offer o) clock = o .time
-setsTo (remaining time rule) clock = clock
+setsTo (remaining time rule unit) clock = clock
 setsTo status clock = clock
 
 -- the clock that a history leaves

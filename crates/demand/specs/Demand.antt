@@ -1,11 +1,13 @@
 -- Demand 3: what holds of every run, said of its calls and their answers alone. Assumes nothing.
+use Prim.Native.Nat.{ℕ}
 use mathlib.Core.Path.{_≡_}
 use mathlib.Core.Logic.{_↔_}
 use mathlib.Core.Bool.{true}
 use mathlib.Core.List.{List, List·Memᴰ}
+use Rattle.rules.specs.Units.{isUnitOf, ofUnit}
 use Rattle.rules.specs.declared.Level.{Level}
 use Rattle.rules.specs.declared.Rule.{Rule}
-use Rattle.machine.specs.State.{State, cellsOf}
+use Rattle.machine.specs.State.{State}
 use Rattle.machine.specs.Deeds.{Deed}
 use Rattle.machine.specs.Locks.{isLocked}
 use Rattle.demand.specs.Run.{Event}
@@ -16,13 +18,14 @@ use Rattle.demand.specs.Answers.{lockedIn, clockOf, Told, Each}
 
 -- what is promised of a unit that was armed with these rules, by its state now and its history since
 pub record Demand3 (rules : List Rule) (now : State) (history : List Event) : Type 0 where
-  -- the fills that any rule counts stay within its limit
-  pub sums : (rule : Rule) → List·Memᴰ rule (cellsOf rules) → Within rule (deedsOf history)
+  -- the fills that any rule counts stay within its limit, for each unit that it counts for: a root rule without unit fields holds for each of the
+  -- four units by itself, a rule of one unit for that unit, a firm rule for all units together
+  pub sums :
+      (rule : Rule) → List·Memᴰ rule rules → (unit : ℕ) → isUnitOf (rule .scope) unit ≡ true → Within (ofUnit rule unit) (deedsOf history)
   -- the firm, and every root, is locked exactly if a trip or a lockout locked it and no reset has lifted that since
-  pub locksExactly : (level : Level) → (isLocked (now .part .locks) level ≡ true) ↔ LockedBy (cellsOf rules) level (deedsOf history)
+  pub locksExactly : (level : Level) → (isLocked (now .part .locks) level ≡ true) ↔ LockedBy rules level (deedsOf history)
   -- and so it was at each earlier moment: the test that the answers are told by means just this
-  pub meaning :
-      (level : Level) (deeds : List Deed) → (lockedIn (cellsOf rules) level deeds ≡ true) ↔ LockedBy (cellsOf rules) level deeds
+  pub meaning : (level : Level) (deeds : List Deed) → (lockedIn rules level deeds ≡ true) ↔ LockedBy rules level deeds
   -- every answer that is no refusal is told by the calls and answers before it
   pub answers : Each (Told rules) history
   -- the clock is the time of the last accepted call with a time, Remaining apart

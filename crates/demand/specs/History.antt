@@ -37,7 +37,7 @@ unfoldable pub deedOf : Call → Answer → Deed
 deedOf (order time root reset) answer = ifAccepted answer (resetting time root (effectOf reset))
 deedOf (lockout time level root) answer = ifAccepted answer (lockingOut time (levelNamed level root))
 deedOf (offer o) answer = ifGranted answer o
-deedOf (remaining time rule) answer = nothing
+deedOf (remaining time rule unit) answer = nothing
 deedOf status answer = nothing
 
 -- the deeds of a history, one an event, newest first

@@ -5,6 +5,7 @@ use mathlib.Core.Bool.{Bool, true, false, cond, _&&_, _||_}
 use mathlib.Core.List.{List, [], _∷_, _++_}
 use Rattle.laws.specs.Folds.{anyOf}
 use Rattle.rules.specs.Rules.{levelOf, counts}
+use Rattle.rules.specs.Units.{ofUnit}
 use Rattle.rules.specs.Allowance.{trips}
 use Rattle.rules.specs.declared.Level.{Level}
 use Rattle.rules.specs.declared.Rule.{Rule}
@@ -12,18 +13,20 @@ use Rattle.machine.specs.Deeds.{Deed, nothing, passing, filling, resetting, loc
 use Rattle.machine.specs.Offers.{coversOffer, sameLevel}
 use Rattle.demand.specs.History.{timeOf, amountOf, zeroes, lifts, NoneOf}
 
--- what counts for a rule at a time: what was filled since the last reset that zeroed its level, and is still inside its window
+-- what counts for a rule at a time: what was filled since the last reset that zeroed its level, and is still inside its window; of a rule that
+-- counts for several units `ofUnit` says for which
 unfoldable pub countedIn : Rule → List Deed → ℕ → ℕ
 countedIn rule [] time = 0
 countedIn rule (deed ∷ earlier) time =
     cond (zeroes (levelOf (rule .scope)) deed) 0
     (cond (counts (rule .kind) (timeOf deed) time) (amountOf rule deed) 0 + countedIn rule earlier time)
 
--- a rule trips on a deed, judged from what was done before it
+-- a rule trips on a deed, judged from what was done before it on the unit of the fill
 unfoldable pub tripsOn : Rule → Deed → List Deed → Bool
 tripsOn rule nothing earlier = false
 tripsOn rule (passing time) earlier = false
-tripsOn rule (filling source o n) earlier = coversOffer o rule && trips rule (countedIn rule earlier (o .time)) (o .premium) (o .contracts) n
+tripsOn rule (filling source o n) earlier =
+    coversOffer o rule && trips rule (countedIn (ofUnit rule (o .unit)) earlier (o .time)) (o .premium) (o .contracts) n
 tripsOn rule (resetting time root effect) earlier = false
 tripsOn rule (lockingOut time level) earlier = false
 
@@ -35,7 +38,7 @@ locksOut level (filling source o n) = false
 locksOut level (resetting time root effect) = false
 locksOut level (lockingOut time other) = sameLevel other level
 
--- one of a level's rules trips on a deed
+-- one of a level's rules trips on a deed: on whichever unit that is, it is the whole level that is locked
 unfoldable pub ruleTrips : List Rule → Level → Deed → List Deed → Bool
 ruleTrips rules level deed earlier = anyOf (λ rule. sameLevel (levelOf (rule .scope)) level && tripsOn rule deed earlier) rules
 

@@ -11,7 +11,7 @@ use Rattle.demand.specs.Answers.{setsTo}
 pub record Moves (s : State) (call : Call) (result : Result) : Type 0 where
   -- a refusal changes nothing, and neither does Remaining or Status
   pub refused : isRefusal (result .answer) ≡ true → result .after ≡ s
-  pub asked : {time rule : ℕ} → call ≡ remaining time rule → result .after ≡ s
+  pub asked : {time rule unit : ℕ} → call ≡ remaining time rule unit → result .after ≡ s
   pub looked : call ≡ status → result .after ≡ s
   -- every other call sets the clock to its time
   pub clock : isRefusal (result .answer) ≡ false → result .after .part .clock ≡ setsTo call (s .part .clock)

@@ -1,4 +1,5 @@
--- The fills of any stretch of time between resets stay within each limit. Assumes nothing.
+-- The fills of any stretch of time between resets stay within each limit; demand 3 asks it of each rule as it counts for each of its units.
+-- Assumes nothing.
 use Prim.Native.Nat.{ℕ, _+_, _≤_}
 use mathlib.Core.Path.{_≡_}
 use mathlib.Core.Bool.{Bool, true, cond, _&&_}

@@ -1,5 +1,5 @@
 -- Demand 3 in words: what each answer of a history means, by what was done before it. Assumes nothing.
-use Prim.Native.Nat.{ℕ, suc, _-_, _≤_, _<_}
+use Prim.Native.Nat.{ℕ, suc, _≤_, _<_}
 use mathlib.Core.Path.{_≡_}
 use mathlib.Core.Logic.{_↔_}
 use mathlib.Core.Bool.{Bool, true, false}
@@ -7,7 +7,8 @@ use mathlib.Core.List.{List, _∷_, map, List·Memᴰ}
 use Rattle.laws.specs.Folds.{keep}
 use Rattle.bits.specs.Locks.{count}
 use Rattle.bits.specs.declared.Standing.{Standing}
-use Rattle.rules.specs.Rules.{levelOf, ceiling}
+use Rattle.rules.specs.Rules.{levelOf}
+use Rattle.rules.specs.Units.{ofUnit}
 use Rattle.rules.specs.Allowance.{Largest, KeepsAll}
 use Rattle.rules.specs.declared.Level.{Level}
 use Rattle.rules.specs.declared.Level.the-variants.{Firm, Root}
@@ -16,15 +17,15 @@ use Rattle.rules.specs.declared.Rule.{Rule}
 use Rattle.machine.specs.declared.Answer.{Answer}
 use Rattle.machine.specs.declared.Answer.the-variants.{Judged, Left, Standing as Stand}
 use Rattle.machine.specs.declared.Offer.{Offer}
-use Rattle.machine.specs.State.{cellsOf}
 use Rattle.machine.specs.Effects.{effectOf}
 use Rattle.machine.specs.Calls.{Call, order, lockout, offer, remaining, status}
 use Rattle.machine.specs.Deeds.{granted, Deed, filling, resetting}
 use Rattle.machine.specs.Offers.{coversOffer}
+use Rattle.machine.specs.Remaining.{ruleAt}
 use Rattle.demand.specs.Run.{Event}
 use Rattle.demand.specs.History.{lifts}
 use Rattle.demand.specs.Locked.{countedIn, tripsOn, locksOut, ruleTrips, Since, LockedBy}
-use Rattle.demand.specs.Answers.{one, ruleAt}
+use Rattle.demand.specs.Answers.{one, leftIn}
 
 -- the event of a call and its answer
 infixl 5 _answered_
@@ -40,11 +41,11 @@ pub record VerdictBy (rules : List Rule) (root : ℕ) (deeds : List Deed) (verdi
 abbrev pub Nothing : ℕ → Bool → Bool → Type 0
 Nothing grant roottrip firmtrip = (grant ≡ 0) × (roottrip ≡ false) × (firmtrip ≡ false)
 
--- the limits of the rules that cover an offer, each with what counts against it
+-- the limits of the rules that cover an offer, each with what counts against it on the offer's unit
 abbrev pub limitsIn : List Rule → List Deed → Offer → List (Limit × ℕ)
-limitsIn rules deeds o = map (λ rule. (rule .limit, countedIn rule deeds (o .time))) (keep (coversOffer o) rules)
+limitsIn rules deeds o = map (λ rule. (rule .limit, countedIn (ofUnit rule (o .unit)) deeds (o .time))) (keep (coversOffer o) rules)
 
--- some rule of a level trips on a deed, judged from what was done before it
+-- some rule of a level trips on a deed, judged from what was done before it on the unit of the fill
 abbrev pub TripsBy : List Rule → Level → Deed → List Deed → Type 0
 TripsBy rules level deed earlier =
     (rule : Rule) × List·Memᴰ rule rules × (levelOf (rule .scope) ≡ level) × (tripsOn rule deed earlier ≡ true)
@@ -72,11 +73,11 @@ pub record Words (rules : List Rule) (event : Event) (deeds : List Deed) : Type 
   pub orders :
       {time root reset verdict grant : ℕ} {roottrip firmtrip : Bool}
       → event ≡ (order time root reset answered Judged verdict grant roottrip firmtrip)
-      → VerdictBy (cellsOf rules) root (resetting time root (effectOf reset) ∷ deeds) verdict
+      → VerdictBy rules root (resetting time root (effectOf reset) ∷ deeds) verdict
   -- an offer's verdict
   pub offers :
       {o : Offer} {verdict grant : ℕ} {roottrip firmtrip : Bool} → event ≡ (offer o answered Judged verdict grant roottrip firmtrip)
-      → VerdictBy (cellsOf rules) (o .root) deeds verdict
+      → VerdictBy rules (o .root) deeds verdict
   -- a verdict above 0 has grant 0 and no trips, and so has every answer to an order or a lockout
   pub lockedOut :
       {call : Call} {verdict grant : ℕ} {roottrip firmtrip : Bool} → event ≡ (call answered Judged (suc verdict) grant roottrip firmtrip)
@@ -87,20 +88,18 @@ pub record Words (rules : List Rule) (event : Event) (deeds : List Deed) : Type 
   pub lockouts :
       {time level root verdict grant : ℕ} {roottrip firmtrip : Bool}
       → event ≡ (lockout time level root answered Judged verdict grant roottrip firmtrip) → (verdict ≡ 0) × Nothing grant roottrip firmtrip
-  -- with verdict 0 the grant is the largest number that keeps the limit of every rule that covers the offer
+  -- with verdict 0 the grant is the largest number that keeps, on the offer's unit, the limit of every rule that covers the offer
   pub grants :
       {o : Offer} {grant : ℕ} {roottrip firmtrip : Bool} → event ≡ (offer o answered Judged 0 grant roottrip firmtrip)
-      → Largest (KeepsAll (limitsIn (cellsOf rules) deeds o) (o .premium)) (o .contracts) grant
+      → Largest (KeepsAll (limitsIn rules deeds o) (o .premium)) (o .contracts) grant
   -- and the two trips are exactly those that the fill brings on
   pub rootTrips :
       {o : Offer} {grant : ℕ} {roottrip firmtrip : Bool} → event ≡ (offer o answered Judged 0 grant roottrip firmtrip)
-      → (roottrip ≡ true) ↔ TripsBy (cellsOf rules) (Root (o .root)) (filling granted o grant) deeds
+      → (roottrip ≡ true) ↔ TripsBy rules (Root (o .root)) (filling granted o grant) deeds
   pub firmTrips :
       {o : Offer} {grant : ℕ} {roottrip firmtrip : Bool} → event ≡ (offer o answered Judged 0 grant roottrip firmtrip)
-      → (firmtrip ≡ true) ↔ TripsBy (cellsOf rules) Firm (filling granted o grant) deeds
-  -- what remains is the limit less what counts, 0 if more counts
-  pub remains :
-      {time rule left : ℕ} → event ≡ (remaining time rule answered Left left)
-      → left ≡ ceiling (ruleAt rules rule .limit) - countedIn (ruleAt rules rule) deeds time
+      → (firmtrip ≡ true) ↔ TripsBy rules Firm (filling granted o grant) deeds
+  -- what remains is the limit less what counts for the rule on the unit asked for, 0 if more counts
+  pub remains : {time rule unit left : ℕ} → event ≡ (remaining time rule unit answered Left left) → left ≡ leftIn (ruleAt rules rule) unit deeds time
   -- Status' four numbers
-  pub stands : {roots : Standing} → event ≡ (status answered Stand roots) → StandingBy (cellsOf rules) deeds roots
+  pub stands : {roots : Standing} → event ≡ (status answered Stand roots) → StandingBy rules deeds roots

@@ -5,3 +5,4 @@ pub mod Credits
 pub mod Accounts
 pub mod Joined
 pub mod Steps
+pub mod Rules

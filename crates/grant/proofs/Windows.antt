@@ -74,13 +74,3 @@ rate-longest roots (rule ∷ rest) h =
       ap₂ (λ (a b : Bool). a || b) (w .0) (r .0) ∙ either (windowOf (rule .kind)) (longest rest),
       omega (arith, w .1, r .1),
     )
-
--- the same for the rules of a state, by its accounts
-module _ (s : State) (f : Fits s) where
-  pub spanned-account : {i n m w : ℕ} {rule : Rule} → Spanned (rulesIn s) i n → i < length (s .part .accounts)
-      → rule ≡ getD (s .part .accounts) i noAccount .rule → w ≡ windowOf (rule .kind) → m ≡ max w n → Spanned (rulesIn s) (i + 1) m
-  spanned-account {i} t l is w e =
-      spanned-more (noAccount .rule) t (omega (arith, many-accounts f)) (w ∙ ap (λ (r : Rule). windowOf (r .kind)) (is ∙ sym (account-rule f i))) e
-
-  pub spanned-end : {i n : ℕ} → Spanned (rulesIn s) i n → length (s .part .accounts) ≤ i → n ≡ longest (rulesIn s)
-  spanned-end t l = spanned-done t (omega (arith, many-accounts f))

@@ -69,7 +69,7 @@ pub record Asked (xs : List ℕ) (o : Offer) : Type 0 where
 abbrev pub areTotals : State → Bool
 areTotals s = every (λ a. isTotal (a .rule) (a .total)) (s .part .accounts)
 
--- what rule i leaves of the cuts
+-- what account i leaves of the cuts
 pub record Lowered (xs : List ℕ) (o : Offer) (i : ℕ) (before after : Cuts) : Type 0 where
   pub root : after .root ≡ lowered (decode xs .log) o (Root (o .root)) (accountIn xs i) (before .root)
   pub firm : after .firm ≡ lowered (decode xs .log) o Firm (accountIn xs i) (before .firm)
@@ -79,13 +79,13 @@ pub record AreCuts (xs : List ℕ) (o : Offer) (cuts : Cuts) : Type 0 where
   pub root : cuts .root ≡ leastAt (decode xs .log) o (decode xs .part .accounts) (Root (o .root))
   pub firm : cuts .firm ≡ leastAt (decode xs .log) o (decode xs .part .accounts) Firm
 
--- rule i of a memory is credited with a grant, and after tells whether it, or one before, stands at its limit
+-- account i of a memory is credited with a grant, and after tells whether it, or one before, stands at its limit
 pub record Credited (o : Offer) (grant i : ℕ) (xs ys : List ℕ) (before after : Reached) : Type 0 where
   pub memory : ys ≡ stored (withAccounts (decode xs) (set (decode xs .part .accounts) i (credited o grant (accountIn xs i)))) xs
   pub root : after .root ≡ (before .root || (concerns o (Root (o .root)) (accountIn xs i) && fills o grant (accountIn xs i)))
   pub firm : after .firm ≡ (before .firm || (concerns o Firm (accountIn xs i) && fills o grant (accountIn xs i)))
 
--- every rule of a memory is credited with a grant, and after tells which levels have an absolute rule at its limit
+-- every account of a memory is credited with a grant, and after tells which levels have an absolute rule at its limit
 pub record AllCredited (o : Offer) (grant : ℕ) (xs ys : List ℕ) (after : Reached) : Type 0 where
   pub memory : ys ≡ stored (withAccounts (decode xs) (map (credited o grant) (decode xs .part .accounts))) xs
   pub root : after .root ≡ reachedAt o grant (decode xs .part .accounts) (Root (o .root))

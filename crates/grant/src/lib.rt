@@ -80,12 +80,11 @@ struct Lowering {
     memos: Two,
 }
 
-// The cuts after rule i: that of its level is lowered to what it allows, if it covers the offer.
-fn lower(m: &[u64], o: Offer, i: usize, cuts: Cuts, memos: Two) -> Lowering
-    requires { ⌜ Asked (now m) o × (i < length (decode (now m) .part .accounts)) × RightTwo (decode (now m) .log) memos ⌝ }
+// The cuts after account i, which has this rule: that of its level is lowered to what it allows, if it covers the offer.
+fn lower(m: &[u64], o: Offer, i: usize, rule: Rule, cuts: Cuts, memos: Two) -> Lowering
+    requires { ⌜ Asked (now m) o × (i < length (decode (now m) .part .accounts)) × (rule ≡ accountIn (now m) i .rule) × RightTwo (decode (now m) .log) memos ⌝ }
     ensures { λ r. ⌜ Lowered (now (m .entry)) o i cuts (r .cuts) × RightTwo (decode (now (m .entry)) .log) (r .memos) ⌝ }
 {
-    let rule = state::rule_in(m, i);
     if !rule.covers(o.root, o.unit) {
         return Lowering { cuts, memos };
     }
@@ -113,22 +112,26 @@ fn lower(m: &[u64], o: Offer, i: usize, cuts: Cuts, memos: Two) -> Lowering
     }
 }
 
-// The cuts of an offer.
+// The cuts of an offer: of each rule, the account for the offer's unit is asked.
 pub fn cuts_of(m: &[u64], o: Offer) -> Cuts
     requires { ⌜ Asked (now m) o ⌝ }
     ensures { λ r. ⌜ AreCuts (now (m .entry)) o r ⌝ }
 {
-    let accounts = state::accounts_in(m);
+    let rules = state::rules_in(m);
     let mut cuts = Cuts {
         root: o.contracts,
         firm: o.contracts,
     };
     let mut memos = log::no_memos();
+    let mut place: usize = 0;
     let mut i: usize = 0;
-    while i < accounts {
-        let after = lower(m, o, i, cuts, memos);
+    while i < rules {
+        let rule = state::rule_in(m, i);
+        let own = rule.of_unit(o.unit);
+        let after = lower(m, o, place + rule.place_of(o.unit), own, cuts, memos);
         cuts = after.cuts;
         memos = after.memos;
+        place += rule.accounts();
         i += 1;
     }
     cuts
@@ -139,10 +142,10 @@ pub fn longest_window(m: &[u64]) -> u64
     requires { ⌜ Laid (now m) ⌝ }
     ensures { λ r. ⌜ r ≡ longest (rulesIn (decode (now (m .entry)))) ⌝ }
 {
-    let accounts = state::accounts_in(m);
+    let rules = state::rules_in(m);
     let mut longest: u64 = 0;
     let mut i: usize = 0;
-    while i < accounts {
+    while i < rules {
         let rule = state::rule_in(m, i);
         longest = numbers::greatest(window(rule), longest);
         i += 1;
@@ -150,12 +153,11 @@ pub fn longest_window(m: &[u64]) -> u64
     longest
 }
 
-// Rule i is credited with a grant: its total rises if it is absolute and covers the offer.
-fn credit_one(m: &mut [u64], o: Offer, grant: u64, i: usize, before: Reached) -> Reached
-    requires { ⌜ Laid (now m) × (i < length (decode (now m) .part .accounts)) × (isTotal (accountIn (now m) i .rule) (accountIn (now m) i .total) ≡ true) × (o .premium ≤ premiums .most) × (grant ≤ offers .most) ⌝ }
+// Account i, which has this rule, is credited with a grant: its total rises if the rule is absolute and covers the offer.
+fn credit_one(m: &mut [u64], o: Offer, grant: u64, i: usize, rule: Rule, before: Reached) -> Reached
+    requires { ⌜ Laid (now m) × (i < length (decode (now m) .part .accounts)) × (rule ≡ accountIn (now m) i .rule) × (isTotal (accountIn (now m) i .rule) (accountIn (now m) i .total) ≡ true) × (o .premium ≤ premiums .most) × (grant ≤ offers .most) ⌝ }
     ensures { λ r. ⌜ Credited o grant i (now (m .entry)) (now (m .exit)) before r ⌝ }
 {
-    let rule = state::rule_in(m, i);
     if !(is_absolute(rule) & rule.covers(o.root, o.unit)) {
         return before;
     }
@@ -172,19 +174,23 @@ fn credit_one(m: &mut [u64], o: Offer, grant: u64, i: usize, before: Reached) ->
     }
 }
 
-// Every rule is credited with a grant.
+// Every account is credited with a grant: of each rule, that for the offer's unit may rise.
 fn credit(m: &mut [u64], o: Offer, grant: u64) -> Reached
     requires { ⌜ Asked (now m) o × (areTotals (decode (now m)) ≡ true) × (grant ≤ offers .most) ⌝ }
     ensures { λ r. ⌜ AllCredited o grant (now (m .entry)) (now (m .exit)) r ⌝ }
 {
-    let accounts = state::accounts_in(m);
+    let rules = state::rules_in(m);
     let mut reached = Reached {
         root: false,
         firm: false,
     };
+    let mut place: usize = 0;
     let mut i: usize = 0;
-    while i < accounts {
-        reached = credit_one(m, o, grant, i, reached);
+    while i < rules {
+        let rule = state::rule_in(m, i);
+        let own = rule.of_unit(o.unit);
+        reached = credit_one(m, o, grant, place + rule.place_of(o.unit), own, reached);
+        place += rule.accounts();
         i += 1;
     }
     reached

@@ -7,7 +7,7 @@ use Rattle.shapes.specs.Shape.{both, named, word, flag, one}
 use Rattle.machine.specs.State.{Locks}
 use Rattle.state.specs.State.{number, locksOf, locksShape, locksNumbers, stored, decode}
 use Rattle.state.specs.Laid.{Laid, withLocks}
-use Rattle.state.specs.Tests.{locksPart}
+use Rattle.state.specs.Tests.{locksPart, putLocks}
 use Rattle.state.proofs.Laid.{laid-locks}
 use Rattle.state.proofs.Stores.{put-locks}
 use Rattle.locks.specs.Locks.{locksIn, AreLocks}
@@ -33,12 +33,12 @@ module _ {xs : List ℕ} (h : Laid xs) where
     are = laid-locks h ∙ ap locksNumbers (sym locks-are);
   }
 
-  pub locks-put : (l : Locks) → take 837 xs ++ (locksNumbers l ++ drop 4 (drop 837 xs)) ≡ stored (withLocks (decode xs) l) xs
-  locks-put l = ap (λ (q : List ℕ). take 837 q ++ (locksNumbers l ++ drop 4 (drop 837 q))) (h .is) ∙ put-locks (decode xs) (h .fits) xs l
+  pub locks-put : (l : Locks) → putLocks xs (locksNumbers l) ≡ stored (withLocks (decode xs) l) xs
+  locks-put l = ap (λ (q : List ℕ). putLocks q (locksNumbers l)) (h .is) ∙ put-locks (decode xs) (h .fits) xs l
 
   -- the part of the locks after a change of the locks that it stands for
   pub locks-after : (change : Locks → Locks) {ys : List ℕ} → ys ≡ locksNumbers (change (locksIn (locksPart xs)))
-      → take 837 xs ++ (ys ++ drop 4 (drop 837 xs)) ≡ stored (withLocks (decode xs) (change (decode xs .part .locks))) xs
+      → putLocks xs ys ≡ stored (withLocks (decode xs) (change (decode xs .part .locks))) xs
   locks-after change e =
-      ap (λ (q : List ℕ). take 837 xs ++ (q ++ drop 4 (drop 837 xs))) (e ∙ ap (λ (l : Locks). locksNumbers (change l)) locks-are)
+      ap (λ (q : List ℕ). putLocks xs q) (e ∙ ap (λ (l : Locks). locksNumbers (change l)) locks-are)
       ∙ locks-put (change (decode xs .part .locks))

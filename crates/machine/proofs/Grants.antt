@@ -24,7 +24,8 @@ module _ (log : List Entry) (o : Offer) where
   abbrev pub allowed : Limit × ℕ → ℕ
   allowed l = allowance (l .0) (l .1) (o .premium) (o .contracts)
 
-  least-of : (accounts : List Account) → grantOf log o accounts ≡ leastOf (o .contracts) (map allowed (covering log o accounts))
+  -- the grant is the least of what they allow
+  pub least-of : (accounts : List Account) → grantOf log o accounts ≡ leastOf (o .contracts) (map allowed (covering log o accounts))
   unfolding grantOf leastOf covering keep
   least-of [] = refl
   least-of (a ∷ rest) = go (coversOffer o (a .rule)) (keep (λ b. coversOffer o (b .rule)) rest) (least-of rest)

@@ -40,11 +40,11 @@ pub refused-same : (room : ℕ) (s : State) (call : Call) (n : ℕ) → refusalO
 unfolding stepIn judge unless
 refused-same room s call n e = ap (λ (k : ℕ). after (unless k (judged s call) .deed) s) e ∙ nothing-same s
 
-pub remaining-same : (room : ℕ) (s : State) (time rule : ℕ) → stepIn room s (remaining time rule) .after ≡ s
+pub remaining-same : (room : ℕ) (s : State) (time rule unit : ℕ) → stepIn room s (remaining time rule unit) .after ≡ s
 unfolding stepIn judge unless judged
-remaining-same room s time rule = go (refusalOf room s (remaining time rule))
+remaining-same room s time rule unit = go (refusalOf room s (remaining time rule unit))
   where
-    go : (n : ℕ) → after (unless n (judged s (remaining time rule)) .deed) s ≡ s
+    go : (n : ℕ) → after (unless n (judged s (remaining time rule unit)) .deed) s ≡ s
     go zero = nothing-same s
     go (suc n) = nothing-same s
 

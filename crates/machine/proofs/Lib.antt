@@ -1,6 +1,9 @@
 pub mod Lists
+pub mod Cells
 pub mod Grants
 pub mod Refusals
+pub mod Units
+pub mod Walk
 pub mod Keeps
 pub mod Totals
 pub mod Sound

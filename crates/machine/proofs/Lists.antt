@@ -1,19 +1,46 @@
 -- Laws of lists: what every element passes, entries in order of time, what is kept of a list and what joins it. Assumes nothing.
-use Prim.Native.Nat.{ℕ, _*_, _≤_}
-use mathlib.Core.Path.{_≡_, refl}
+use Prim.Native.Nat.{ℕ, zero, suc, _*_, _≤_, _<_}
+use mathlib.Core.Path.{_≡_, refl, ap}
 use mathlib.Core.Bool.{Bool, true, false, cond, _&&_}
 use mathlib.Core.List.{List, [], _∷_, _++_, map}
-use lib.ListN.{length}
+use lib.ListN.{length, getD}
 use lib.Dec.{leb}
 use borrow.Author.Tests.{leb-true, le-leb}
 use native.Mathlib.Omega.{arith}
 use Rattle.laws.specs.Tests.{and-l, and-r}
 use Rattle.laws.specs.Folds.{every, keep, sumOf}
+use Rattle.rules.specs.Allowance.{All}
 pub use Rattle.laws.specs.Every.{every-imp, every-map, every-keep, every-join}
 use Rattle.machine.specs.declared.Entry.{Entry}
 use Rattle.machine.specs.Entries.{areOrdered}
 
 module _ {A : Type 0} where
+  -- the test of every element, and the property of each
+  pub every-all : (ok : A → Bool) (xs : List A) → every ok xs ≡ true → All (λ x. ok x ≡ true) xs
+  unfolding every
+  every-all ok [] h = tt
+  every-all ok (x ∷ xs) h = (and-l (ok x) (every ok xs) h, every-all ok xs (and-r (ok x) (every ok xs) h))
+
+  pub all-every : (ok : A → Bool) (xs : List A) → All (λ x. ok x ≡ true) xs → every ok xs ≡ true
+  unfolding every
+  all-every ok [] h = refl
+  all-every ok (x ∷ xs) h = rw (h .0) (all-every ok xs (h .1))
+
+  -- an element of a list that each element was put through a function of, whatever stands for none
+  pub map-at : {B : Type 0} (f : A → B) (xs : List A) (i : ℕ) (none : B) (d : A) → i < length xs → getD (map f xs) i none ≡ f (getD xs i d)
+  map-at f [] i none d h = absurd (omega arith)
+  map-at f (x ∷ xs) zero none d h = refl
+  map-at f (x ∷ xs) (suc i) none d h = map-at f xs i none d (omega arith)
+
+  pub keep-append : (test : A → Bool) (xs ys : List A) → keep test (xs ++ ys) ≡ keep test xs ++ keep test ys
+  unfolding keep
+  keep-append test [] ys = refl
+  keep-append test (x ∷ xs) ys = rw (keep-append test xs ys) (go (test x))
+    where
+      go : (b : Bool) → cond b (x ∷ (keep test xs ++ keep test ys)) (keep test xs ++ keep test ys) ≡ cond b (x ∷ keep test xs) (keep test xs) ++ keep test ys
+      go true = refl
+      go false = refl
+
   -- a sum of numbers that are each at most k
   pub sum-most : (ok : A → Bool) (f : A → ℕ) (k : ℕ) → ((x : A) → ok x ≡ true → f x ≤ k) → (xs : List A) → every ok xs ≡ true
       → sumOf f xs ≤ length xs * k

@@ -7,14 +7,17 @@ use lib.ListN.{length}
 use lib.Dec.{leb, ltb, eqb}
 use borrow.Author.Tests.{ltb-true, not-false}
 use native.Mathlib.Nat.{suc-ne-zero}
-use Rattle.laws.specs.Tests.{and-l, tests}
+use Rattle.laws.specs.Tests.{and-l, and-r, tests}
 use Rattle.measures.specs.Ranges.{In, isIn, times, units, premiums, offers}
+use Rattle.rules.specs.Units.{isUnitOf}
 use Rattle.rules.specs.declared.Level.{Level}
 use Rattle.rules.specs.declared.Level.the-variants.{Firm, Root}
-use Rattle.machine.specs.State.{Part, State}
+use Rattle.rules.specs.declared.Rule.{Rule}
+use Rattle.machine.specs.State.{Part, State, rulesIn}
 use Rattle.machine.specs.Calls.{order, lockout, offer, remaining}
 use Rattle.machine.specs.Effects.{lastReset}
 use Rattle.machine.specs.Order.{levelNamed}
+use Rattle.machine.specs.Remaining.{ruleAt, isCell}
 use Rattle.machine.specs.Refusals.{logFull, firstOf, badTime, isRoot, refusalOf}
 use Rattle.machine.specs.declared.Offer.{Offer}
 
@@ -60,13 +63,21 @@ lockable room s time level root e =
     known zero h = ltb-true root (length (s .part .profile .roots)) h
     known (suc n) h = tt
 
--- what Remaining asks for is an account's rule
-pub askable : (room : ℕ) (s : State) (time rule : ℕ) → refusalOf room s (remaining time rule) ≡ 0
-    → Timely (s .part) time × (rule < length (s .part .accounts))
-unfolding refusalOf
-askable room s time rule e =
+-- a rule of the profile, and a unit that it counts for
+pub record Asked (rules : List Rule) (rule unit : ℕ) : Type 0 where
+  pub known : rule < length rules
+  pub unitKnown : isUnitOf (ruleAt rules rule .scope) unit ≡ true
+
+-- what Remaining asks for is such
+pub askable : (room : ℕ) (s : State) (time rule unit : ℕ) → refusalOf room s (remaining time rule unit) ≡ 0
+    → Timely (s .part) time × Asked (rulesIn s) rule unit
+unfolding refusalOf isCell
+askable room s time rule unit e =
     let t = passed (badTime (s .part) time) 11 _ e in
-    (timely (s .part) time (t .0), ltb-true _ _ (not-false _ (passed (not (ltb rule (length (s .part .accounts)))) 12 [] (t .1) .0)))
+    let k = not-false _ (passed (not (isCell (rulesIn s) rule unit)) 12 [] (t .1) .0) in
+    let known = ltb rule (length (rulesIn s)) in
+    let its = isUnitOf (ruleAt (rulesIn s) rule .scope) unit in
+    (timely (s .part) time (t .0), record { known = ltb-true _ _ (and-l known its k); unitKnown = and-r known its k })
 
 -- an offer whose numbers are in range, and which finds the log not full
 pub record Accepted (room : ℕ) (s : State) (o : Offer) : Type 0 where

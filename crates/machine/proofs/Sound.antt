@@ -18,7 +18,7 @@ use Rattle.rules.specs.declared.Level.the-variants.{Firm, Root}
 use Rattle.rules.specs.declared.Rule.{Rule}
 use Rattle.machine.specs.declared.Entry.{Entry}
 use Rattle.machine.specs.declared.Offer.{Offer}
-use Rattle.machine.specs.State.{Profile, Part, State, cellsOf, rulesIn, rootsIn, ruleOf, Fitting}
+use Rattle.machine.specs.State.{Profile, Part, State, rulesIn, rootsIn, ruleOf, Fitting}
 use Rattle.machine.specs.Entries.{isEntry, areOrdered, recent}
 use Rattle.machine.specs.Effects.{Effect, effectOf, zeroing, lifting}
 use Rattle.machine.specs.Calls.{Call, order, lockout, offer, remaining, status}
@@ -31,6 +31,7 @@ use Rattle.machine.specs.Step.{accountsAfter, locksAfter, logAfter, part
 use Rattle.machine.specs.Judge.{grantedSo, offered, ordered, judged, unless, judge, stepIn, logPlaces}
 use Rattle.machine.specs.Sound.{SoundIn}
 use Rattle.machine.proofs.Lists.{every-imp, every-map, every-keep, every-join, ordered-wider, ordered-map, ordered-keep, ordered-join}
+use Rattle.machine.proofs.Cells.{cells-valid}
 use Rattle.machine.proofs.Refusals.{Timely, Known, Accepted, orderable, lockable, accepted}
 use Rattle.machine.proofs.Keeps.{fitting-after}
 use Rattle.machine.proofs.Grants.{grant-le}
@@ -129,8 +130,10 @@ module _ {Given : Profile → Type 0} (valid : (p : Profile) → Given p → eve
   log-is = record { number = i .number; none = i .none; ordered = i .ordered; entries = i .entries }
 
   rules-valid : every (λ a. isRule (rootsIn s) (a .rule)) (s .part .accounts) ≡ true
-  unfolding rootsIn cellsOf Fitting
-  rules-valid = sym (every-map (isRule (rootsIn s)) ruleOf (s .part .accounts)) ∙ ap (every (isRule (rootsIn s))) (i .fitting) ∙ valid (s .part .profile) (i .given)
+  unfolding rootsIn Fitting
+  rules-valid =
+      sym (every-map (isRule (rootsIn s)) ruleOf (s .part .accounts)) ∙ ap (every (isRule (rootsIn s))) (i .fitting)
+      ∙ cells-valid (rootsIn s) (s .part .profile .rules) (valid (s .part .profile) (i .given))
 
   clock-after : (deed : Deed) → Meets s deed → In times (clockAfter deed (s .part .clock))
   unfolding clockAfter Meets
@@ -226,7 +229,7 @@ module _ (room : ℕ) (few : room ≤ logPlaces) (s : State) where
   judged-meets (order time root reset) e = orderable room s time root reset e .0
   judged-meets (lockout time level root) e = lockable room s time level root e
   judged-meets (offer o) e = offered-meets o (accepted room s o e)
-  judged-meets (remaining time rule) e = tt
+  judged-meets (remaining time rule unit) e = tt
   judged-meets status e = tt
 
   pub judge-meets : (call : Call) → Meets s (judge room s call .deed)

@@ -12,7 +12,7 @@ use Rattle.machine.specs.Deeds.{Deed, granted, nothing, passing, filling
 use Rattle.machine.specs.Locks.{verdictOf}
 use Rattle.machine.specs.Order.{levelNamed}
 use Rattle.machine.specs.Offers.{grantOf, levelTrips}
-use Rattle.machine.specs.Remaining.{accountAt, leftOf, standing}
+use Rattle.machine.specs.Remaining.{accountFor, leftOf, standing}
 use Rattle.machine.specs.Calls.{Call, order, lockout, offer, remaining, status}
 use Rattle.machine.specs.Refusals.{refusalOf}
 use Rattle.machine.specs.Step.{locksAfter, after}
@@ -44,7 +44,7 @@ unfoldable pub judged : State → Call → Judgement
 judged s (order time root reset) = ordered s root (resetting time root (effectOf reset))
 judged s (lockout time level root) = record { answer = Judged 0 0 false false; deed = lockingOut time (levelNamed level root) }
 judged s (offer o) = offered s o (verdictOf (s .part .locks) (o .root))
-judged s (remaining time rule) = record { answer = Left (leftOf s time (accountAt (s .part .accounts) rule)); deed = nothing }
+judged s (remaining time rule unit) = record { answer = Left (leftOf s time (accountFor (s .part) rule unit)); deed = nothing }
 judged s status = record { answer = Standing (standing (s .part .locks)); deed = nothing }
 
 -- a refusal does nothing at all

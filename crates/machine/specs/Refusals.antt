@@ -13,6 +13,7 @@ use Rattle.machine.specs.Locks.{verdictOf}
 use Rattle.rules.specs.Valid.{hasRate}
 use Rattle.machine.specs.Entries.{recent}
 use Rattle.machine.specs.Offers.{grantOf, longest}
+use Rattle.machine.specs.Remaining.{isCell}
 
 -- the number of the first test that holds, 0 if none does
 unfoldable pub firstOf : List (Bool × ℕ) → ℕ
@@ -52,6 +53,6 @@ refusalOf room s (order time root reset) =
 refusalOf room s (lockout time level root) =
     firstOf ((badTime (s .part) time, 12) ∷ (not (leb level 1 && cond (eqb level 0) (isRoot (s .part) root) (eqb root 0)), 13) ∷ [])
 refusalOf room s (offer o) = firstOf (offerFaults (s .part) o ++ ((logFull room s o, 15) ∷ []))
-refusalOf room s (remaining time rule) =
-    firstOf ((badTime (s .part) time, 12) ∷ (not (ltb rule (length (s .part .accounts))), 13) ∷ [])
+refusalOf room s (remaining time rule unit) =
+    firstOf ((badTime (s .part) time, 12) ∷ (not (isCell (rulesIn s) rule unit), 13) ∷ [])
 refusalOf room s status = 0

@@ -2,9 +2,10 @@
 use Prim.Native.Nat.{ℕ}
 use mathlib.Core.Path.{_≡_}
 use mathlib.Core.Bool.{Bool, false}
-use mathlib.Core.List.{List, [], map}
+use mathlib.Core.List.{List, [], _∷_, _++_, map}
 use lib.ListN.{length}
 use Rattle.rules.specs.Amounts.{amountIn}
+use Rattle.rules.specs.Units.{unitsOf, ofUnit}
 use Rattle.rules.specs.declared.Rule.{Rule}
 use Rattle.rules.specs.declared.Account.{Account}
 use Rattle.machine.specs.declared.Entry.{Entry}
@@ -34,9 +35,14 @@ pub record State : Type 0 where
   pub part : Part
   pub log : List Entry
 
--- which accounts a profile's rules have: one a rule
+-- the accounts of a rule: one for each unit that it counts for
+unfoldable pub cellsBy : Rule → List Rule
+cellsBy rule = map (ofUnit rule) (unitsOf (rule .scope))
+
+-- the accounts that a profile's rules have: those of each rule after those of the rules before it
 unfoldable pub cellsOf : List Rule → List Rule
-cellsOf rules = rules
+cellsOf [] = []
+cellsOf (rule ∷ rest) = cellsBy rule ++ cellsOf rest
 
 -- the rules of a state
 unfoldable pub rulesIn : State → List Rule

@@ -1,21 +1,25 @@
--- The tests of the roots' and the totals' places, and of the kinds of the rules, one place more. Assumes nothing.
+-- The tests of the roots' and the totals' places, and of the kinds of the rules, one rule more. Assumes nothing.
 use Prim.Native.Nat.{ℕ, _+_, _*_, _-_, _≤_, _<_}
 use native.Mathlib.Nat.{sub-zero}
 use native.Mathlib.Omega.{arith}
-use mathlib.Core.Path.{_≡_, sym, _∙_}
+use mathlib.Core.Path.{_≡_, refl, sym, ap, _∙_}
 use mathlib.Core.Bool.{Bool, true, false, _&&_, not, and-assoc, and-true}
-use mathlib.Core.List.{List, [], _∷_}
-use lib.ListN.{length, getD, take, drop, length-drop}
-use lib.Seq.{take-all}
+use mathlib.Core.List.{List, [], _∷_, _++_}
+use lib.ListN.{length, getD, take, drop, length-drop, length-map}
+use lib.Seq.{take-all, drop-drop}
 use lib.Dec.{eqb}
 use Rattle.laws.specs.Lists.{from, ended}
 use Rattle.rules.specs.Rules.{isRate}
+use Rattle.rules.specs.Units.{unitsOf, ofUnit}
+use Rattle.rules.specs.declared.Scope.the-variants.{WholeRoot}
 use Rattle.rules.specs.declared.Rule.{Rule}
+use Rattle.machine.specs.State.{cellsBy, cellsOf}
+use Rattle.machine.proofs.Cells.{cells-self}
 use Rattle.tables.specs.Tables.{allZero, places}
 use Rattle.tables.specs.RulePlace.{ruleAt}
 use Rattle.tables.proofs.Passing.{places-on}
 use Rattle.made.specs.Made.{isFresh, areRoots}
-use Rattle.made.specs.Parts.{namesHold, totalsHold}
+use Rattle.made.specs.Parts.{namesHold, ownHold, totalsHold}
 use Rattle.rules.specs.Valid.{isTotalNumber, hasRate}
 
 -- the part of a slice from a place to its end
@@ -61,18 +65,58 @@ module _ (k : ℕ) (xs : List ℕ) where
   unfolding rulesFrom places
   rules-end i h = let z : k - i ≡ 0 = omega arith in rw z
 
-module _ (k : ℕ) (xs : List ℕ) (i : ℕ) (more : i < k) (rule : Rule) (is : rule ≡ ruleAt (drop (i * 2) xs)) where
-  -- the totals from place i on
-  module _ (totals : List ℕ) (within : i < length totals) where
-    next-total : totalsHold (rulesFrom k xs i) (drop i totals) ≡ (isTotalNumber rule (getD totals i 0) && totalsHold (rulesFrom k xs (i + 1)) (drop (i + 1) totals))
-    unfolding totalsHold
-    next-total = rw (rules-on k xs i more, from totals i within, is)
+-- the totals of a rule's accounts: whether a number may be a total of it goes by the rule's kind alone, whichever unit it is for
+module _ (rule : Rule) (totals : List ℕ) (place : ℕ) where
+  abbrev may : ℕ → Bool
+  may j = isTotalNumber rule (getD totals (place + j) 0)
 
-    pub totals-on : isTotalNumber rule (getD totals i 0) ≡ true
-        → totalsHold (rulesFrom k xs i) (drop i totals) ≡ totalsHold (rulesFrom k xs (i + 1)) (drop (i + 1) totals)
+  pub own-one : length (unitsOf (rule .scope)) ≡ 1 → place < length totals → isTotalNumber rule (getD totals place 0) ≡ ownHold (cellsBy rule) (drop place totals)
+  unfolding ownHold
+  own-one one within = rw (cells-self rule one, from totals place within) (sym (and-true (isTotalNumber rule (getD totals place 0))))
+
+  pub own-four : (root : ℕ) → rule .scope ≡ WholeRoot root → place + 4 ≤ length totals
+      → (((isTotalNumber rule (getD totals place 0) && may 1) && may 2) && may 3) ≡ ownHold (cellsBy rule) (drop place totals)
+  unfolding ownHold cellsBy unitsOf isTotalNumber ofUnit
+  own-four root whole within =
+      let two : place + 2 ≡ place + 1 + 1 = omega arith in
+      let three : place + 3 ≡ place + 1 + 1 + 1 = omega arith in
+      regroup (isTotalNumber rule (getD totals place 0)) (may 1) (may 2) (may 3)
+      ∙ rw (two, three, whole, from totals place (omega arith), from totals (place + 1) (omega arith), from totals (place + 1 + 1) (omega arith), from totals (place + 1 + 1 + 1) (omega arith)) refl
+    where
+      regroup : (a b c d : Bool) → (((a && b) && c) && d) ≡ (a && (b && (c && (d && true))))
+      regroup true true true true = refl
+      regroup true true true false = refl
+      regroup true true false d = refl
+      regroup true false c d = refl
+      regroup false b c d = refl
+
+-- the totals of some accounts, and then those of the others
+own-split : (cells rest : List Rule) (totals : List ℕ)
+    → totalsHold (cells ++ rest) totals ≡ (ownHold cells totals && totalsHold rest (drop (length cells) totals))
+unfolding totalsHold ownHold
+own-split [] rest totals = refl
+own-split (cell ∷ cells) rest [] = refl
+own-split (cell ∷ cells) rest (x ∷ totals) =
+    ap (λ (b : Bool). isTotalNumber cell x && b) (own-split cells rest totals)
+    ∙ sym (and-assoc (isTotalNumber cell x) (ownHold cells totals) (totalsHold rest (drop (length cells) totals)))
+
+module _ (k : ℕ) (xs : List ℕ) (i : ℕ) (more : i < k) (rule : Rule) (is : rule ≡ ruleAt (drop (i * 2) xs)) where
+  -- the totals of the accounts from rule i on, which begin at a place
+  module _ (totals : List ℕ) (place n : ℕ) (many : n ≡ length (unitsOf (rule .scope))) where
+    next-total : totalsHold (cellsOf (rulesFrom k xs i)) (drop place totals)
+        ≡ (ownHold (cellsBy rule) (drop place totals) && totalsHold (cellsOf (rulesFrom k xs (i + 1))) (drop (place + n) totals))
+    unfolding cellsOf cellsBy
+    next-total =
+        let on : place + length (cellsBy rule) ≡ place + n = omega (arith, many, length-map (unitsOf (rule .scope)) (ofUnit rule)) in
+        rw (rules-on k xs i more, ← is) (own-split (cellsBy rule) (cellsOf (rulesFrom k xs (i + 1))) (drop place totals)
+        ∙ ap (λ (ts : List ℕ). ownHold (cellsBy rule) (drop place totals) && totalsHold (cellsOf (rulesFrom k xs (i + 1))) ts)
+        (drop-drop (length (cellsBy rule)) place totals ∙ ap (λ (j : ℕ). drop j totals) on))
+
+    pub totals-on : ownHold (cellsBy rule) (drop place totals) ≡ true
+        → totalsHold (cellsOf (rulesFrom k xs i)) (drop place totals) ≡ totalsHold (cellsOf (rulesFrom k xs (i + 1))) (drop (place + n) totals)
     totals-on h = next-total ∙ rw h
 
-    pub totals-off : isTotalNumber rule (getD totals i 0) ≡ false → totalsHold (rulesFrom k xs i) (drop i totals) ≡ false
+    pub totals-off : ownHold (cellsBy rule) (drop place totals) ≡ false → totalsHold (cellsOf (rulesFrom k xs i)) (drop place totals) ≡ false
     totals-off h = next-total ∙ rw h
 
   -- the rate rules from place i on
@@ -84,10 +128,9 @@ module _ (k : ℕ) (xs : List ℕ) (i : ℕ) (more : i < k) (rule : Rule) (is : 
   unfolding hasRate
   rate-off h = rw (rules-on k xs i more, ← is, h)
 
-pub totals-end : (k : ℕ) (xs : List ℕ) (i : ℕ) (totals : List ℕ) → i ≤ k → k ≤ i
-    → totalsHold (rulesFrom k xs i) (drop i totals) ≡ allZero (drop k totals)
-unfolding totalsHold
-totals-end k xs i totals l h = let here : i ≡ k = omega arith in rw (rules-end k xs i h, here)
+pub totals-end : (k : ℕ) (xs : List ℕ) (i : ℕ) (totals : List ℕ) → k ≤ i → totalsHold (cellsOf (rulesFrom k xs i)) totals ≡ allZero totals
+unfolding totalsHold cellsOf
+totals-end k xs i totals h = rw (rules-end k xs i h)
 
 pub rate-end : (k : ℕ) (xs : List ℕ) (i : ℕ) → k ≤ i → hasRate (rulesFrom k xs i) ≡ false
 unfolding hasRate

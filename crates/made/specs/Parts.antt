@@ -1,6 +1,6 @@
 -- The tests of the roots', the rules' and the totals' places. Assumes nothing.
 use Prim.Native.Nat.{ℕ, _*_}
-use mathlib.Core.Bool.{Bool, false, _&&_}
+use mathlib.Core.Bool.{Bool, true, false, _&&_}
 use mathlib.Core.List.{List, [], _∷_}
 use lib.ListN.{getD, take, drop}
 use lib.Dec.{leb}
@@ -20,7 +20,13 @@ namesHold n xs = areRoots (take n xs) && allZero (drop n xs)
 unfoldable pub placesHold : ℕ → ℕ → List ℕ → Bool
 placesHold n k xs = placesPass 2 (isRulePlace n) k xs && areInOrder n [] 0 (places 2 ruleAt k xs) && allZero (drop (k * 2) xs)
 
--- the totals' places hold the totals of these rules, and the others 0
+-- each of these accounts has a total that its rule may have
+unfoldable pub ownHold : List Rule → List ℕ → Bool
+ownHold [] xs = true
+ownHold (cell ∷ cells) [] = false
+ownHold (cell ∷ cells) (x ∷ xs) = isTotalNumber cell x && ownHold cells xs
+
+-- the totals' places hold the totals of these accounts, and the others 0
 unfoldable pub totalsHold : List Rule → List ℕ → Bool
 totalsHold [] xs = allZero xs
 totalsHold (rule ∷ rules) [] = false

@@ -9,14 +9,16 @@ ghost use Rattle.text.specs.Text.{isNameByte};
 ghost use Rattle.tables.specs.Tables.{places};
 ghost use Rattle.tables.specs.RulePlace.{ruleAt};
 ghost use Rattle.rules.specs.Valid.{isTotalNumber, hasRate};
+ghost use Rattle.machine.specs.State.{cellsBy, cellsOf};
 ghost use Rattle.made.specs.Names.{isNameNumber};
 ghost use Rattle.made.specs.Made.{isFresh};
-ghost use Rattle.made.specs.Parts.{namesHold, placesHold, rootsHold, rulesOf, rulesHold, totalsHold};
+ghost use Rattle.made.specs.Parts.{namesHold, placesHold, rootsHold, rulesOf, rulesHold, ownHold, totalsHold};
 use admission::Admitted;
 use admission::Tally;
 use measures::Contracts;
 use rules::Kind;
 use rules::Rule;
+use rules::Scope;
 
 // How many numbers the tables of the roots and of the rules take: a count, then 64 names, or 256 places of two numbers.
 pub const ROOTS_SIZE: usize = 1 + 64;
@@ -175,20 +177,38 @@ fn is_total(rule: Rule, total: u64) -> bool
     }
 }
 
-// Whether the rules in the first k places have totals, and the other places of the totals hold 0.
-fn totals_hold(rules: &[u64], totals: &[u64], k: usize) -> bool
-    requires { ⌜ (length (now rules) ≡ 512) × (length (now totals) ≡ 256) × (k ≤ 256) ⌝ }
-    ensures { λ r. ⌜ r ≡ totalsHold (places 2 ruleAt k (now (rules .entry))) (now (totals .entry)) ⌝ }
+// Whether the accounts of a rule, which begin at a place, have totals that it may have.
+fn has_totals(rule: Rule, totals: &[u64], place: usize) -> bool
+    requires { ⌜ place + 4 ≤ length (now totals) ⌝ }
+    ensures { λ r. ⌜ r ≡ ownHold (cellsBy rule) (drop place (now (totals .entry))) ⌝ }
 {
+    let scope = rule.scope;
+    match scope {
+        Scope::EveryFill => is_total(rule, totals[place]),
+        Scope::WholeRoot(_) => is_total(rule, totals[place])
+            & is_total(rule, totals[place + 1])
+            & is_total(rule, totals[place + 2])
+            & is_total(rule, totals[place + 3]),
+        Scope::OneUnit(_, _) => is_total(rule, totals[place]),
+    }
+}
+
+// Whether the accounts of the rules in the first k places have totals, and the other places of the totals hold 0.
+fn totals_hold(rules: &[u64], totals: &[u64], k: usize) -> bool
+    requires { ⌜ (length (now rules) ≡ 512) × (length (now totals) ≡ 1024) × (k ≤ 256) ⌝ }
+    ensures { λ r. ⌜ r ≡ totalsHold (cellsOf (places 2 ruleAt k (now (rules .entry)))) (now (totals .entry)) ⌝ }
+{
+    let mut place: usize = 0;
     let mut i: usize = 0;
     while i < k {
         let rule = rule_at(rules, i);
-        if !is_total(rule, totals[i]) {
+        if !has_totals(rule, totals, place) {
             return false;
         }
+        place += rule.accounts();
         i += 1;
     }
-    tables::is_zero(&totals[k..])
+    tables::is_zero(&totals[place..])
 }
 
 // Whether a rule in the first k places is a rate rule.
@@ -208,10 +228,10 @@ fn any_rate(rules: &[u64], k: usize) -> bool
     false
 }
 
-// Whether the rules of a table have totals, and the other places of the totals hold 0.
+// Whether the accounts of the rules of a table have totals, and the other places of the totals hold 0.
 pub fn are_totals(rules: &[u64], totals: &[u64]) -> bool
-    requires { ⌜ (length (now rules) ≡ 513) × (length (now totals) ≡ 256) × (getD (now rules) 0 0 ≤ 256) ⌝ }
-    ensures { λ r. ⌜ r ≡ totalsHold (rulesOf (now (rules .entry))) (now (totals .entry)) ⌝ }
+    requires { ⌜ (length (now rules) ≡ 513) × (length (now totals) ≡ 1024) × (getD (now rules) 0 0 ≤ 256) ⌝ }
+    ensures { λ r. ⌜ r ≡ totalsHold (cellsOf (rulesOf (now (rules .entry)))) (now (totals .entry)) ⌝ }
 {
     let k = rules[0] as usize;
     totals_hold(&rules[1..RULES_SIZE], totals, k)

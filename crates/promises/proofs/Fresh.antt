@@ -26,12 +26,12 @@ fresh-totals (rule ∷ rules) = rw (nothing-total rule) (fresh-totals rules)
 
 -- a freshly armed state is sound
 pub fresh-sound : (p : Profile) → isMade p ≡ true → SoundState (armed p)
-unfolding armed cellsOf noLocks Fitting fresh rulesIn rootsIn areOrdered every
+unfolding armed noLocks Fitting fresh rulesIn rootsIn areOrdered every
 fresh-sound p h = record {
   clock = (zero-le, zero-le);
   given = made-given p h;
-  fitting = map-map ruleOf fresh (p .rules) ∙ map-id (p .rules);
-  totals = fresh-totals (p .rules);
+  fitting = map-map ruleOf fresh (cellsOf (p .rules)) ∙ map-id (cellsOf (p .rules));
+  totals = fresh-totals (cellsOf (p .rules));
   tripped = pow-pos (length (p .roots));
   byUser = pow-pos (length (p .roots));
   number = zero-le;

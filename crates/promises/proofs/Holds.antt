@@ -94,7 +94,7 @@ acts-answered s (offer o) = go (verdictOf (s .part .locks) (o .root))
     go : (verdict : ℕ) → isRefusal (offered s o verdict .answer) ≡ false
     go zero = refl
     go (suc verdict) = refl
-acts-answered s (remaining time rule) = refl
+acts-answered s (remaining time rule unit) = refl
 acts-answered s status = refl
 
 pub acts-unrefused : (s : State) (call : Call) (n : ℕ) → judged s call .answer ≡ Refused n → ⊥

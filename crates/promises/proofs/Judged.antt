@@ -12,14 +12,16 @@ use Rattle.measures.specs.Ranges.{Range, In, isIn, times, units, premiums, offe
 use Rattle.rules.specs.Valid.{hasRate}
 use Rattle.rules.specs.declared.Level.the-variants.{Firm, Root}
 use Rattle.machine.specs.declared.Offer.{Offer}
-use Rattle.machine.specs.State.{State, cellsOf, rulesIn, rootsIn, ruleOf, Fitting}
+use Rattle.rules.specs.Units.{isUnitOf}
+use Rattle.rules.proofs.Units.{unit-known}
+use Rattle.machine.specs.State.{State, rulesIn, rootsIn}
+use Rattle.machine.specs.Remaining.{ruleAt, isCell}
 use Rattle.machine.specs.Calls.{Call, order, lockout, offer, remaining, status}
 use Rattle.machine.specs.Locks.{isLocked, verdictOf}
 use Rattle.machine.specs.Offers.{grantOf}
 use Rattle.machine.specs.Effects.{lastReset}
 use Rattle.machine.specs.Refusals.{firstOf, badTime, isRoot, used, logFull, refusalOf}
 use Rattle.machine.specs.Judge.{logPlaces}
-use Rattle.state.proofs.Accounts.{map-length}
 use Rattle.promises.specs.Refusals.{BadTime, Untimely, Unknown, Unpriced, NoPlace, LogFull}
 use Rattle.promises.proofs.Tests.{Tells, not-tells, and-tells, or-tells, tells-as, leb-tells, ltb-tells, eqb-tells, above-tells, least-tells}
 
@@ -29,28 +31,28 @@ unfoldable pub late : State → Call → Bool
 late s (order time root reset) = badTime (s .part) time
 late s (lockout time level root) = badTime (s .part) time
 late s (offer o) = badTime (s .part) (o .time)
-late s (remaining time rule) = badTime (s .part) time
+late s (remaining time rule unit) = badTime (s .part) time
 late s status = false
 
 unfoldable pub strange : State → Call → Bool
 strange s (order time root reset) = not (isRoot (s .part) root && leb reset lastReset)
 strange s (lockout time level root) = not (leb level 1 && cond (eqb level 0) (isRoot (s .part) root) (eqb root 0))
 strange s (offer o) = not (isRoot (s .part) (o .root) && isIn units (o .unit))
-strange s (remaining time rule) = not (ltb rule (length (s .part .accounts)))
+strange s (remaining time rule unit) = not (isCell (rulesIn s) rule unit)
 strange s status = false
 
 unfoldable pub unpriced : State → Call → Bool
 unpriced s (order time root reset) = false
 unpriced s (lockout time level root) = false
 unpriced s (offer o) = not (isIn premiums (o .premium) && isIn offers (o .contracts))
-unpriced s (remaining time rule) = false
+unpriced s (remaining time rule unit) = false
 unpriced s status = false
 
 unfoldable pub full : State → Call → Bool
 full s (order time root reset) = false
 full s (lockout time level root) = false
 full s (offer o) = logFull logPlaces s o
-full s (remaining time rule) = false
+full s (remaining time rule unit) = false
 full s status = false
 
 abbrev pub machineTests : State → Call → List (Bool × ℕ)
@@ -62,7 +64,7 @@ unfolding refusalOf firstOf late strange unpriced full
 machine-tests s (order time root reset) = refl
 machine-tests s (lockout time level root) = refl
 machine-tests s (offer o) = refl
-machine-tests s (remaining time rule) = refl
+machine-tests s (remaining time rule unit) = refl
 machine-tests s status = refl
 
 -- ---- what they tell
@@ -86,7 +88,7 @@ unfolding late Untimely
 late-tells s (order time root reset) = time-tells s time
 late-tells s (lockout time level root) = time-tells s time
 late-tells s (offer o) = time-tells s (o .time)
-late-tells s (remaining time rule) = time-tells s time
+late-tells s (remaining time rule unit) = time-tells s time
 late-tells s status = nothing-tells
 
 positive : (n : ℕ) → (n ≡ 0 → ⊥) → 0 < n
@@ -107,15 +109,15 @@ level-tells roots (suc (suc n)) root = (
   λ h. ap (λ (b : Bool). not (b && cond (eqb (suc (suc n)) 0) (ltb root roots) (eqb root 0))) (lt-leb (suc (suc n)) 1 (omega arith)),
 )
 
-pub strange-tells : (s : State) (call : Call) → Fitting (s .part) → Tells (strange s call) (Unknown s call)
-unfolding strange Unknown isRoot rootsIn rulesIn Fitting cellsOf
-strange-tells s (order time root reset) fit = or-tells (ltb root (length (s .part .profile .roots))) (leb reset lastReset) (least-tells root (length (s .part .profile .roots))) (above-tells reset lastReset)
-strange-tells s (lockout time level root) fit = level-tells (length (s .part .profile .roots)) level root
-strange-tells s (offer o) fit = or-tells (ltb (o .root) (length (s .part .profile .roots))) (isIn units (o .unit)) (least-tells (o .root) (length (s .part .profile .roots))) (over-tells (units .most) (o .unit))
-strange-tells s (remaining time rule) fit =
-    let many : length (s .part .accounts) ≡ length (s .part .profile .rules) = sym (map-length ruleOf (s .part .accounts)) ∙ ap length fit in
-    rw many (least-tells rule (length (s .part .profile .rules)))
-strange-tells s status fit = nothing-tells
+pub strange-tells : (s : State) (call : Call) → Tells (strange s call) (Unknown s call)
+unfolding strange Unknown isRoot rootsIn isCell
+strange-tells s (order time root reset) = or-tells (ltb root (length (s .part .profile .roots))) (leb reset lastReset) (least-tells root (length (s .part .profile .roots))) (above-tells reset lastReset)
+strange-tells s (lockout time level root) = level-tells (length (s .part .profile .roots)) level root
+strange-tells s (offer o) = or-tells (ltb (o .root) (length (s .part .profile .roots))) (isIn units (o .unit)) (least-tells (o .root) (length (s .part .profile .roots))) (over-tells (units .most) (o .unit))
+strange-tells s (remaining time rule unit) =
+    let scope = ruleAt (rulesIn s) rule .scope in
+    or-tells (ltb rule (length (rulesIn s))) (isUnitOf scope unit) (least-tells rule (length (rulesIn s))) (not-tells (isUnitOf scope unit) (unit-known scope unit))
+strange-tells s status = nothing-tells
 
 pub unpriced-tells : (s : State) (call : Call) → Tells (unpriced s call) (Unpriced s call)
 unfolding unpriced Unpriced
@@ -123,7 +125,7 @@ unpriced-tells s (order time root reset) = nothing-tells
 unpriced-tells s (lockout time level root) = nothing-tells
 unpriced-tells s (offer o) = or-tells (isIn premiums (o .premium)) (isIn offers (o .contracts)) (not-tells (isIn premiums (o .premium)) (range-tells premiums (o .premium)))
     (not-tells (isIn offers (o .contracts)) (range-tells offers (o .contracts)))
-unpriced-tells s (remaining time rule) = nothing-tells
+unpriced-tells s (remaining time rule unit) = nothing-tells
 unpriced-tells s status = nothing-tells
 
 -- verdict 0: neither the firm nor the root is locked
@@ -154,5 +156,5 @@ unfolding full LogFull
 full-tells s (order time root reset) = nothing-tells
 full-tells s (lockout time level root) = nothing-tells
 full-tells s (offer o) = place-tells s o
-full-tells s (remaining time rule) = nothing-tells
+full-tells s (remaining time rule unit) = nothing-tells
 full-tells s status = nothing-tells

@@ -18,7 +18,7 @@ unfolding refusalOf
 refusal-least s (order time root reset) n e = first-least 12 _ (tt, (tt, tt)) n e
 refusal-least s (lockout time level root) n e = first-least 12 _ (tt, (tt, tt)) n e
 refusal-least s (offer o) n e = first-least 12 _ (tt, (tt, (tt, (tt, tt)))) n e
-refusal-least s (remaining time rule) n e = first-least 12 _ (tt, (tt, tt)) n e
+refusal-least s (remaining time rule unit) n e = first-least 12 _ (tt, (tt, tt)) n e
 refusal-least s status n e = absurd (omega arith)
 
 -- a number below 12 is the answer to no call of the machine

@@ -93,7 +93,7 @@ module _ (xs : List ℕ) where
     timely = tells-not (late now call) (late-tells now call)
 
     known : isSound xs ≡ true → (strange now call ≡ false) ↔ (Unknown now call → ⊥)
-    known h = tells-not (strange now call) (strange-tells now call (fits h))
+    known h = tells-not (strange now call) (strange-tells now call)
 
     priced : (unpriced now call ≡ false) ↔ (Unpriced now call → ⊥)
     priced = tells-not (unpriced now call) (unpriced-tells now call)
@@ -135,8 +135,8 @@ module _ (xs : List ℕ) where
           Iff·trans (row-first 12)
           (Iff·trans (first-at (memoryTests ++ ((late now call, 12) ∷ [])) (strange now call) 13 _ (tt, (tt, (tt, (tt, tt)))) (tt, (tt, tt)) tt)
           (Iff·trans (
-            λ h. let k = firsts ((late now call, 12) ∷ []) (h .0) in (k, (timely .0 (h .0 .1 .1 .1 .0), strange-tells now call (fits k) .0 (h .1))),
-            λ h. (behind ((late now call, 12) ∷ []) (h .0) (timely .1 (h .1 .0), tt), strange-tells now call (fits (h .0)) .1 (h .1 .1)),
+            λ h. let k = firsts ((late now call, 12) ∷ []) (h .0) in (k, (timely .0 (h .0 .1 .1 .1 .0), strange-tells now call .0 (h .1))),
+            λ h. (behind ((late now call, 12) ∷ []) (h .0) (timely .1 (h .1 .0), tt), strange-tells now call .1 (h .1 .1)),
           )
           (on-held (λ s. (Untimely s call → ⊥) × Unknown s call))));
       fourteen =

@@ -4,7 +4,7 @@ use Prim.Native.Nat.{ℕ, suc, _+_, _≤_, _<_}
 use mathlib.Core.Path.{_≡_}
 use mathlib.Core.Logic.{_↔_, _⊎_}
 use mathlib.Core.Bool.{Bool, true, false}
-use mathlib.Core.List.{List, [], _∷_, _++_}
+use mathlib.Core.List.{List, [], _∷_, _++_, List·Memᴰ}
 use lib.ListN.{length, getD, take}
 use Rattle.measures.specs.Ranges.{In, times, units, premiums, offers}
 use Rattle.rules.specs.Valid.{hasRate}
@@ -14,6 +14,8 @@ use Rattle.line.specs.Line.{malformed, otherFirm, outOfRange, levelClash, unitC
 use Rattle.profile.specs.Profile.{joined, tooMany, startOf}
 use Rattle.machine.specs.declared.Offer.{Offer}
 use Rattle.machine.specs.State.{Profile, State, rulesIn, rootsIn}
+use Rattle.rules.specs.Units.{unitsOf}
+use Rattle.machine.specs.Remaining.{ruleAt}
 use Rattle.machine.specs.Calls.{Call, order, lockout, offer, remaining, status}
 use Rattle.machine.specs.Locks.{isLocked}
 use Rattle.machine.specs.Offers.{grantOf}
@@ -62,15 +64,15 @@ unfoldable pub Untimely : State → Call → Type 0
 Untimely s (order time root reset) = BadTime s time
 Untimely s (lockout time level root) = BadTime s time
 Untimely s (offer o) = BadTime s (o .time)
-Untimely s (remaining time rule) = BadTime s time
+Untimely s (remaining time rule unit) = BadTime s time
 Untimely s status = ⊥
 
--- 13: a root, unit, rule, level or reset number that is not known; at level 1 the root must be 0
+-- 13: a root, unit, rule, level or reset number that is not known; at level 1 the root must be 0, and what remains is asked for a unit of the rule
 unfoldable pub Unknown : State → Call → Type 0
 Unknown s (order time root reset) = (rootsIn s ≤ root) ⊎ (lastReset < reset)
 Unknown s (lockout time level root) = (1 < level) ⊎ ((level ≡ 0) × (rootsIn s ≤ root)) ⊎ ((level ≡ 1) × (0 < root))
 Unknown s (offer o) = (rootsIn s ≤ o .root) ⊎ (units .most < o .unit)
-Unknown s (remaining time rule) = length (rulesIn s) ≤ rule
+Unknown s (remaining time rule unit) = (length (rulesIn s) ≤ rule) ⊎ (List·Memᴰ unit (unitsOf (ruleAt (rulesIn s) rule .scope)) → ⊥)
 Unknown s status = ⊥
 
 -- 14: premium or contracts out of range
@@ -78,7 +80,7 @@ unfoldable pub Unpriced : State → Call → Type 0
 Unpriced s (order time root reset) = ⊥
 Unpriced s (lockout time level root) = ⊥
 Unpriced s (offer o) = (In premiums (o .premium) → ⊥) ⊎ (In offers (o .contracts) → ⊥)
-Unpriced s (remaining time rule) = ⊥
+Unpriced s (remaining time rule unit) = ⊥
 Unpriced s status = ⊥
 
 -- the offer is not locked out, its grant is above 0, the profile has a rate rule, and 512 log entries have their time plus the longest window
@@ -95,7 +97,7 @@ unfoldable pub LogFull : State → Call → Type 0
 LogFull s (order time root reset) = ⊥
 LogFull s (lockout time level root) = ⊥
 LogFull s (offer o) = NoPlace s o
-LogFull s (remaining time rule) = ⊥
+LogFull s (remaining time rule unit) = ⊥
 LogFull s status = ⊥
 
 -- order, lockout, offer, Remaining and Status look for 1, 4, 2, 12, 13, 14, 15

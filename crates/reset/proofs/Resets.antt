@@ -1,8 +1,7 @@
 -- A lockout and a reset, step by step: the state that the memory then holds. Assumes nothing.
 use Prim.Native.Nat.{ℕ}
 use mathlib.Core.Path.{_≡_}
-use mathlib.Core.List.{List, _++_, map}
-use lib.ListN.{take, drop}
+use mathlib.Core.List.{List, map}
 use Rattle.machine.specs.State.{State}
 use Rattle.machine.specs.declared.Effect.{Effect}
 use Rattle.machine.specs.Effects.{zeroing, lifting}
@@ -13,7 +12,7 @@ use Rattle.machine.specs.Step.{accountsAfter, locksAfter, logAfter, partAfter, 
 use Rattle.log.specs.Log.{entriesIn, logNumbers}
 use Rattle.state.specs.State.{locksNumbers, stored, decode}
 use Rattle.state.specs.Laid.{Laid, withClock, withLocks, withAccounts, withLog}
-use Rattle.state.specs.Tests.{locksPart, logPart}
+use Rattle.state.specs.Tests.{locksPart, logPart, putLocks, putLog}
 use Rattle.state.proofs.After.{Holds, held-laid, step-on, log-after, fits-clock, fits-locks}
 use Rattle.state.proofs.Done.{fits-all}
 use Rattle.locks.specs.Locks.{locksIn}
@@ -30,7 +29,7 @@ module _ {xs ys : List ℕ} (h : Laid xs) (time : ℕ) (clock : ys ≡ stored (w
 
   -- a lockout: then the locks
   pub locked : (level root : ℕ) {part : List ℕ} → part ≡ locksNumbers (lockedOut (levelNamed level root) (locksIn (locksPart ys)))
-      → take 837 ys ++ (part ++ drop 4 (drop 837 ys)) ≡ stored (after (lockingOut time (levelNamed level root)) (decode xs)) xs
+      → putLocks ys part ≡ stored (after (lockingOut time (levelNamed level root)) (decode xs)) xs
   unfolding after partAfter clockAfter accountsAfter locksAfter logAfter
   locked level root e =
       let change = lockedOut (levelNamed level root) in step-on moved (λ s. withLocks s (change (s .part .locks))) (locks-after moved-laid change e)
@@ -40,7 +39,7 @@ module _ {xs ys : List ℕ} (h : Laid xs) (time : ℕ) (clock : ys ≡ stored (w
     lightened : State
     lightened = withLocks (withClock (decode xs) time) (lifted (lifting effect root) root (decode xs .part .locks))
 
-    light : Holds lightened xs (take 837 ys ++ (part ++ drop 4 (drop 837 ys)))
+    light : Holds lightened xs (putLocks ys part)
     unfolding lightened
     light =
         let change = lifted (lifting effect root) root in record {
@@ -48,10 +47,10 @@ module _ {xs ys : List ℕ} (h : Laid xs) (time : ℕ) (clock : ys ≡ stored (w
           is = step-on moved (λ s. withLocks s (change (s .part .locks))) (locks-after moved-laid change locks);
         }
 
-    pub light-laid : Laid (take 837 ys ++ (part ++ drop 4 (drop 837 ys)))
+    pub light-laid : Laid (putLocks ys part)
     light-laid = held-laid light
 
-    module _ {zs : List ℕ} (totals : let now = take 837 ys ++ (part ++ drop 4 (drop 837 ys)) in zs ≡ stored (withAccounts (decode now) (map (wiped (zeroing effect root)) (decode now .part .accounts))) now) where
+    module _ {zs : List ℕ} (totals : let now = putLocks ys part in zs ≡ stored (withAccounts (decode now) (map (wiped (zeroing effect root)) (decode now .part .accounts))) now) where
       emptied : Holds (withAccounts lightened (map (wiped (zeroing effect root)) (lightened .part .accounts))) xs zs
       emptied = record {
         fits = fits-all (wiped-fair (zeroing effect root)) (light .fits);
@@ -62,7 +61,7 @@ module _ {xs ys : List ℕ} (h : Laid xs) (time : ℕ) (clock : ys ≡ stored (w
       emptied-laid = held-laid emptied
 
       pub reset-stored : {log : List ℕ} → log ≡ logNumbers (unflaggedLog (zeroing effect root) (entriesIn (logPart zs)))
-          → take 841 zs ++ (log ++ drop 1025 (drop 841 zs)) ≡ stored (after (resetting time root effect) (decode xs)) xs
+          → putLog zs log ≡ stored (after (resetting time root effect) (decode xs)) xs
       unfolding after partAfter clockAfter accountsAfter locksAfter logAfter lightened
       reset-stored e =
           let change = unflaggedLog (zeroing effect root) in step-on emptied (λ s. withLog s (change (s .log))) (log-after emptied-laid change e)

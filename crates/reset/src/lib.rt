@@ -1,15 +1,17 @@
 // What an order's reset and a lockout do to lent memory.
 ghost use mathlib.Core.Path.{_≡_};
 ghost use mathlib.Core.List.{map};
-ghost use Prim.Native.Nat.{_<_};
-ghost use lib.ListN.{length, set};
+ghost use Prim.Native.Nat.{_+_, _<_};
+ghost use lib.ListN.{length};
 ghost use Rattle.rules.specs.Rules.{levelOf};
 ghost use Rattle.machine.specs.Deeds.{Deed};
 ghost use Rattle.machine.specs.Effects.{effectOf, zeroing};
 ghost use Rattle.machine.specs.Order.{wiped, levelNamed};
 ghost use Rattle.machine.specs.Step.{after};
 ghost use Rattle.state.specs.State.{stored, decode};
-ghost use Rattle.state.specs.Laid.{Laid, accountIn, withAccounts};
+ghost use Rattle.machine.specs.State.{rulesIn};
+ghost use Rattle.machine.specs.Remaining.{firstCell};
+ghost use Rattle.state.specs.Laid.{Laid, withAccounts, between};
 use machine::Effect;
 use rules::Rule;
 use rules::Scope;
@@ -49,16 +51,24 @@ fn zeroes(rule: Rule, root: u64, effect: Effect) -> bool
     }
 }
 
-// Zeroes the total of account i, if the effect of an order for a root zeroes it.
-fn wipe_one(m: &mut [u64], i: usize, root: u64, effect: Effect)
-    requires { ⌜ Laid (now m) × (i < length (decode (now m) .part .accounts)) ⌝ }
-    ensures { λ _. ⌜ now (m .exit) ≡ stored (withAccounts (decode (now (m .entry))) (set (decode (now (m .entry)) .part .accounts) i (wiped (zeroing effect root) (accountIn (now (m .entry)) i)))) (now (m .entry)) ⌝ }
+// Zeroes the totals of the accounts of rule i, which begin at a place, if the effect of an order for a root zeroes them. Returns where the next rule's begin.
+fn wipe_rule(m: &mut [u64], i: usize, place: usize, root: u64, effect: Effect) -> usize
+    requires { ⌜ Laid (now m) × (i < length (rulesIn (decode (now m)))) × (place ≡ firstCell (rulesIn (decode (now m))) i) ⌝ }
+    ensures { λ r. ⌜ r ≡ firstCell (rulesIn (decode (now (m .entry)))) (i + 1) ⌝ }
+    ensures { λ r. ⌜ now (m .exit) ≡ stored (withAccounts (decode (now (m .entry))) (between (wiped (zeroing effect root)) place r (decode (now (m .entry)) .part .accounts))) (now (m .entry)) ⌝ }
 {
     let rule = state::rule_in(m, i);
-    if zeroes(rule, root, effect) {
-        let limit = rule.limit;
-        state::put_total(m, i, limit.amount(0));
+    let next = place + rule.accounts();
+    if !zeroes(rule, root, effect) {
+        return next;
     }
+    let limit = rule.limit;
+    let mut j = place;
+    while j < next {
+        state::put_total(m, j, limit.amount(0));
+        j += 1;
+    }
+    next
 }
 
 // Zeroes the totals that the effect of an order for a root zeroes.
@@ -66,10 +76,11 @@ fn wipe(m: &mut [u64], root: u64, effect: Effect)
     requires { ⌜ Laid (now m) ⌝ }
     ensures { λ _. ⌜ now (m .exit) ≡ stored (withAccounts (decode (now (m .entry))) (map (wiped (zeroing effect root)) (decode (now (m .entry)) .part .accounts))) (now (m .entry)) ⌝ }
 {
-    let accounts = state::accounts_in(m);
+    let rules = state::rules_in(m);
+    let mut place: usize = 0;
     let mut i: usize = 0;
-    while i < accounts {
-        wipe_one(m, i, root, effect);
+    while i < rules {
+        place = wipe_rule(m, i, place, root, effect);
         i += 1;
     }
 }

@@ -9,7 +9,7 @@ use Rattle.machine.specs.State.{State, Locks, rulesIn, rootsIn, Fitting}
 use Rattle.log.specs.Log.{entriesIn, logNumbers}
 use Rattle.state.specs.State.{size, encode, stored, decode}
 use Rattle.state.specs.Laid.{Fits, Laid, withClock, withLocks, withLog}
-use Rattle.state.specs.Tests.{logPart}
+use Rattle.state.specs.Tests.{logPart, putLog}
 use Rattle.state.proofs.Stored.{encode-long, decode-stored, stored-laid, stored-again}
 use Rattle.state.proofs.Stores.{put-log}
 use Rattle.state.proofs.Laid.{laid-entries}
@@ -39,10 +39,10 @@ module _ {s : State} {xs ys : List ℕ} (h : Holds s xs ys) where
 
 -- the log's part after a change of the entries that it holds
 pub log-after : {xs : List ℕ} → Laid xs → (change : List Entry → List Entry) {ys : List ℕ} → ys ≡ logNumbers (change (entriesIn (logPart xs)))
-    → take 841 xs ++ (ys ++ drop 1025 (drop 841 xs)) ≡ stored (withLog (decode xs) (change (decode xs .log))) xs
+    → putLog xs ys ≡ stored (withLog (decode xs) (change (decode xs .log))) xs
 log-after {xs} h change {ys} e =
     let entries : ys ≡ logNumbers (change (decode xs .log)) = e ∙ ap (λ (l : List Entry). logNumbers (change l)) (laid-entries h) in
-    (λ i. take 841 (h .is i) ++ (entries i ++ drop 1025 (drop 841 (h .is i)))) ∙ put-log (decode xs) (h .fits) xs (change (decode xs .log))
+    (λ i. putLog (h .is i) (entries i)) ∙ put-log (decode xs) (h .fits) xs (change (decode xs .log))
 
 -- neither the clock nor the locks have to do with whether a state fits
 module _ {s : State} (f : Fits s) where

@@ -13,8 +13,9 @@ use Rattle.tables.specs.RulePlace.{rulesTable}
 use Rattle.tables.proofs.AllZero.{zeros-add}
 use Rattle.tables.proofs.Shapes.{rules-written, log-written}
 use Rattle.profile.specs.Profile.{rootsTable}
-use Rattle.state.specs.State.{size, number, locksShape, marksOf, profileShape, linesOf, totalsShape, partShape, numbersShape, totalsIn, numbersOf, encode, stored}
+use Rattle.state.specs.State.{size, number, locksShape, marksOf, profileShape, linesOf, totalsShape, partShape, numbersShape, totalsIn, numbersOf, encode, stored, restSize, totalsSize}
 use Rattle.state.proofs.Accounts.{map-length}
+use Rattle.machine.proofs.Cells.{cells-bound}
 
 -- the totals of fresh accounts are 0
 fresh-flat : (rules : List Rule) → flat (λ x. x ∷ []) (totalsIn (map fresh rules)) ≡ zeros (length rules)
@@ -22,21 +23,23 @@ unfolding flat zeros fresh
 fresh-flat [] = refl
 fresh-flat (rule ∷ rules) = ap₂ (λ (x : ℕ) (l : List ℕ). x ∷ l) (number-in (rule .limit) 0) (fresh-flat rules)
 
-fresh-written : (rules : List Rule) → length rules ≤ 256 → totalsShape rules .write (totalsIn (map fresh rules)) ≡ zeros 256
+fresh-written : (rules : List Rule) → length rules ≤ 256 → totalsShape rules .write (totalsIn (map fresh (cellsOf rules))) ≡ zeros totalsSize
 unfolding totalsShape rows number one
 fresh-written rules few =
-    let many : length (totalsIn (map fresh rules)) ≡ length rules = map-length _ (map fresh rules) ∙ map-length fresh rules in
-    ap₂ (λ (l : List ℕ) (n : ℕ). l ++ zeros n) (fresh-flat rules) (omega (arith, many))
-    ∙ zeros-add (length rules) (256 - length rules) ∙ ap zeros (omega arith)
+    let cells = cellsOf rules in
+    let most : length cells ≤ totalsSize = cells-bound rules few in
+    let many : length (totalsIn (map fresh cells)) ≡ length cells = map-length _ (map fresh cells) ∙ map-length fresh cells in
+    ap₂ (λ (l : List ℕ) (n : ℕ). l ++ zeros n) (fresh-flat cells) (omega (arith, many))
+    ∙ zeros-add (length cells) (totalsSize - length cells) ∙ ap zeros (omega (arith, most))
 
 -- the numbers of an armed state, part by part
 armed-written : (p : Profile) → encode (armed p)
     ≡ 1 ∷ ((0 ∷ ((p .firm ∷ ((length (p .roots) ∷ rootsTable (p .roots)) ++ (length (p .rules) ∷ rulesTable (p .rules))))
-    ++ (totalsShape (p .rules) .write (totalsIn (map fresh (p .rules))) ++ zeros 4))) ++ zeros 1025)
-unfolding encode armed cellsOf noLocks numbersOf numbersShape partShape profileShape linesOf locksShape marksOf both named table rows one word flag number rootsTable filled flat zeros
+    ++ (totalsShape (p .rules) .write (totalsIn (map fresh (cellsOf (p .rules)))) ++ zeros 4))) ++ zeros 1025)
+unfolding encode armed noLocks numbersOf numbersShape partShape profileShape linesOf locksShape marksOf both named table rows one word flag number rootsTable filled flat zeros
 armed-written p =
     λ i. 1 ∷ ((0 ∷ ((p .firm ∷ ((length (p .roots) ∷ rootsTable (p .roots)) ++ rules-written (length (p .roots)) (p .rules) i))
-    ++ (totalsShape (p .rules) .write (totalsIn (map fresh (p .rules))) ++ zeros 4))) ++ log-written (length (p .roots)) [] i)
+    ++ (totalsShape (p .rules) .write (totalsIn (map fresh (cellsOf (p .rules)))) ++ zeros 4))) ++ log-written (length (p .roots)) [] i)
 
 -- the same numbers, taken from the front on
 joined-parts : (names count places totals locks log rest : List ℕ)
@@ -46,13 +49,13 @@ joined-parts names count places totals locks log rest = simp append-assoc
 -- what arming writes is the armed state, stored
 pub armed-stored : (p : Profile) (xs : List ℕ) → length (p .rules) ≤ 256
     → (1 ∷ 0 ∷ p .firm ∷ length (p .roots) ∷ [])
-    ++ (rootsTable (p .roots) ++ ((length (p .rules) ∷ []) ++ (rulesTable (p .rules) ++ (zeros 1285 ++ drop size xs))))
+    ++ (rootsTable (p .roots) ++ ((length (p .rules) ∷ []) ++ (rulesTable (p .rules) ++ (zeros restSize ++ drop size xs))))
     ≡ stored (armed p) xs
 unfolding stored
 armed-stored p xs few =
-    let totals = totalsShape (p .rules) .write (totalsIn (map fresh (p .rules))) in
-    let all : totals ++ (zeros 4 ++ zeros 1025) ≡ zeros 1285 =
-    ap₂ (λ (a b : List ℕ). a ++ b) (fresh-written (p .rules) few) (zeros-add 4 1025) ∙ zeros-add 256 1029 in
+    let totals = totalsShape (p .rules) .write (totalsIn (map fresh (cellsOf (p .rules)))) in
+    let all : totals ++ (zeros 4 ++ zeros 1025) ≡ zeros restSize =
+    ap₂ (λ (a b : List ℕ). a ++ b) (fresh-written (p .rules) few) (zeros-add 4 1025) ∙ zeros-add totalsSize 1029 in
     sym (ap (λ (l : List ℕ). l ++ drop size xs) (armed-written p)
     ∙ ap (λ (l : List ℕ). 1 ∷ 0 ∷ p .firm ∷ length (p .roots) ∷ l)
     (joined-parts (rootsTable (p .roots)) (length (p .rules) ∷ []) (rulesTable (p .rules)) totals (zeros 4) (zeros 1025) (drop size xs)

@@ -23,11 +23,16 @@ module _ {A : Type 0} (f : A → A) where
   unfoldable pub done : ℕ → List A → List A
   done i l = map f (take i l) ++ drop i l
 
-  pub done-at : (i : ℕ) (l : List A) (d : A) → getD (done i l) i d ≡ getD l i d
+  -- those past the first i are as they were
+  done-past : (i j : ℕ) (l : List A) (d : A) → i ≤ j → getD (done i l) j d ≡ getD l j d
   unfolding done
-  done-at zero l d = refl
-  done-at (suc i) [] d = refl
-  done-at (suc i) (x ∷ l) d = done-at i l d
+  done-past zero j l d h = refl
+  done-past (suc i) zero l d h = absurd (not-suc-le-zero h)
+  done-past (suc i) (suc j) [] d h = refl
+  done-past (suc i) (suc j) (x ∷ l) d h = done-past i j l d (le-of-suc-le-suc h)
+
+  pub done-at : (i : ℕ) (l : List A) (d : A) → getD (done i l) i d ≡ getD l i d
+  done-at i l d = done-past i i l d (omega arith)
 
   done-suc : (i : ℕ) (l : List A) (d : A) → set (done i l) i (f (getD l i d)) ≡ done (suc i) l
   unfolding done
@@ -120,10 +125,17 @@ module _ {f : Account → Account} (k : Fair f) {xs : List ℕ} (h : Laid xs) wh
     doing-length =
         ap (λ (s : State). length (s .part .accounts)) (held-state (d .holds)) ∙ done-length f i (decode xs .part .accounts)
 
-    -- the next account is as it was
+    -- the rules are those that they were, and so is each account to come
+    pub doing-rules : rulesIn (decode ys) ≡ rulesIn (decode xs)
+    unfolding rulesIn
+    doing-rules = ap (λ (s : State). s .part .profile .rules) (held-state (d .holds))
+
+    pub doing-past : {j : ℕ} → i ≤ j → accountIn ys j ≡ accountIn xs j
+    doing-past {j} l =
+        ap (λ (s : State). getD (s .part .accounts) j noAccount) (held-state (d .holds)) ∙ done-past f i j (decode xs .part .accounts) noAccount l
+
     pub doing-at : accountIn ys i ≡ accountIn xs i
-    doing-at =
-        ap (λ (s : State). getD (s .part .accounts) i noAccount) (held-state (d .holds)) ∙ done-at f i (decode xs .part .accounts) noAccount
+    doing-at = doing-past (omega arith)
 
     pub doing-more : {zs : List ℕ} → i < length (decode xs .part .accounts) → zs ≡ stored (changeAt f i (decode ys)) ys → Doing f xs (i + 1) zs
     doing-more l e =

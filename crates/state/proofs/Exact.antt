@@ -11,7 +11,7 @@ use Rattle.shapes.proofs.Valid.{table-few}
 use Rattle.rules.specs.declared.Rule.{Rule}
 use Rattle.tables.proofs.Shapes.{rules-exact, log-exact}
 use Rattle.machine.specs.State.{Profile}
-use Rattle.state.specs.State.{number, locksOf, marksOf, locksShape, profileOf, linesOf, profileShape, totalsShape, partShape, PartNumbers, numbersShape}
+use Rattle.state.specs.State.{number, locksOf, marksOf, locksShape, profileOf, linesOf, profileShape, totalsShape, partShape, PartNumbers, numbersShape, totalsSize}
 
 pub number-exact : Exact number
 unfolding number
@@ -33,7 +33,7 @@ profile-exact =
 
 pub totals-exact : (rules : List Rule) → Exact (totalsShape rules)
 unfolding totalsShape
-totals-exact rules = rows-exact 256 _ _ number-exact
+totals-exact rules = rows-exact totalsSize _ _ number-exact
 
 pub part-exact : Exact partShape
 unfolding partShape

@@ -20,11 +20,11 @@ use Rattle.tables.proofs.RulePlace.{rule-codec, rule-in-range, rule-wider}
 use Rattle.tables.proofs.EntryPlace.{entry-wider}
 use Rattle.machine.specs.State.{State, cellsOf, rulesIn, rootsIn, ruleOf, Fitting}
 use Rattle.machine.specs.Entries.{isEntry}
-use Rattle.machine.specs.Remaining.{noAccount}
+use Rattle.machine.specs.Remaining.{noAccount, ruleAt as ruleIn}
 use Rattle.machine.proofs.Lists.{every-imp}
 use Rattle.log.specs.Log.{HeldIn, entriesIn, logNumbers}
 use Rattle.log.proofs.Logs.{numbers-held, numbers-entries}
-use Rattle.state.specs.State.{number, locksNumbers, stored, decode}
+use Rattle.state.specs.State.{number, locksNumbers, stored, decode, logAt, totalsAt, totalsSize}
 use Rattle.state.specs.Laid.{Fits, Laid, accountIn, withClock, withTotal}
 use Rattle.state.specs.Tests.{rulesPart, locksPart, logPart}
 use Rattle.state.proofs.Accounts.{map-length}
@@ -33,19 +33,21 @@ use Rattle.tables.specs.Tables.{places}
 use Rattle.state.proofs.Map.{decode-is}
 use Rattle.state.proofs.Lent.{ones-places}
 use Rattle.state.proofs.Stores.{stored-rules, stored-roots, stored-locks, stored-log, stored-total, put-clock, put-account}
+use Rattle.machine.proofs.Cells.{cells-bound, cells-valid}
 
--- a state that fits has one account a rule, and the entries of any 64 roots
+-- a state that fits has the accounts of its rules, and the entries of any 64 roots
 module _ {s : State} (f : Fits s) where
-  pub many-accounts : length (s .part .accounts) ≡ length (rulesIn s)
-  unfolding cellsOf Fitting rulesIn
+  pub many-accounts : length (s .part .accounts) ≡ length (cellsOf (rulesIn s))
+  unfolding Fitting rulesIn
   many-accounts = sym (map-length ruleOf (s .part .accounts)) ∙ ap length (f .fitting)
 
-  pub account-rule : (i : ℕ) → getD (rulesIn s) i (noAccount .rule) ≡ getD (s .part .accounts) i noAccount .rule
-  unfolding cellsOf Fitting rulesIn
+  -- the rule of an account is one that the profile's rules have for some unit
+  pub account-rule : (i : ℕ) → getD (cellsOf (rulesIn s)) i (noAccount .rule) ≡ getD (s .part .accounts) i noAccount .rule
+  unfolding Fitting rulesIn
   account-rule i = ap (λ (l : List Rule). getD l i (noAccount .rule)) (sym (f .fitting)) ∙ List·getD-map ruleOf (s .part .accounts) i noAccount
 
-  few-accounts : length (s .part .accounts) ≤ 256
-  few-accounts = omega (arith, f .rules, many-accounts)
+  few-accounts : length (s .part .accounts) ≤ totalsSize
+  few-accounts = omega (arith, cells-bound (rulesIn s) (f .rules), many-accounts)
 
   log-held : HeldIn (logNumbers (s .log))
   unfolding rootsIn
@@ -82,13 +84,19 @@ module _ {xs : List ℕ} (h : Laid xs) where
   laid-name i l =
       sym (getD-drop 4 xs i 0) ∙ sym (getD-take (getD xs 3 0) (drop 4 xs) i 0 (omega (arith, laid-roots))) ∙ ap (λ (q : List ℕ). getD q i 0) laid-names
 
-  pub laid-accounts : getD xs 68 0 ≡ length (decode xs .part .accounts)
+  pub laid-rules : getD xs 68 0 ≡ length (rulesIn (decode xs))
   unfolding rulesIn
-  laid-accounts =
-      sym (getD-take 513 (drop 68 xs) 0 0 (omega arith) ∙ getD-drop 68 xs 0 0) ∙ ap (λ (l : List ℕ). getD l 0 0) rules-laid ∙ sym (many-accounts (h .fits))
+  laid-rules = sym (getD-take 513 (drop 68 xs) 0 0 (omega arith) ∙ getD-drop 68 xs 0 0) ∙ ap (λ (l : List ℕ). getD l 0 0) rules-laid
 
-  pub laid-few : length (decode xs .part .accounts) ≤ 256
+  pub laid-few : length (decode xs .part .accounts) ≤ totalsSize
   laid-few = few-accounts (h .fits)
+
+  -- rule i
+  pub laid-rule : {i : ℕ} → i < length (rulesIn (decode xs)) → ruleAt (drop (i * 2 + 1) (rulesPart xs)) ≡ ruleIn (rulesIn (decode xs)) i
+  unfolding rootsIn rulesIn ruleIn
+  laid-rule {i} l =
+      ap (λ (q : List ℕ). ruleAt (drop (i * 2 + 1) q)) rules-laid ∙ rule-past _ _ i
+      ∙ read-table (rule-codec (rootsIn (decode xs)) (h .fits .roots)) 256 (rulesIn (decode xs)) i (noAccount .rule) (h .fits .valid) l
 
   -- the locks, and the log
   pub laid-locks : locksPart xs ≡ locksNumbers (decode xs .part .locks)
@@ -97,8 +105,8 @@ module _ {xs : List ℕ} (h : Laid xs) where
   pub laid-log : logPart xs ≡ logNumbers (decode xs .log)
   laid-log = ap logPart (h .is) ∙ stored-log (decode xs) (h .fits) xs
 
-  pub laid-many : getD xs 841 0 ≡ length (decode xs .log)
-  laid-many = sym (getD-take 1025 (drop 841 xs) 0 0 (omega arith) ∙ getD-drop 841 xs 0 0) ∙ ap (λ (l : List ℕ). getD l 0 0) laid-log
+  pub laid-many : getD xs logAt 0 ≡ length (decode xs .log)
+  laid-many = sym (getD-take 1025 (drop logAt xs) 0 0 (omega arith) ∙ getD-drop logAt xs 0 0) ∙ ap (λ (l : List ℕ). getD l 0 0) laid-log
 
   pub laid-held : HeldIn (logPart xs)
   laid-held = subst HeldIn (sym laid-log) (log-held (h .fits))
@@ -113,19 +121,15 @@ module _ {xs : List ℕ} (h : Laid xs) where
   pub laid-clock : (t : ℕ) → set xs 1 t ≡ stored (withClock (decode xs) t) xs
   laid-clock t = ap (λ (l : List ℕ). set l 1 t) (h .is) ∙ put-clock (decode xs) (h .fits) xs t
 
-  -- account i: its rule, its total in the measure of its rule, and another total
+  -- account i: that its rule is valid, its total in the measure of its rule, and another total
   module _ {i : ℕ} (l : i < length (decode xs .part .accounts)) where
-    pub laid-rule : ruleAt (drop (i * 2 + 1) (rulesPart xs)) ≡ accountIn xs i .rule
-    unfolding rootsIn rulesIn
-    laid-rule =
-        ap (λ (q : List ℕ). ruleAt (drop (i * 2 + 1) q)) rules-laid ∙ rule-past _ _ i
-        ∙ read-table (rule-codec (rootsIn (decode xs)) (h .fits .roots)) 256 (rulesIn (decode xs)) i (noAccount .rule) (h .fits .valid) (omega (arith, many-accounts (h .fits), l)) ∙ account-rule (h .fits) i
-
     pub laid-valid : isRule 64 (accountIn xs i .rule) ≡ true
     laid-valid =
-        rule-wider (rootsIn (decode xs)) 64 (accountIn xs i .rule) (h .fits .roots)
-        (ap (isRule (rootsIn (decode xs))) (sym (account-rule (h .fits) i))
-        ∙ every-at (isRule (rootsIn (decode xs))) (rulesIn (decode xs)) i (noAccount .rule) (h .fits .valid) (omega (arith, many-accounts (h .fits), l)))
+        let roots = rootsIn (decode xs) in
+        let cells = cellsOf (rulesIn (decode xs)) in
+        rule-wider roots 64 (accountIn xs i .rule) (h .fits .roots)
+        (ap (isRule roots) (sym (account-rule (h .fits) i))
+        ∙ every-at (isRule roots) cells i (noAccount .rule) (cells-valid roots (rulesIn (decode xs)) (h .fits .valid)) (omega (arith, many-accounts (h .fits), l)))
 
     pub laid-in-range : InRange (accountIn xs i .rule .limit) × InDay (accountIn xs i .rule .kind)
     laid-in-range = rule-in-range 64 (accountIn xs i .rule) laid-valid
@@ -133,12 +137,12 @@ module _ {xs : List ℕ} (h : Laid xs) where
     pub laid-measured : isOf (accountIn xs i .rule .limit) (accountIn xs i .total) ≡ true
     laid-measured = every-at (λ a. isOf (a .rule .limit) (a .total)) (decode xs .part .accounts) i noAccount (h .fits .measured) l
 
-    pub laid-total : amountIn (accountIn xs i .rule .limit) (getD xs (581 + i) 0) ≡ accountIn xs i .total
+    pub laid-total : amountIn (accountIn xs i .rule .limit) (getD xs (totalsAt + i) 0) ≡ accountIn xs i .total
     laid-total =
-        ap (amountIn (accountIn xs i .rule .limit)) (ap (λ (q : List ℕ). getD q (581 + i) 0) (h .is) ∙ stored-total (decode xs) (h .fits) xs i l)
+        ap (amountIn (accountIn xs i .rule .limit)) (ap (λ (q : List ℕ). getD q (totalsAt + i) 0) (h .is) ∙ stored-total (decode xs) (h .fits) xs i l)
         ∙ in-number (accountIn xs i .rule .limit) (accountIn xs i .total) laid-measured
 
-    pub laid-put : (total : Amount) → set xs (581 + i) (numberOf total) ≡ stored (withTotal (decode xs) i total) xs
+    pub laid-put : (total : Amount) → set xs (totalsAt + i) (numberOf total) ≡ stored (withTotal (decode xs) i total) xs
     laid-put total =
-        ap (λ (q : List ℕ). set q (581 + i) (numberOf total)) (h .is)
+        ap (λ (q : List ℕ). set q (totalsAt + i) (numberOf total)) (h .is)
         ∙ put-account (decode xs) (h .fits) xs i (record { rule = accountIn xs i .rule; total = total }) l

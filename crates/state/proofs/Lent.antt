@@ -26,8 +26,9 @@ use Rattle.admission.specs.Admission.{areInOrder}
 use Rattle.made.specs.Made.{areRoots}
 use Rattle.made.specs.Parts.{namesHold, placesHold, rootsHold, rulesHold, totalsHold}
 use Rattle.log.specs.Log.{entriesHold, logHolds}
-use Rattle.state.specs.State.{number, locksOf, locksShape, totalsShape, accountsOf}
+use Rattle.state.specs.State.{number, locksOf, locksShape, totalsShape, accountsOf, totalsSize}
 use Rattle.state.specs.Tests.{locksHold}
+use Rattle.machine.proofs.Cells.{cells-bound}
 
 -- the same tests in another order
 shuffle : (b p o z : Bool) → (b && ((p && o) && z)) ≡ ((b && ((b && p) && z)) && o)
@@ -130,14 +131,16 @@ totals-split (rule ∷ rules) (x ∷ zs) h =
     ap₂ (λ (a b : Bool). a && b) (sym (total-number rule x)) (totals-split rules zs (le-of-suc-le-suc h))
     ∙ later (isTotal rule (amountIn (rule .limit) x)) (allZero (drop (length rules) zs)) others
 
-pub totals-lent : (rules : List Rule) (zs : List ℕ) → length rules ≤ 256 → length zs ≡ 256
-    → totalsHold rules zs ≡ (totalsShape rules .test zs && every isPaid (accountsOf (cellsOf rules) (totalsShape rules .read zs)))
-unfolding totalsShape rows number one cellsOf
+pub totals-lent : (rules : List Rule) (zs : List ℕ) → length rules ≤ 256 → length zs ≡ totalsSize
+    → totalsHold (cellsOf rules) zs ≡ (totalsShape rules .test zs && every isPaid (accountsOf (cellsOf rules) (totalsShape rules .read zs)))
+unfolding totalsShape rows number one
 totals-lent rules zs few l =
-    let k = length rules in
-    let all : take 256 zs ≡ zs = take-all 256 zs (omega arith) in
-    totals-split rules zs (omega arith)
-    ∙ (λ i. (sym (le-leb k 256 few) i && sym (pass-any k zs) i && allZero (drop (sym (mul-one k) i) (sym all i))) && every isPaid (accountsOf rules (sym (ones-places k zs (omega arith)) i)))
+    let cells = cellsOf rules in
+    let k = length cells in
+    let most : k ≤ totalsSize = cells-bound rules few in
+    let all : take totalsSize zs ≡ zs = take-all totalsSize zs (omega arith) in
+    totals-split cells zs (omega (arith, most))
+    ∙ (λ i. (sym (le-leb k totalsSize most) i && sym (pass-any k zs) i && allZero (drop (sym (mul-one k) i) (sym all i))) && every isPaid (accountsOf cells (sym (ones-places k zs (omega (arith, most))) i)))
 
 -- the locks, lent alone
 pub locks-lent : (n : ℕ) (zs : List ℕ)

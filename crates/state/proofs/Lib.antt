@@ -7,6 +7,7 @@ pub mod Exactly
 pub mod Laid
 pub mod After
 pub mod Done
+pub mod Between
 pub mod Writes
 pub mod Armed
 pub mod Map

@@ -12,7 +12,7 @@ use Rattle.rules.specs.declared.Rule.{Rule}
 use Rattle.tables.specs.RulePlace.{rulesShape}
 use Rattle.tables.specs.EntryPlace.{logShape}
 use Rattle.machine.specs.State.{cellsOf}
-use Rattle.state.specs.State.{number, locksShape, profileOf, profileShape, totalsShape, partShape, numbersShape, accountsOf, stateOf, decode}
+use Rattle.state.specs.State.{number, locksShape, profileOf, profileShape, totalsShape, partShape, numbersShape, accountsOf, stateOf, decode, locksAt, logAt, totalsAt}
 
 -- the roots and the rules that memory tells
 abbrev pub rootsTold : List ℕ → List ℕ
@@ -26,7 +26,7 @@ roots-told xs = table-many 64 number (drop 3 xs) ∙ getD-drop 3 xs 0 0
 
 pub map-test : (xs : List ℕ) → numbersShape .test xs
     ≡ (eqb (getD xs 0 0) 1 && ((table 64 number .test (drop 3 xs) && rulesShape (length (rootsTold xs)) .test (drop 68 xs))
-    && (totalsShape (rulesTold xs) .test (drop 581 xs) && locksShape .test (drop 837 xs)) && logShape (length (rootsTold xs)) .test (drop 841 xs)))
+    && (totalsShape (rulesTold xs) .test (drop totalsAt xs) && locksShape .test (drop locksAt xs)) && logShape (length (rootsTold xs)) .test (drop logAt xs)))
 unfolding numbersShape partShape profileShape both named profileOf number one
 map-test xs = simp (drop-drop)
 
@@ -34,10 +34,10 @@ pub decode-is : (xs : List ℕ) → decode xs ≡ record {
   part = record {
     clock = getD xs 1 0;
     profile = record { firm = getD xs 2 0; roots = rootsTold xs; rules = rulesTold xs };
-    accounts = accountsOf (cellsOf (rulesTold xs)) (totalsShape (rulesTold xs) .read (drop 581 xs));
-    locks = locksShape .read (drop 837 xs);
+    accounts = accountsOf (cellsOf (rulesTold xs)) (totalsShape (rulesTold xs) .read (drop totalsAt xs));
+    locks = locksShape .read (drop locksAt xs);
   };
-  log = logShape (length (rootsTold xs)) .read (drop 841 xs);
+  log = logShape (length (rootsTold xs)) .read (drop logAt xs);
 }
 unfolding decode stateOf numbersShape partShape profileShape both named profileOf number one
 decode-is xs = simp (drop-drop, getD-drop)

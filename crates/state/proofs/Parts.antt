@@ -22,7 +22,7 @@ use Rattle.admission.specs.Admission.{areInOrder}
 use Rattle.made.specs.Made.{areRoots}
 use Rattle.made.specs.Parts.{rootsHold, rulesOf, rulesHold, totalsHold}
 use Rattle.log.specs.Log.{logHolds}
-use Rattle.state.specs.State.{size, number, locksShape, totalsShape, accountsOf}
+use Rattle.state.specs.State.{size, number, locksShape, totalsShape, accountsOf, locksAt, logAt, totalsAt, totalsSize}
 use Rattle.state.specs.Tests.{rootsPart, rulesPart, totalsPart, locksPart, logPart, locksHold}
 use Rattle.state.proofs.Exact.{number-exact, totals-exact, locks-exact}
 use Rattle.state.proofs.Lent.{roots-lent, rules-lent, totals-lent, locks-lent, log-lent}
@@ -41,18 +41,18 @@ module _ (xs : List ℕ) (long : size ≤ length xs) where
       ∙ first-decide (table 64 number) (table-exact 64 number number-exact) areRoots (drop 3 xs) (room 3 65 (omega arith))
 
   pub totals-held : (rules : List Rule) → length rules ≤ 256
-      → totalsHold rules (totalsPart xs)
-      ≡ (totalsShape rules .test (drop 581 xs) && every isPaid (accountsOf (cellsOf rules) (totalsShape rules .read (drop 581 xs))))
+      → totalsHold (cellsOf rules) (totalsPart xs)
+      ≡ (totalsShape rules .test (drop totalsAt xs) && every isPaid (accountsOf (cellsOf rules) (totalsShape rules .read (drop totalsAt xs))))
   totals-held rules few =
-      totals-lent rules (totalsPart xs) few (part-long 581 256 (omega arith))
-      ∙ first-decide (totalsShape rules) (totals-exact rules) (λ totals. every isPaid (accountsOf (cellsOf rules) totals)) (drop 581 xs) (room 581 256 (omega arith))
+      totals-lent rules (totalsPart xs) few (part-long totalsAt totalsSize (omega arith))
+      ∙ first-decide (totalsShape rules) (totals-exact rules) (λ totals. every isPaid (accountsOf (cellsOf rules) totals)) (drop totalsAt xs) (room totalsAt totalsSize (omega arith))
 
   pub locks-held : (n : ℕ)
       → locksHold n (locksPart xs)
-      ≡ (locksShape .test (drop 837 xs) && (ltb (locksShape .read (drop 837 xs) .tripped) (2 ^ n) && ltb (locksShape .read (drop 837 xs) .byUser) (2 ^ n)))
+      ≡ (locksShape .test (drop locksAt xs) && (ltb (locksShape .read (drop locksAt xs) .tripped) (2 ^ n) && ltb (locksShape .read (drop locksAt xs) .byUser) (2 ^ n)))
   locks-held n =
       locks-lent n (locksPart xs)
-      ∙ first-decide locksShape locks-exact (λ (l : Locks). ltb (l .tripped) (2 ^ n) && ltb (l .byUser) (2 ^ n)) (drop 837 xs) (room 837 4 (omega arith))
+      ∙ first-decide locksShape locks-exact (λ (l : Locks). ltb (l .tripped) (2 ^ n) && ltb (l .byUser) (2 ^ n)) (drop locksAt xs) (room locksAt 4 (omega arith))
 
   -- the parts whose tests know how many roots there are
   module _ (n : ℕ) (few : n ≤ 64) where
@@ -71,12 +71,12 @@ module _ (xs : List ℕ) (long : size ≤ length xs) where
         ∙ sym (rules-read n (rulesPart xs))
         ∙ read-part (rulesShape n) (rules-exact n few) (drop 68 xs) (room 68 513 (omega arith)) t
 
-    pub log-held : (clock : ℕ) → logHolds n clock (logPart xs) ≡ (logShape n .test (drop 841 xs) && areOrdered 0 clock (logShape n .read (drop 841 xs)))
+    pub log-held : (clock : ℕ) → logHolds n clock (logPart xs) ≡ (logShape n .test (drop logAt xs) && areOrdered 0 clock (logShape n .read (drop logAt xs)))
     log-held clock =
-        log-lent n clock (logPart xs) (part-long 841 1025 (omega arith))
-        ∙ first-decide (logShape n) (log-exact n few) (areOrdered 0 clock) (drop 841 xs) (room 841 1025 (omega arith))
+        log-lent n clock (logPart xs) (part-long logAt 1025 (omega arith))
+        ∙ first-decide (logShape n) (log-exact n few) (areOrdered 0 clock) (drop logAt xs) (room logAt 1025 (omega arith))
 
 -- how many entries the log says that it has
-pub log-many : (n : ℕ) (xs : List ℕ) → length (logShape n .read (drop 841 xs)) ≡ getD xs 841 0
+pub log-many : (n : ℕ) (xs : List ℕ) → length (logShape n .read (drop logAt xs)) ≡ getD xs logAt 0
 unfolding logShape
-log-many n xs = table-many 512 _ (drop 841 xs) ∙ getD-drop 841 xs 0 0
+log-many n xs = table-many 512 _ (drop logAt xs) ∙ getD-drop logAt xs 0 0

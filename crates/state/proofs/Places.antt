@@ -14,7 +14,7 @@ use Rattle.tables.specs.EntryPlace.{logShape}
 use Rattle.tables.proofs.Shapes.{rules-written, log-written}
 use Rattle.machine.specs.declared.Entry.{Entry}
 use Rattle.machine.specs.State.{Profile, Locks, cellsOf}
-use Rattle.state.specs.State.{number, locksShape, profileOf, linesOf, profileShape, totalsShape, PartNumbers, partShape, Numbers, numbersShape}
+use Rattle.state.specs.State.{number, locksShape, profileOf, linesOf, profileShape, totalsShape, PartNumbers, partShape, Numbers, numbersShape, locksAt, logAt, totalsAt, totalsSize}
 use Rattle.state.proofs.Exact.{number-exact, profile-exact, totals-exact, part-exact}
 
 -- the log of a part
@@ -31,11 +31,11 @@ whole = second-part (one (λ x. eqb x 1)) (λ _. both partShape logOf) (one-exac
 pub firm-in : PartOf numbersShape (λ n. partShape) 1 (λ n. n .1 .0) (λ n p. (n .0, (p, n .1 .1)))
 firm-in = part-part whole (λ n. first-part partShape logOf log-same) (λ n o. whole .ok n o)
 
-pub log-in : PartOf numbersShape (λ n. logOf (n .1 .0)) 841 (λ n. n .1 .1) (λ n l. (n .0, (n .1 .0, l)))
+pub log-in : PartOf numbersShape (λ n. logOf (n .1 .0)) logAt (λ n. n .1 .1) (λ n l. (n .0, (n .1 .0, l)))
 log-in = part-part whole (λ n. second-part partShape logOf (part-exact .long)) (λ n o. whole .ok n o)
 
 -- within a firm's part
-abbrev restOf : Profile → Shape 260 (List ℕ × Locks)
+abbrev restOf : Profile → Shape 1028 (List ℕ × Locks)
 restOf p = both (totalsShape (p .rules)) (λ _. locksShape)
 
 clock-there : PartOf partShape (λ p. number) 0 (λ p. p .0) (λ p t. (t, p .1))
@@ -52,7 +52,7 @@ after-profile = part-part after-clock (λ p. second-part profileShape restOf (pr
 totals-there : PartOf partShape (λ p. totalsShape (p .1 .0 .rules)) 580 (λ p. p .1 .1 .0) (λ p t. (p .0, (p .1 .0, (t, p .1 .1 .1))))
 totals-there = part-part after-profile (λ p. first-part (totalsShape (p .1 .0 .rules)) (λ _. locksShape) (λ a b x. refl)) (λ p o. after-profile .ok p o)
 
-locks-there : PartOf partShape (λ p. locksShape) 836 (λ p. p .1 .1 .1) (λ p l. (p .0, (p .1 .0, (p .1 .1 .0, l))))
+locks-there : PartOf partShape (λ p. locksShape) 1604 (λ p. p .1 .1 .1) (λ p l. (p .0, (p .1 .0, (p .1 .1 .0, l))))
 locks-there =
     part-part after-profile (λ p. second-part (totalsShape (p .1 .0 .rules)) (λ _. locksShape) (totals-exact (p .1 .0 .rules) .long)) (λ p o. after-profile .ok p o)
 
@@ -60,11 +60,11 @@ locks-there =
 pub clock-in : PartOf numbersShape (λ n. number) 1 (λ n. n .1 .0 .0) (λ n t. (n .0, ((t, n .1 .0 .1), n .1 .1)))
 clock-in = part-part firm-in (λ n. clock-there) (λ n o. firm-in .ok n o)
 
-pub totals-in : PartOf numbersShape (λ n. totalsShape (n .1 .0 .1 .0 .rules)) 581 (λ n. n .1 .0 .1 .1 .0)
+pub totals-in : PartOf numbersShape (λ n. totalsShape (n .1 .0 .1 .0 .rules)) totalsAt (λ n. n .1 .0 .1 .1 .0)
     (λ n t. (n .0, ((n .1 .0 .0, (n .1 .0 .1 .0, (t, n .1 .0 .1 .1 .1))), n .1 .1)))
 totals-in = part-part firm-in (λ n. totals-there) (λ n o. firm-in .ok n o)
 
-pub locks-in : PartOf numbersShape (λ n. locksShape) 837 (λ n. n .1 .0 .1 .1 .1)
+pub locks-in : PartOf numbersShape (λ n. locksShape) locksAt (λ n. n .1 .0 .1 .1 .1)
     (λ n l. (n .0, ((n .1 .0 .0, (n .1 .0 .1 .0, (n .1 .0 .1 .1 .0, l))), n .1 .1)))
 locks-in = part-part firm-in (λ n. locks-there) (λ n o. firm-in .ok n o)
 
@@ -72,11 +72,11 @@ locks-in = part-part firm-in (λ n. locks-there) (λ n o. firm-in .ok n o)
 abbrev pub HasTotal : ℕ → Numbers → Type 0
 HasTotal i n = (numbersShape .ok n ≡ true) × (i < length (cellsOf (n .1 .0 .1 .0 .rules)))
 
-pub total-in : (i : ℕ) → Part (HasTotal i) (numbersShape .write) (λ n. number) (581 + i * 1) (λ n. getD (n .1 .0 .1 .1 .0) i 0)
+pub total-in : (i : ℕ) → Part (HasTotal i) (numbersShape .write) (λ n. number) (totalsAt + i * 1) (λ n. getD (n .1 .0 .1 .1 .0) i 0)
     (λ n v. (n .0, ((n .1 .0 .0, (n .1 .0 .1 .0, (set (n .1 .0 .1 .1 .0) i v, n .1 .0 .1 .1 .1))), n .1 .1)))
 unfolding totalsShape
 total-in i =
-    part-part (narrow totals-in (HasTotal i) (λ n o. o .0)) (λ n. row-part 256 number (number-exact .long) (length (cellsOf (n .1 .0 .1 .0 .rules))) i 0)
+    part-part (narrow totals-in (HasTotal i) (λ n o. o .0)) (λ n. row-part totalsSize number (number-exact .long) (length (cellsOf (n .1 .0 .1 .0 .rules))) i 0)
     (λ n o. (totals-in .ok n (o .0), o .1))
 
 -- the tables of the roots and of the rules

@@ -23,7 +23,7 @@ use Rattle.machine.proofs.Totals.{isPaid}
 use Rattle.made.specs.Names.{isNameNumber}
 use Rattle.admission.specs.Admission.{areInOrder}
 use Rattle.made.specs.Made.{areRoots, isMade}
-use Rattle.state.specs.State.{size, number, locksShape, totalsShape, accountsOf, decode}
+use Rattle.state.specs.State.{size, number, locksShape, totalsShape, accountsOf, decode, locksAt, logAt, totalsAt}
 use Rattle.state.specs.Sound.{isSoundState, isSound}
 use Rattle.state.proofs.Exact.{number-exact}
 use Rattle.state.proofs.Exactly.{taken-apart, put-together}
@@ -39,14 +39,14 @@ pub record Said (xs : List ℕ) : Type 0 where
   pub rules : rulesShape (length (rootsTold xs)) .test (drop 68 xs) ≡ true
   pub some : 1 ≤ length (rulesTold xs)
   pub order : areInOrder (length (rootsTold xs)) [] 0 (rulesTold xs) ≡ true
-  pub totals : totalsShape (rulesTold xs) .test (drop 581 xs) ≡ true
-  pub paid : every isPaid (accountsOf (cellsOf (rulesTold xs)) (totalsShape (rulesTold xs) .read (drop 581 xs))) ≡ true
-  pub locks : locksShape .test (drop 837 xs) ≡ true
-  pub tripped : ltb (locksShape .read (drop 837 xs) .tripped) (2 ^ length (rootsTold xs)) ≡ true
-  pub byUser : ltb (locksShape .read (drop 837 xs) .byUser) (2 ^ length (rootsTold xs)) ≡ true
-  pub rate : (hasRate (rulesTold xs) || eqb (length (logShape (length (rootsTold xs)) .read (drop 841 xs))) 0) ≡ true
-  pub log : logShape (length (rootsTold xs)) .test (drop 841 xs) ≡ true
-  pub ordered : areOrdered 0 (getD xs 1 0) (logShape (length (rootsTold xs)) .read (drop 841 xs)) ≡ true
+  pub totals : totalsShape (rulesTold xs) .test (drop totalsAt xs) ≡ true
+  pub paid : every isPaid (accountsOf (cellsOf (rulesTold xs)) (totalsShape (rulesTold xs) .read (drop totalsAt xs))) ≡ true
+  pub locks : locksShape .test (drop locksAt xs) ≡ true
+  pub tripped : ltb (locksShape .read (drop locksAt xs) .tripped) (2 ^ length (rootsTold xs)) ≡ true
+  pub byUser : ltb (locksShape .read (drop locksAt xs) .byUser) (2 ^ length (rootsTold xs)) ≡ true
+  pub rate : (hasRate (rulesTold xs) || eqb (length (logShape (length (rootsTold xs)) .read (drop logAt xs))) 0) ≡ true
+  pub log : logShape (length (rootsTold xs)) .test (drop logAt xs) ≡ true
+  pub ordered : areOrdered 0 (getD xs 1 0) (logShape (length (rootsTold xs)) .read (drop logAt xs)) ≡ true
 
 -- the state that is told
 told : List ℕ → State
@@ -54,10 +54,10 @@ told xs = record {
   part = record {
     clock = getD xs 1 0;
     profile = record { firm = getD xs 2 0; roots = rootsTold xs; rules = rulesTold xs };
-    accounts = accountsOf (cellsOf (rulesTold xs)) (totalsShape (rulesTold xs) .read (drop 581 xs));
-    locks = locksShape .read (drop 837 xs);
+    accounts = accountsOf (cellsOf (rulesTold xs)) (totalsShape (rulesTold xs) .read (drop totalsAt xs));
+    locks = locksShape .read (drop locksAt xs);
   };
-  log = logShape (length (rootsTold xs)) .read (drop 841 xs);
+  log = logShape (length (rootsTold xs)) .read (drop logAt xs);
 }
 
 is-told : (xs : List ℕ) → decode xs ≡ told xs
@@ -66,7 +66,7 @@ is-told xs = decode-is xs
 
 both-said : (xs : List ℕ)
     → (eqb (getD xs 0 0) 1 && ((table 64 number .test (drop 3 xs) && rulesShape (length (rootsTold xs)) .test (drop 68 xs))
-    && (totalsShape (rulesTold xs) .test (drop 581 xs) && locksShape .test (drop 837 xs)) && logShape (length (rootsTold xs)) .test (drop 841 xs))) ≡ true
+    && (totalsShape (rulesTold xs) .test (drop totalsAt xs) && locksShape .test (drop locksAt xs)) && logShape (length (rootsTold xs)) .test (drop logAt xs))) ≡ true
     → isSoundState (told xs) ≡ true → Said xs
 unfolding isSoundState isMade told rootsIn rulesIn
 both-said xs m s = record {

@@ -22,7 +22,7 @@ use Rattle.admission.specs.Admission.{areInOrder}
 use Rattle.made.specs.Made.{areRoots}
 use Rattle.made.specs.Parts.{rulesHold, totalsHold}
 use Rattle.log.specs.Log.{logHolds}
-use Rattle.state.specs.State.{size, number, locksShape, totalsShape, accountsOf}
+use Rattle.state.specs.State.{size, number, locksShape, totalsShape, accountsOf, locksAt, logAt, totalsAt}
 use Rattle.state.specs.Sound.{isSound}
 use Rattle.state.specs.Tests.{rulesPart, totalsPart, locksPart, logPart, frontHolds, locksHold, partsHold, soundParts}
 use Rattle.state.proofs.Map.{rootsTold, rulesTold, roots-told}
@@ -40,11 +40,11 @@ toldRules xs =
 
 abbrev toldRest : List ℕ → Bool
 toldRest xs =
-    (totalsShape (rulesTold xs) .test (drop 581 xs) && every isPaid (accountsOf (cellsOf (rulesTold xs)) (totalsShape (rulesTold xs) .read (drop 581 xs))))
-    && (locksShape .test (drop 837 xs)
-    && (ltb (locksShape .read (drop 837 xs) .tripped) (2 ^ length (rootsTold xs)) && ltb (locksShape .read (drop 837 xs) .byUser) (2 ^ length (rootsTold xs))))
-    && (hasRate (rulesTold xs) || eqb (length (logShape (length (rootsTold xs)) .read (drop 841 xs))) 0)
-    && (logShape (length (rootsTold xs)) .test (drop 841 xs) && areOrdered 0 (getD xs 1 0) (logShape (length (rootsTold xs)) .read (drop 841 xs)))
+    (totalsShape (rulesTold xs) .test (drop totalsAt xs) && every isPaid (accountsOf (cellsOf (rulesTold xs)) (totalsShape (rulesTold xs) .read (drop totalsAt xs))))
+    && (locksShape .test (drop locksAt xs)
+    && (ltb (locksShape .read (drop locksAt xs) .tripped) (2 ^ length (rootsTold xs)) && ltb (locksShape .read (drop locksAt xs) .byUser) (2 ^ length (rootsTold xs))))
+    && (hasRate (rulesTold xs) || eqb (length (logShape (length (rootsTold xs)) .read (drop logAt xs))) 0)
+    && (logShape (length (rootsTold xs)) .test (drop logAt xs) && areOrdered 0 (getD xs 1 0) (logShape (length (rootsTold xs)) .read (drop logAt xs)))
 
 parts-said : (xs : List ℕ) → (toldFront xs && toldRules xs && toldRest xs) ≡ true → Said xs
 parts-said xs h = record {
@@ -96,10 +96,10 @@ module _ (xs : List ℕ) (long : size ≤ length xs) where
       let rules : rulesShape many .test (drop 68 xs) ≡ true = search tests depth 20 in
       let n = sym (roots-told xs) in
       let r = rules-are xs long many few rules in
-      (λ i. totalsHold (r i) (totalsPart xs) && locksHold (n i) (locksPart xs) && (hasRate (r i) || eqb (sym (log-many many xs) i) 0)
+      (λ i. totalsHold (cellsOf (r i)) (totalsPart xs) && locksHold (n i) (locksPart xs) && (hasRate (r i) || eqb (sym (log-many many xs) i) 0)
       && logHolds (n i) (getD xs 1 0) (logPart xs))
       ∙ (λ i. totals-held xs long (rulesTold xs) (rules-few xs long roots rules) i && locks-held xs long many i
-      && (hasRate (rulesTold xs) || eqb (length (logShape many .read (drop 841 xs))) 0) && log-held xs long many few (getD xs 1 0) i)
+      && (hasRate (rulesTold xs) || eqb (length (logShape many .read (drop logAt xs))) 0) && log-held xs long many few (getD xs 1 0) i)
 
   parts-told : soundParts xs ≡ (toldFront xs && toldRules xs && toldRest xs)
   unfolding soundParts

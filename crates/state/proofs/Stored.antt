@@ -15,10 +15,11 @@ use Rattle.shapes.proofs.Valid.{every-any, rows-ok, table-ok, table-few, table-
 use Rattle.machine.specs.State.{Profile, Locks, State, cellsOf, rootsIn, rulesIn, ruleOf, Fitting}
 use Rattle.tables.specs.RulePlace.{ruleShape, rulesShape}
 use Rattle.tables.specs.EntryPlace.{entryShape, logShape}
-use Rattle.state.specs.State.{size, number, marksOf, locksShape, linesOf, profileShape, totalsShape, partShape, Numbers, numbersShape, totalsIn, accountsOf, numbersOf, stateOf, encode, stored, decode}
+use Rattle.state.specs.State.{size, number, marksOf, locksShape, linesOf, profileShape, totalsShape, partShape, Numbers, numbersShape, totalsIn, accountsOf, numbersOf, stateOf, encode, stored, decode, totalsSize}
 use Rattle.state.specs.Laid.{Fits, Laid}
 use Rattle.state.proofs.Accounts.{accounts-rules, accounts-totals, accounts-measured, accounts-again, map-length}
 use Rattle.state.proofs.Exact.{numbers-exact}
+use Rattle.machine.proofs.Cells.{cells-bound}
 
 -- what the validity of numbers says, part by part
 pub record Valid (n : Numbers) : Type 0 where
@@ -63,13 +64,17 @@ module _ (s : State) (f : Fits s) where
   unfolding Fitting
   many-accounts = map-length _ (s .part .accounts) ∙ sym (map-length ruleOf (s .part .accounts)) ∙ ap length (f .fitting)
 
+  few-accounts : length (cellsOf (s .part .profile .rules)) ≤ totalsSize
+  unfolding rulesIn
+  few-accounts = cells-bound (s .part .profile .rules) (f .rules)
+
   pub fits-ok : numbersShape .ok (numbersOf s) ≡ true
-  unfolding numbersOf totalsShape rulesShape ruleShape logShape entryShape coded cellsOf number one rootsIn rulesIn
+  unfolding numbersOf totalsShape rulesShape ruleShape logShape entryShape coded number one rootsIn rulesIn
   fits-ok = valid-ok (numbersOf s) (record {
     mark = refl;
     roots = table-ok 64 _ _ (f .roots) (every-any _);
     rules = table-ok 256 _ _ (f .rules) (f .valid);
-    totals = rows-ok 256 _ _ _ many-accounts (f .rules) (every-any _);
+    totals = rows-ok totalsSize _ _ _ many-accounts few-accounts (every-any _);
     log = table-ok 512 _ _ (f .log) (f .entries);
   })
 
@@ -93,10 +98,10 @@ module _ (s : State) (f : Fits s) where
 module _ (n : Numbers) (v : Valid n) where
   totals-many : length (n .1 .0 .1 .1 .0) ≡ length (cellsOf (n .1 .0 .1 .0 .rules))
   unfolding totalsShape
-  totals-many = rows-many 256 number _ (n .1 .0 .1 .1 .0) (v .totals)
+  totals-many = rows-many totalsSize number _ (n .1 .0 .1 .1 .0) (v .totals)
 
   pub valid-fits : Fits (stateOf n)
-  unfolding stateOf rulesShape ruleShape logShape entryShape coded rootsIn rulesIn Fitting cellsOf
+  unfolding stateOf rulesShape ruleShape logShape entryShape coded rootsIn rulesIn Fitting
   valid-fits = record {
     roots = table-few 64 number _ (v .roots);
     rules = table-few 256 _ _ (v .rules);
@@ -108,13 +113,13 @@ module _ (n : Numbers) (v : Valid n) where
   }
 
   pub numbers-again : numbersOf (stateOf n) ≡ n
-  unfolding stateOf numbersOf cellsOf
+  unfolding stateOf numbersOf
   numbers-again = λ i. (sym (v .mark) i, ((n .1 .0 .0, (n .1 .0 .1 .0, (totals i, n .1 .0 .1 .1 .1))), n .1 .1))
     where
-      totals : totalsIn (accountsOf (n .1 .0 .1 .0 .rules) (n .1 .0 .1 .1 .0)) ≡ n .1 .0 .1 .1 .0
+      totals : totalsIn (accountsOf (cellsOf (n .1 .0 .1 .0 .rules)) (n .1 .0 .1 .1 .0)) ≡ n .1 .0 .1 .1 .0
       totals =
-          accounts-totals (n .1 .0 .1 .0 .rules) (n .1 .0 .1 .1 .0) (omega (arith, totals-many))
-          ∙ take-all (length (n .1 .0 .1 .0 .rules)) (n .1 .0 .1 .1 .0) (omega (arith, totals-many))
+          accounts-totals (cellsOf (n .1 .0 .1 .0 .rules)) (n .1 .0 .1 .1 .0) (omega (arith, totals-many))
+          ∙ take-all (length (cellsOf (n .1 .0 .1 .0 .rules))) (n .1 .0 .1 .1 .0) (omega (arith, totals-many))
 
 module _ (s : State) (f : Fits s) (xs : List ℕ) where
   pub decode-stored : decode (stored s xs) ≡ s

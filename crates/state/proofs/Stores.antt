@@ -20,23 +20,24 @@ use Rattle.machine.specs.declared.Entry.{Entry}
 use Rattle.machine.specs.State.{State, Locks, rootsIn, ruleOf, Fitting}
 use Rattle.machine.specs.Remaining.{noAccount}
 use Rattle.log.specs.Log.{logNumbers}
-use Rattle.state.specs.State.{size, number, marksOf, locksShape, locksNumbers, numbersShape, numbersOf, encode, stored}
+use Rattle.state.specs.State.{size, number, marksOf, locksShape, locksNumbers, numbersShape, numbersOf, encode, stored, locksAt, logAt, totalsAt}
 use Rattle.state.specs.Laid.{Fits, withClock, withLocks, withLog, withAccounts}
 use Rattle.state.proofs.Accounts.{map-length, map-set}
 use Rattle.state.proofs.Exact.{number-exact, locks-exact}
 use Rattle.state.proofs.Stored.{fits-ok}
 use Rattle.state.proofs.Places.{clock-in, roots-in, rules-in, HasTotal, total-in, locks-in, log-in}
+use Rattle.state.specs.Tests.{putLocks, putLog}
 
 -- the parts of a state that fits
 clock-of : Part Fits encode (λ s. number) 1 (λ s. s .part .clock) withClock
 unfolding encode numbersOf
 clock-of = narrow (seen clock-in numbersOf withClock (λ s t. refl)) Fits (λ s f. fits-ok s f)
 
-locks-of : Part Fits encode (λ s. locksShape) 837 (λ s. s .part .locks) withLocks
+locks-of : Part Fits encode (λ s. locksShape) locksAt (λ s. s .part .locks) withLocks
 unfolding encode numbersOf
 locks-of = narrow (seen locks-in numbersOf withLocks (λ s l. refl)) Fits (λ s f. fits-ok s f)
 
-log-of : Part Fits encode (λ s. logShape (length (s .part .profile .roots))) 841 (λ s. s .log) withLog
+log-of : Part Fits encode (λ s. logShape (length (s .part .profile .roots))) logAt (λ s. s .log) withLog
 unfolding encode numbersOf
 log-of = narrow (seen log-in numbersOf withLog (λ s l. refl)) Fits (λ s f. fits-ok s f)
 
@@ -58,11 +59,11 @@ module _ (s : State) (f : Fits s) (xs : List ℕ) where
   unfolding stored number one
   stored-clock = part-of clock-of s f number-exact (drop size xs)
 
-  pub stored-locks : take 4 (drop 837 (stored s xs)) ≡ locksNumbers (s .part .locks)
+  pub stored-locks : take 4 (drop locksAt (stored s xs)) ≡ locksNumbers (s .part .locks)
   unfolding stored
   stored-locks = part-of locks-of s f locks-exact (drop size xs) ∙ locks-written (s .part .locks)
 
-  pub stored-log : take 1025 (drop 841 (stored s xs)) ≡ logNumbers (s .log)
+  pub stored-log : take 1025 (drop logAt (stored s xs)) ≡ logNumbers (s .log)
   unfolding stored
   stored-log = part-of log-of s f log-fits (drop size xs) ∙ log-written _ (s .log)
 
@@ -83,12 +84,12 @@ module _ (s : State) (f : Fits s) (xs : List ℕ) where
   has-total i h =
       (fits-ok s f, omega (arith, map-length ruleOf (s .part .accounts), ap length (f .fitting)))
 
-  pub stored-total : (i : ℕ) → i < length (s .part .accounts) → getD (stored s xs) (581 + i) 0 ≡ numberOf (getD (s .part .accounts) i noAccount .total)
+  pub stored-total : (i : ℕ) → i < length (s .part .accounts) → getD (stored s xs) (totalsAt + i) 0 ≡ numberOf (getD (s .part .accounts) i noAccount .total)
   unfolding stored encode numbersOf number one noAccount numberOf
   stored-total i h =
-      let at : 581 + i * 1 ≡ 581 + i = ap (λ (j : ℕ). 581 + j) (mul-one i) in
-      let here : 581 + i ≡ 581 + i + 0 = omega arith in
-      ap (λ (j : ℕ). getD (stored s xs) j 0) here ∙ sym (getD-take 1 (drop (581 + i) (stored s xs)) 0 0 (omega arith) ∙ getD-drop (581 + i) (stored s xs) 0 0)
+      let at : totalsAt + i * 1 ≡ totalsAt + i = ap (λ (j : ℕ). totalsAt + j) (mul-one i) in
+      let here : totalsAt + i ≡ totalsAt + i + 0 = omega arith in
+      ap (λ (j : ℕ). getD (stored s xs) j 0) here ∙ sym (getD-take 1 (drop (totalsAt + i) (stored s xs)) 0 0 (omega arith) ∙ getD-drop (totalsAt + i) (stored s xs) 0 0)
       ∙ ap (λ (j : ℕ). getD (take 1 (drop j (stored s xs))) 0 0) (sym at)
       ∙ ap (λ (l : List ℕ). getD l 0 0) (part-of (total-in i) (numbersOf s) (has-total i h) number-exact (drop size xs))
       ∙ List·getD-map (λ (a : Account). numberOf (a .total)) (s .part .accounts) i noAccount
@@ -98,21 +99,21 @@ module _ (s : State) (f : Fits s) (xs : List ℕ) where
   unfolding stored number
   put-clock t = put-one (λ x. true) clock-of s f (drop size xs) t
 
-  pub put-locks : (l : Locks) → take 837 (stored s xs) ++ (locksNumbers l ++ drop 4 (drop 837 (stored s xs))) ≡ stored (withLocks s l) xs
+  pub put-locks : (l : Locks) → putLocks (stored s xs) (locksNumbers l) ≡ stored (withLocks s l) xs
   unfolding stored
   put-locks l =
-      ap (λ (q : List ℕ). take 837 (stored s xs) ++ (q ++ drop 4 (drop 837 (stored s xs)))) (sym (locks-written l)) ∙ put-part locks-of s f locks-exact (drop size xs) l
+      ap (λ (q : List ℕ). putLocks (stored s xs) q) (sym (locks-written l)) ∙ put-part locks-of s f locks-exact (drop size xs) l
 
-  pub put-log : (log : List Entry) → take 841 (stored s xs) ++ (logNumbers log ++ drop 1025 (drop 841 (stored s xs))) ≡ stored (withLog s log) xs
+  pub put-log : (log : List Entry) → putLog (stored s xs) (logNumbers log) ≡ stored (withLog s log) xs
   unfolding stored
   put-log log =
-      ap (λ (q : List ℕ). take 841 (stored s xs) ++ (q ++ drop 1025 (drop 841 (stored s xs)))) (sym (log-written _ log)) ∙ put-part log-of s f log-fits (drop size xs) log
+      ap (λ (q : List ℕ). putLog (stored s xs) q) (sym (log-written _ log)) ∙ put-part log-of s f log-fits (drop size xs) log
 
   pub put-account : (i : ℕ) (a : Account) → i < length (s .part .accounts)
-      → set (stored s xs) (581 + i) (numberOf (a .total)) ≡ stored (withAccounts s (set (s .part .accounts) i a)) xs
+      → set (stored s xs) (totalsAt + i) (numberOf (a .total)) ≡ stored (withAccounts s (set (s .part .accounts) i a)) xs
   unfolding stored encode numbersOf number
   put-account i a h =
-      ap (λ (j : ℕ). set (stored s xs) (581 + j) (numberOf (a .total))) (sym (mul-one i))
+      ap (λ (j : ℕ). set (stored s xs) (totalsAt + j) (numberOf (a .total))) (sym (mul-one i))
       ∙ put-one (λ x. true) (total-in i) (numbersOf s) (has-total i h) (drop size xs) (numberOf (a .total))
       ∙ ap (λ (t : List ℕ). numbersShape .write (1, ((s .part .clock, (s .part .profile, (t, s .part .locks))), s .log)) ++ drop size xs)
       (sym (map-set (λ (b : Account). numberOf (b .total)) (s .part .accounts) i a))

@@ -6,6 +6,7 @@ use mathlib.Core.Path.{_≡_, refl, sym, ap, ap₂, _∙_}
 use mathlib.Core.List.{List, [], _∷_, _++_, append-assoc, append-nil}
 use lib.ListN.{length, getD, take, drop, set, length-append, length-drop, length-set, take-append-drop, drop-of-length-le}
 use lib.Seq.{take-suc-set, drop-set-lt, take-suc, take-all, drop-drop, take-at, drop-at}
+use Rattle.state.specs.State.{restSize, size, totalsAt}
 
 -- after i stores of a list `to` into a list that was `was`
 pub record Written (to was s : List ℕ) (i : ℕ) : Type 0 where
@@ -58,23 +59,23 @@ write-on m before m1 new p m2 a k b l n s e f g =
     ∙ sym (append-assoc before new (drop b m))
 
 -- the writes of a freshly armed state: the front, the names, how many rules, and their places; then zeros up to the end
-module _ (m head names count table zs : List ℕ) (long : 1866 ≤ length m) (four : length head ≡ 4) (roots : length names ≡ 64) (one : length count ≡ 1)
+module _ (m head names count table zs : List ℕ) (long : size ≤ length m) (four : length head ≡ 4) (roots : length names ≡ 64) (one : length count ≡ 1)
     (rules : length table ≡ 512) where
   pub writes : (m1 p2 m2 p3 m3 p4 m4 : List ℕ) → m1 ≡ head ++ drop (length head) m
       → p2 ≡ names ++ drop (length names) (take (length m1 - 4) (drop 4 m1)) → m2 ≡ take 4 m1 ++ (p2 ++ drop (length m1 - 4) (drop 4 m1))
       → p3 ≡ count ++ drop (length count) (take (length m2 - 68) (drop 68 m2)) → m3 ≡ take 68 m2 ++ (p3 ++ drop (length m2 - 68) (drop 68 m2))
       → p4 ≡ table ++ drop (length table) (take (length m3 - 69) (drop 69 m3)) → m4 ≡ take 69 m3 ++ (p4 ++ drop (length m3 - 69) (drop 69 m3))
-      → (1285 ≤ length (drop 581 m4)) × (take 581 m4 ++ (zs ++ drop 1285 (drop 581 m4)) ≡ head ++ (names ++ (count ++ (table ++ (zs ++ drop 1866 m)))))
+      → (restSize ≤ length (drop totalsAt m4)) × (take totalsAt m4 ++ (zs ++ drop restSize (drop totalsAt m4)) ≡ head ++ (names ++ (count ++ (table ++ (zs ++ drop size m)))))
   writes m1 p2 m2 p3 m3 p4 m4 e1 f2 e2 f3 e3 f4 e4 =
       let n2 : length (head ++ names) ≡ 68 = omega (arith, length-append head names) in
       let n3 : length ((head ++ names) ++ count) ≡ 69 = omega (arith, length-append (head ++ names) count, n2) in
-      let n4 : length (((head ++ names) ++ count) ++ table) ≡ 581 = omega (arith, length-append ((head ++ names) ++ count) table, n3) in
+      let n4 : length (((head ++ names) ++ count) ++ table) ≡ totalsAt = omega (arith, length-append ((head ++ names) ++ count) table, n3) in
       let a1 : m1 ≡ head ++ drop 4 m = e1 ∙ ap (λ (k : ℕ). head ++ drop k m) four in
       let a2 : m2 ≡ (head ++ names) ++ drop 68 m = write-on m head m1 names p2 m2 4 64 68 four roots refl a1 f2 e2 in
       let a3 : m3 ≡ ((head ++ names) ++ count) ++ drop 69 m = write-on m (head ++ names) m2 count p3 m3 68 1 69 n2 one refl a2 f3 e3 in
-      let a4 : m4 ≡ (((head ++ names) ++ count) ++ table) ++ drop 581 m = write-on m ((head ++ names) ++ count) m3 table p4 m4 69 512 581 n3 rules refl a3 f4 e4 in
-      let rest : drop 581 m4 ≡ drop 581 m = ap (drop 581) a4 ∙ drop-at (((head ++ names) ++ count) ++ table) (drop 581 m) 581 n4 in (
-        omega (arith, ap length rest, length-drop 581 m),
-        ap₂ (λ (u v : List ℕ). u ++ (zs ++ v)) (ap (take 581) a4 ∙ take-at (((head ++ names) ++ count) ++ table) (drop 581 m) 581 n4) (ap (drop 1285) rest ∙ drop-drop 1285 581 m)
+      let a4 : m4 ≡ (((head ++ names) ++ count) ++ table) ++ drop totalsAt m = write-on m ((head ++ names) ++ count) m3 table p4 m4 69 512 totalsAt n3 rules refl a3 f4 e4 in
+      let rest : drop totalsAt m4 ≡ drop totalsAt m = ap (drop totalsAt) a4 ∙ drop-at (((head ++ names) ++ count) ++ table) (drop totalsAt m) totalsAt n4 in (
+        omega (arith, ap length rest, length-drop totalsAt m),
+        ap₂ (λ (u v : List ℕ). u ++ (zs ++ v)) (ap (take totalsAt) a4 ∙ take-at (((head ++ names) ++ count) ++ table) (drop totalsAt m) totalsAt n4) (ap (drop restSize) rest ∙ drop-drop restSize totalsAt m)
             ∙ simp append-assoc,
       )

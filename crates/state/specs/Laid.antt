@@ -2,8 +2,8 @@
 use Prim.Native.Nat.{ℕ, _≤_}
 use mathlib.Core.Path.{_≡_}
 use mathlib.Core.Bool.{true}
-use mathlib.Core.List.{List}
-use lib.ListN.{length, getD, set}
+use mathlib.Core.List.{List, _++_, map}
+use lib.ListN.{length, getD, take, drop, set}
 use Rattle.laws.specs.Folds.{every}
 use Rattle.rules.specs.Amounts.{isOf}
 use Rattle.rules.specs.Valid.{isRule}
@@ -56,6 +56,10 @@ withAccounts s accounts = record {
   part = record { clock = s .part .clock; profile = s .part .profile; accounts = accounts; locks = s .part .locks };
   log = s .log;
 }
+
+-- accounts of which those from one place up to another went through f
+unfoldable pub between : (Account → Account) → ℕ → ℕ → List Account → List Account
+between f from to accounts = take from accounts ++ (map f (drop from (take to accounts)) ++ drop to accounts)
 
 -- the account at place i with another total
 abbrev pub withTotal : State → ℕ → Amount → State

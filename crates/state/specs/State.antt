@@ -13,15 +13,31 @@ use Rattle.tables.specs.EntryPlace.{flagNumber, logShape}
 use Rattle.machine.specs.declared.Entry.{Entry}
 use Rattle.machine.specs.State.{Profile, Locks, State, cellsOf}
 
--- how many numbers a profile, a firm's part and the whole state take
+-- how many numbers a profile, the totals, a firm's part and the whole state take
 abbrev pub profileSize : ℕ
 profileSize = 579
 
+abbrev pub totalsSize : ℕ
+totalsSize = 1024
+
 abbrev pub partSize : ℕ
-partSize = 840
+partSize = 1608
 
 abbrev pub size : ℕ
-size = 1866
+size = 2634
+
+-- where the totals, the locks and the log begin, and how many numbers these three take
+abbrev pub totalsAt : ℕ
+totalsAt = 581
+
+abbrev pub locksAt : ℕ
+locksAt = 1605
+
+abbrev pub logAt : ℕ
+logAt = 1609
+
+abbrev pub restSize : ℕ
+restSize = 2053
 
 -- a number that may be any
 unfoldable pub number : Shape 1 ℕ
@@ -61,8 +77,9 @@ profileShape = named profileOf linesOf (both number (λ _. both (table 64 number
 abbrev pub PartNumbers : Type 0
 PartNumbers = ℕ × (Profile × (List ℕ × Locks))
 
-unfoldable pub totalsShape : List Rule → Shape 256 (List ℕ)
-totalsShape rules = rows 256 number (length (cellsOf rules))
+-- the totals stand one after the other, account by account
+unfoldable pub totalsShape : List Rule → Shape totalsSize (List ℕ)
+totalsShape rules = rows totalsSize number (length (cellsOf rules))
 
 unfoldable pub partShape : Shape partSize PartNumbers
 partShape = both number (λ _. both profileShape (λ p. both (totalsShape (p .rules)) (λ _. locksShape)))

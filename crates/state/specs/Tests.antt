@@ -1,14 +1,16 @@
 -- The tests of the parts of memory, as the code runs them. Assumes nothing.
 use Prim.Native.Nat.{ℕ, _^_}
 use mathlib.Core.Bool.{Bool, _&&_, _||_}
-use mathlib.Core.List.{List}
+use mathlib.Core.List.{List, _++_}
 use lib.ListN.{getD, take, drop}
 use lib.Dec.{eqb, ltb}
 use Rattle.measures.specs.Ranges.{_to_, isIn, times}
 use Rattle.rules.specs.Valid.{hasRate}
+use Rattle.machine.specs.State.{cellsOf}
 use Rattle.made.specs.Names.{isNameNumber}
 use Rattle.made.specs.Parts.{rootsHold, rulesOf, rulesHold, totalsHold}
 use Rattle.log.specs.Log.{logHolds}
+use Rattle.state.specs.State.{locksAt, logAt, totalsAt, totalsSize}
 
 -- the parts as they are lent: the tables of the roots and of the rules, the totals, the locks and the log
 abbrev pub rootsPart : List ℕ → List ℕ
@@ -18,13 +20,20 @@ abbrev pub rulesPart : List ℕ → List ℕ
 rulesPart xs = take 513 (drop 68 xs)
 
 abbrev pub totalsPart : List ℕ → List ℕ
-totalsPart xs = take 256 (drop 581 xs)
+totalsPart xs = take totalsSize (drop totalsAt xs)
 
 abbrev pub locksPart : List ℕ → List ℕ
-locksPart xs = take 4 (drop 837 xs)
+locksPart xs = take 4 (drop locksAt xs)
 
 abbrev pub logPart : List ℕ → List ℕ
-logPart xs = take 1025 (drop 841 xs)
+logPart xs = take 1025 (drop logAt xs)
+
+-- a memory with other locks, and with another log
+abbrev pub putLocks : List ℕ → List ℕ → List ℕ
+putLocks xs locks = take locksAt xs ++ (locks ++ drop 4 (drop locksAt xs))
+
+abbrev pub putLog : List ℕ → List ℕ → List ℕ
+putLog xs log = take logAt xs ++ (log ++ drop 1025 (drop logAt xs))
 
 -- the mark, the clock, the firm and the roots
 unfoldable pub frontHolds : List ℕ → Bool
@@ -38,8 +47,8 @@ locksHold roots xs =
 -- all parts, with the number of roots and the clock that the front tells
 unfoldable pub partsHold : List ℕ → Bool
 partsHold xs =
-    totalsHold (rulesOf (rulesPart xs)) (totalsPart xs) && locksHold (getD xs 3 0) (locksPart xs)
-    && (hasRate (rulesOf (rulesPart xs)) || eqb (getD xs 841 0) 0)
+    totalsHold (cellsOf (rulesOf (rulesPart xs))) (totalsPart xs) && locksHold (getD xs 3 0) (locksPart xs)
+    && (hasRate (rulesOf (rulesPart xs)) || eqb (getD xs logAt 0) 0)
     && logHolds (getD xs 3 0) (getD xs 1 0) (logPart xs)
 
 unfoldable pub soundParts : List ℕ → Bool

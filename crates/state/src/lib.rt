@@ -4,8 +4,11 @@ ghost use mathlib.Core.List.{[], _∷_, _++_};
 ghost use Prim.Native.Nat.{_≤_, _<_};
 ghost use lib.ListN.{length, getD, drop};
 ghost use Rattle.tables.specs.Tables.{zeros};
-ghost use Rattle.machine.specs.State.{rootsIn};
-ghost use Rattle.state.specs.State.{size, stored, decode};
+ghost use mathlib.Core.Bool.{true};
+ghost use Rattle.rules.specs.Units.{isUnitOf};
+ghost use Rattle.machine.specs.State.{rootsIn, rulesIn};
+ghost use Rattle.machine.specs.Remaining.{ruleAt, cellAt};
+ghost use Rattle.state.specs.State.{size, restSize, stored, decode};
 ghost use Rattle.state.specs.Sound.{isSound};
 ghost use Rattle.state.specs.Laid.{Laid, accountIn, withClock, withTotal};
 ghost use Rattle.state.specs.Tests.{frontHolds, locksHold};
@@ -30,7 +33,7 @@ pub const RULES: usize = ROOTS + made::ROOTS_SIZE;
 
 pub const TOTALS: usize = RULES + made::RULES_SIZE;
 
-pub const LOCKS: usize = TOTALS + 256;
+pub const LOCKS: usize = TOTALS + 1024;
 
 pub const LOG: usize = LOCKS + 4;
 
@@ -51,7 +54,7 @@ fn copy(from: &[u64], to: &mut [u64])
 // Writes a freshly armed state: its firm, how many roots and rules it has, and these in their places.
 pub fn write_armed(m: &mut [u64], firm: u64, roots: u64, rules: u64, names: &[u64], table: &[u64])
     requires { ⌜ (size ≤ length (now m)) × (length (now names) ≡ 64) × (length (now table) ≡ 512) ⌝ }
-    ensures { λ _. ⌜ now (m .exit) ≡ (1 ∷ 0 ∷ firm ∷ roots ∷ []) ++ (now (names .entry) ++ ((rules ∷ []) ++ (now (table .entry) ++ (zeros 1285 ++ drop size (now (m .entry)))))) ⌝ }
+    ensures { λ _. ⌜ now (m .exit) ≡ (1 ∷ 0 ∷ firm ∷ roots ∷ []) ++ (now (names .entry) ++ ((rules ∷ []) ++ (now (table .entry) ++ (zeros restSize ++ drop size (now (m .entry)))))) ⌝ }
 {
     let head = [1, 0, firm, roots];
     copy(&head, m);
@@ -139,24 +142,40 @@ pub fn entries_in(m: &[u64]) -> usize
     m[LOG] as usize
 }
 
-// How many accounts it has.
-pub fn accounts_in(m: &[u64]) -> usize
+// How many rules it has.
+pub fn rules_in(m: &[u64]) -> usize
     requires { ⌜ Laid (now m) ⌝ }
-    ensures { λ r. ⌜ r ≡ length (decode (now (m .entry)) .part .accounts) ⌝ }
+    ensures { λ r. ⌜ r ≡ length (rulesIn (decode (now (m .entry)))) ⌝ }
 {
     m[RULES] as usize
 }
 
-// The rule of account i.
+// Rule i.
 pub fn rule_in(m: &[u64], i: usize) -> Rule
-    requires { ⌜ Laid (now m) × (i < length (decode (now m) .part .accounts)) ⌝ }
-    ensures { λ r. ⌜ r ≡ accountIn (now (m .entry)) i .rule ⌝ }
+    requires { ⌜ Laid (now m) × (i < length (rulesIn (decode (now m)))) ⌝ }
+    ensures { λ r. ⌜ r ≡ ruleAt (rulesIn (decode (now (m .entry)))) i ⌝ }
 {
     let table = &m[RULES..TOTALS];
     let at = i * 2 + 1;
     let first = table[at];
     let second = table[at + 1];
     tables::rule_of(first, second)
+}
+
+// Where the account of a rule for a unit stands: past those of the rules before it.
+pub fn account_at(m: &[u64], rule: usize, unit: u64) -> usize
+    requires { ⌜ Laid (now m) × (rule < length (rulesIn (decode (now m)))) × (isUnitOf (ruleAt (rulesIn (decode (now m))) rule .scope) unit ≡ true) ⌝ }
+    ensures { λ r. ⌜ r ≡ cellAt (rulesIn (decode (now (m .entry)))) rule unit ⌝ }
+{
+    let mut place: usize = 0;
+    let mut i: usize = 0;
+    while i < rule {
+        let before = rule_in(m, i);
+        place += before.accounts();
+        i += 1;
+    }
+    let own = rule_in(m, rule);
+    place + own.place_of(unit)
 }
 
 // The total of account i, in the measure of its rule's limit.

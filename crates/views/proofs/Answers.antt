@@ -12,19 +12,19 @@ use Rattle.text.specs.Text.{indexOf, made, nameOf}
 use Rattle.text.specs.declared.Number.the-variants.{Is}
 use Rattle.text.proofs.Written.{sets-front}
 use Rattle.rules.specs.declared.Rule.{Rule}
-use Rattle.machine.specs.State.{rootsIn}
+use Rattle.machine.specs.State.{rootsIn, rulesIn}
+use Rattle.machine.specs.Remaining.{ruleAt}
 use Rattle.made.specs.Names.{nameBytes}
 use Rattle.made.proofs.Names.{name-read}
 use Rattle.output.proofs.Roots.{root-name, root-index}
 use Rattle.state.specs.State.{decode}
-use Rattle.state.specs.Laid.{accountIn}
 use Rattle.state.proofs.Laid.{laid-roots, laid-names}
 use Rattle.calls.specs.Calls.{memoryRefusal}
 use Rattle.calls.specs.declared.Wording.the-variants.{Written, Refused as NotSaid}
 use Rattle.views.specs.declared.Found.the-variants.{Root, Refused as NotFound}
 use Rattle.views.specs.declared.Told.the-variants.{Refused as NotTold}
 use Rattle.views.specs.Views.{asked, placeOf, rootNamed, nameAnswer, nameRoom, rootName, rootNameRoom, termsOf, ruleTold}
-use Rattle.views.proofs.Held.{laid, name-short, rules-are, roots-named, rule-is}
+use Rattle.views.proofs.Held.{laid, name-short, roots-named}
 
 -- the memory meets a refusal
 module _ (xs : List ℕ) (n : ℕ) (e : n ≡ memoryRefusal xs) (h : n ≡ 0 → ⊥) where
@@ -89,14 +89,14 @@ module _ (xs : List ℕ) (ready : memoryRefusal xs ≡ 0) where
             )
 
   -- a rule
-  module _ (accounts : ℕ) (are : accounts ≡ length (decode xs .part .accounts)) (rule : ℕ) where
-    pub rule-unknown : accounts ≤ rule → NotTold 13 ≡ ruleTold xs rule
-    unfolding ruleTold asked
-    rule-unknown h = rw (ready, ← rules-are xs ready, ← are, le-ltb _ _ h)
+  module _ (rules : ℕ) (are : rules ≡ length (rulesIn (decode xs))) (rule : ℕ) where
+    pub rule-unknown : rules ≤ rule → NotTold 13 ≡ ruleTold xs rule
+    unfolding ruleTold asked rulesIn
+    rule-unknown h = rw (ready, ← are, le-ltb _ _ h)
 
-    pub rule-told : rule < accounts → (r : Rule) → r ≡ accountIn xs rule .rule → termsOf r ≡ ruleTold xs rule
-    unfolding ruleTold asked
-    rule-told h r is = rw (ready, ← rules-are xs ready, ← are, lt-ltb _ _ h, is ∙ rule-is xs ready rule)
+    pub rule-told : rule < rules → (r : Rule) → r ≡ ruleAt (rulesIn (decode xs)) rule → termsOf r ≡ ruleTold xs rule
+    unfolding ruleTold asked rulesIn ruleAt
+    rule-told h r is = rw (ready, ← are, lt-ltb _ _ h, is)
 
   -- the name that a root has is that of this root alone
   pub named-back : (root : ℕ) → root < length (decode xs .part .profile .roots)

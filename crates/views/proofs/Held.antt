@@ -1,19 +1,17 @@
 -- What is read of the profile in a memory that meets no refusal. Assumes nothing.
 use Prim.Native.Nat.{ℕ, _≤_, _<_}
-use mathlib.Core.Path.{_≡_, sym}
+use mathlib.Core.Path.{_≡_}
 use mathlib.Core.Bool.{true}
 use mathlib.Core.List.{List}
 use lib.ListN.{length, getD}
 use Rattle.text.specs.Text.{isNameByte}
-use Rattle.machine.specs.State.{rootsIn, rulesIn}
-use Rattle.machine.specs.Remaining.{noAccount}
+use Rattle.machine.specs.State.{rootsIn}
 use Rattle.made.specs.Names.{nameBytes, isNameNumber}
 use Rattle.made.specs.Made.{areRoots}
 use Rattle.text.proofs.Bytes.{made-most}
 use Rattle.output.proofs.Roots.{root-name}
 use Rattle.state.specs.State.{decode}
-use Rattle.state.specs.Laid.{Laid, accountIn}
-use Rattle.state.proofs.Laid.{many-accounts, account-rule}
+use Rattle.state.specs.Laid.{Laid}
 use Rattle.state.proofs.Exactly.{made-parts, given-is-made, sound-decode, sound-is-laid}
 use Rattle.calls.specs.Calls.{memoryRefusal}
 use Rattle.calls.proofs.Armed.{sound-memory}
@@ -35,12 +33,3 @@ module _ (xs : List ℕ) (ready : memoryRefusal xs ≡ 0) where
   name-short root known =
       let roots = decode xs .part .profile .roots in
       made-most isNameByte 1 6 (nameBytes (getD roots root 0)) (root-name roots root roots-named known)
-
-  -- the rules of the accounts are those of the profile
-  pub rules-are : length (decode xs .part .accounts) ≡ length (decode xs .part .profile .rules)
-  unfolding rulesIn
-  rules-are = many-accounts (laid .fits)
-
-  pub rule-is : (rule : ℕ) → accountIn xs rule .rule ≡ getD (decode xs .part .profile .rules) rule (noAccount .rule)
-  unfolding rulesIn
-  rule-is rule = sym (account-rule (laid .fits) rule)

@@ -152,7 +152,7 @@ pub fn rule(m: &[u64], rule: u64) -> Told
     if refusal != 0 {
         return Told::Refused(refusal);
     }
-    if state::accounts_in(m) as u64 <= rule {
+    if state::rules_in(m) as u64 <= rule {
         return Told::Refused(13);
     }
     terms(state::rule_in(m, rule as usize))

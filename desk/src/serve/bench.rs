@@ -106,7 +106,7 @@ impl Bench {
             Command::Profile(None) => return sitting.active().map(|text| Said::Words(text.trim_end().to_string())),
             Command::Remaining(words) => {
                 let (time, shown) = names.table(&words)?;
-                return table::rules(sitting, time, shown).map(Said::Words).map_err(|refusal| refusal.to_string());
+                return table::rules(sitting, time, shown).map(Said::Words);
             }
             Command::Help(None) => return Ok(Said::Words(help::list())),
             Command::Help(Some(name)) => return help::on(&name).map(Said::Words).ok_or_else(|| format!("there is no help on '{name}'")),

@@ -9,6 +9,7 @@ mod state;
 
 pub use bench::{Bench, Said};
 pub use guard::Guard;
+pub use state::of as state;
 
 use crate::files;
 use http::{Request, Trouble};

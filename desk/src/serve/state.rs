@@ -4,10 +4,11 @@ use super::bench::Bench;
 use crate::answer::why_locked;
 use crate::asked::Names;
 use crate::check::meaning;
+use crate::counts::Count;
 use crate::json::{list, maybe, object, text};
 use crate::profile::Rule;
 use crate::sitting::Sitting;
-use crate::standing::{level_name, level_of};
+use crate::standing::level_name;
 use crate::table::share;
 use crate::words;
 use mbrumzheg::Time;
@@ -45,9 +46,9 @@ fn armed(sitting: &Sitting, at: &str) -> Result<String, String> {
     let typed: Vec<String> = if at.is_empty() { Vec::new() } else { vec![at.to_string()] };
     let (time, _) = names.table(&typed)?;
     let mut rules = Vec::new();
-    for rule in &sitting.profile.rules {
-        let left = sitting.unit.remaining(time, rule.number as u64).map_err(|refusal| refusal.to_string())?;
-        rules.push(of_rule(sitting, rule, left));
+    for (rule, count) in sitting.profile.each_count() {
+        let left = sitting.left(time, count).map_err(|refusal| refusal.to_string())?;
+        rules.push(of_count(sitting, rule, count, left));
     }
     let levels = (0..=sitting.profile.roots.len()).map(|level| of_level(sitting, level));
     let status = sitting.unit.status().map_err(|refusal| refusal.to_string())?;
@@ -75,21 +76,22 @@ fn of_level(sitting: &Sitting, level: usize) -> String {
     ])
 }
 
-fn of_rule(sitting: &Sitting, rule: &Rule, left: u64) -> String {
+/// A rule on one of the units that it counts; a gauge is drawn for each.
+fn of_count(sitting: &Sitting, rule: &Rule, count: &Count, left: u64) -> String {
     let used = rule.limit.saturating_sub(left);
-    let tripped = sitting.standing.tripped(rule.number).and_then(|ms| Time::from_ms(ms).ok()).map(words::time);
+    let tripped = sitting.standing.tripped(count.place).and_then(|ms| Time::from_ms(ms).ok()).map(words::time);
     object(&[
         ("number", rule.number.to_string()),
         ("kind", text(&rule.kind)),
-        ("of", text(&sitting.profile.scope_words(rule.scope))),
-        ("meaning", text(&meaning(&sitting.profile, rule))),
+        ("of", text(&sitting.profile.scope_words(count.of))),
+        ("meaning", text(&meaning(&sitting.profile, rule, count.of))),
         ("limit", text(&rule.limit_words())),
         ("used", text(&rule.amount(used).to_string())),
         ("left", text(&rule.amount(left).to_string())),
         ("remaining", left.to_string()),
         ("percent", share(used, rule.limit, 100).to_string()),
         ("thousandths", share(used, rule.limit, 1_000).to_string()),
-        ("level", level_of(rule.scope).to_string()),
+        ("level", count.level().to_string()),
         ("tripped", maybe(tripped)),
     ])
 }

@@ -25,10 +25,10 @@ pub fn answered(browser: &Browser, answer: &str) {
     assert_eq!(shown.text(), numbers.trim_end_matches(']'), "{answer}");
 }
 
-/// What the gauge of a rule shows: percent, use, left, trip, and the width of its bar against the whole.
-pub fn gauge(browser: &Browser, rule: usize) -> Vec<String> {
+/// What the gauge of a count, by its place, shows: percent, use, left, trip, and the width of its bar against the whole.
+pub fn gauge(browser: &Browser, count: usize) -> Vec<String> {
     let script = format!(
-        "const own = document.querySelectorAll('#rules li')[{rule}]; const bar = own.querySelector('.bar');\
+        "const own = document.querySelectorAll('#rules li')[{count}]; const bar = own.querySelector('.bar');\
          return [own.querySelector('.top i').innerText, own.querySelector('.used').innerText, own.querySelector('.left').innerText,\
          own.querySelector('.trip').innerText, bar.firstChild.style.width]"
     );

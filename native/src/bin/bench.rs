@@ -12,6 +12,7 @@ use native::lines::{lines, rates, Line};
 use native::measure::{Least, Times, CALLS, ROUNDS};
 use native::program;
 use native::rates::{program_rates, record_times, Program};
+use native::SIZE;
 
 /// How often all lines are gone through, and how long a line is measured each time.
 const TURNS: u32 = 6;
@@ -57,7 +58,7 @@ fn print_times() {
     println!(
         "States are warm: each is copied into place before each call, outside the time. A round is {CALLS} calls, and its time their average without\n\
          the clock's own. Rounds take turns for {} ms a line, at least {ROUNDS}, and all lines are gone through {TURNS} times; the least round counts.\n\
-         Ratios are the proved library's time to that of a plain pass over the state's 1,866 numbers, of the second program on its own state, and of\n\
+         Ratios are the proved library's time to that of a plain pass over the state's {SIZE} numbers, of the second program on its own state, and of\n\
          the hand-written call on the same memory. A call is within its bound if it takes at most two plain passes and what the hand-written call\n\
          takes beyond the hand-written test of that state.",
         LINE.as_millis()

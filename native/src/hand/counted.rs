@@ -1,4 +1,4 @@
-//! What rules have counted and allow: one pass over the log for all rules of a scope, from the newest entry on.
+//! What rules have counted and allow: one pass over the log for all rules of a level, from the newest entry on.
 
 use super::map::*;
 use super::Trips;
@@ -18,7 +18,7 @@ pub struct Cuts {
     pub firm: u64,
 }
 
-/// Which entries count for a scope: those whose digits under a mask are these.
+/// Which entries count for a level: those whose digits under a mask are these.
 #[derive(Clone, Copy)]
 struct Sieve {
     mask: u32,
@@ -26,18 +26,14 @@ struct Sieve {
 }
 
 impl Sieve {
-    /// The sieve of a scope: 0 every fill, 1 a whole root, 2 one unit.
-    fn new(scope: u64, root: u64, unit: u64) -> Sieve {
-        let (mask, want) = match scope {
-            0 => (1, 1),
-            1 => (ENTRY_ROOT | 2, root << 4 | 2),
-            _ => (ENTRY_ROOT | 14, root << 4 | unit << 2 | 2),
-        };
-        Sieve { mask: mask as u32, want: want as u32 }
-    }
-}
+    /// The sieve of the firm, through which every fill passes that counts there.
+    const FIRM: Sieve = Sieve { mask: 1, want: 1 };
 
-impl Sieve {
+    /// The sieve of one unit of a root.
+    fn of_unit(root: u64, unit: u64) -> Sieve {
+        Sieve { mask: ENTRY_ROOT as u32 | 14, want: (root << 4 | unit << 2 | 2) as u32 }
+    }
+
     /// The second number of an entry that passes, else 0.
     fn amount(self, entry: &[u64]) -> u64 {
         entry[1] & u64::from(entry[0] as u32 & self.mask == self.want).wrapping_neg()
@@ -103,34 +99,40 @@ fn entries_of(m: &State) -> &[u64] {
     &m[LOG..][..2 * m[ENTRY_COUNT] as usize]
 }
 
-/// What one rule has counted at a time.
-pub fn counted_by(m: &State, rule: &Rule, time: u64) -> u64 {
+/// What the rule at a place has counted at a time, in one of its accounts, which is that of a unit.
+pub fn counted_by(m: &State, place: usize, account: usize, unit: u64, time: u64) -> u64 {
+    let rule = Rule::at(m, place);
     if rule.is_absolute() {
-        return m[TOTALS + rule.place];
+        let before = m[RULES..][..2 * place].chunks_exact(2).map(|rule| accounts(rule[1])).sum::<usize>();
+        return m[TOTALS + before + account];
     }
     let log = entries_of(m);
-    let sieve = Sieve::new(rule.second >> 8 & 3, rule.second >> 2 & 63, rule.second & 3);
-    sieve.sum(&log[2 * start_of(log, rule, time)..], rule.measure())
+    let sieve = if rule.is_firm() { Sieve::FIRM } else { Sieve::of_unit(rule.second >> 2 & 63, unit) };
+    sieve.sum(&log[2 * start_of(log, &rule, time)..], rule.measure())
 }
 
-/// The rules that cover an offer, at most 6 of its root and 10 of the firm, by line.
+/// The rules that cover an offer, at most 6 of its root and 10 of the firm, by line, and where the totals of the accounts that count it stand.
 pub struct Covering {
     rules: [Rule; 16],
+    totals: [usize; 16],
     length: usize,
 }
 
 impl Covering {
     /// The rules of a sound state that cover an offer.
     pub fn new(m: &State, o: &Offer) -> Covering {
-        let (whole, one) = (1 << 8 | o.root << 2, 2 << 8 | o.root << 2 | o.unit);
-        let mut covering = Covering { rules: [Rule::default(); 16], length: 0 };
+        let (whole, one) = (WHOLE | o.root << 2, 2 << 8 | o.root << 2 | o.unit);
+        let mut covering = Covering { rules: [Rule::default(); 16], totals: [0; 16], length: 0 };
         let rules = &m[RULES..][..2 * m[RULE_COUNT] as usize];
-        for (place, rule) in rules.chunks_exact(2).enumerate() {
+        let mut total = TOTALS;
+        for rule in rules.chunks_exact(2) {
             let scope = rule[1] & 0x3FF;
             if scope & SCOPE == 0 || scope == whole || scope == one {
-                covering.rules[covering.length] = Rule { place, first: rule[0], second: rule[1] };
+                covering.rules[covering.length] = Rule { first: rule[0], second: rule[1] };
+                covering.totals[covering.length] = total + if scope == whole { o.unit as usize } else { 0 };
                 covering.length += 1;
             }
+            total += accounts(rule[1]);
         }
         covering
     }
@@ -154,8 +156,8 @@ impl Covering {
     pub fn credit(&self, m: &mut State, o: &Offer, grant: u64) -> Trips {
         let mut trips = Trips::default();
         let added = [o.premium * grant, grant, u64::from(grant > 0)];
-        for rule in self.rules().iter().filter(|rule| rule.is_absolute()) {
-            let total = &mut m[TOTALS + rule.place];
+        for (rule, place) in self.rules().iter().zip(&self.totals).filter(|(rule, _)| rule.is_absolute()) {
+            let total = &mut m[*place];
             *total += added[rule.measure() as usize];
             let reached = *total == rule.ceiling();
             trips.firm |= reached && rule.is_firm();
@@ -164,16 +166,16 @@ impl Covering {
         trips
     }
 
-    /// What each rule has counted: rate rules by scope, the shortest window first, so that a sum goes on from the one before.
+    /// What each rule has counted: rate rules by level, the shortest window first, so that a sum goes on from the one before.
     fn counted(&self, m: &State, o: &Offer) -> [u64; 16] {
         let log = entries_of(m);
         let (mut counted, mut keys, mut length) = ([0; 16], [0; 16], 0);
         for (place, rule) in self.rules().iter().enumerate() {
             if rule.is_absolute() {
-                counted[place] = m[TOTALS + rule.place];
+                counted[place] = m[self.totals[place]];
             } else if !log.is_empty() {
                 let newest_first = PLACES - start_of(log, rule, o.time) as u64;
-                keys[length] = (rule.second & SCOPE) << 8 | newest_first << 4 | place as u64;
+                keys[length] = u64::from(!rule.is_firm()) << 16 | newest_first << 4 | place as u64;
                 length += 1;
             }
         }
@@ -182,22 +184,23 @@ impl Covering {
         counted
     }
 
-    /// Counts rate rules in the order of their keys: scope, how far back their windows go, place.
+    /// Counts rate rules in the order of their keys: firm or root, how far back their windows go, place.
     fn count_by(&self, log: &[u64], o: &Offer, keys: &[u64], counted: &mut [u64; 16]) {
+        let sieves = [Sieve::FIRM, Sieve::of_unit(o.root, o.unit)];
         if let [key] = keys {
             let place = (key & 15) as usize;
-            counted[place] = Sieve::new(key >> 16, o.root, o.unit).sum(&log[start_in(*key)..], self.rules[place].measure());
+            counted[place] = sieves[(key >> 16) as usize].sum(&log[start_in(*key)..], self.rules[place].measure());
             return;
         }
-        let (mut scope, mut end, mut sums) = (u64::MAX, 0, Sums::default());
+        let (mut level, mut end, mut sums) = (u64::MAX, 0, Sums::default());
         for key in keys {
             let place = (key & 15) as usize;
-            if key >> 16 != scope {
-                (scope, end, sums) = (key >> 16, log.len(), Sums::default());
+            if key >> 16 != level {
+                (level, end, sums) = (key >> 16, log.len(), Sums::default());
             }
             let start = start_in(*key);
             if start < end {
-                sums.add(&log[start..end], Sieve::new(scope, o.root, o.unit));
+                sums.add(&log[start..end], sieves[level as usize]);
                 end = start;
             }
             counted[place] = sums.of(self.rules[place].measure());

@@ -16,11 +16,16 @@ pub const MOST_TOTAL: u64 = 1_000_000_000_000_000;
 /// Ten-thousandths in a dollar.
 pub const DOLLAR: u64 = 10_000;
 
+/// The units of a root.
+pub const UNITS: u64 = second::profile::UNITS;
+
 /// The window of a rule's first number.
 pub const WINDOW: u64 = (1 << 27) - 1;
 /// Kind and scope of a rule's second number.
 pub const ABSOLUTE: u64 = 1 << 10;
 pub const SCOPE: u64 = 3 << 8;
+/// The scope of a whole root, each unit counted for itself.
+pub const WHOLE: u64 = 1 << 8;
 /// The root of an entry's first number, the contracts of its second.
 pub const ENTRY_ROOT: u64 = 63 << 4;
 pub const CONTRACTS: u64 = (1 << 20) - 1;
@@ -44,10 +49,18 @@ pub fn first_inside(entries: &[u64], window: u64, time: u64) -> usize {
     low
 }
 
-/// A rule as it stands, and its place.
+/// How many accounts a rule has, by its second number.
+pub fn accounts(second: u64) -> usize {
+    if second & SCOPE == WHOLE {
+        UNITS as usize
+    } else {
+        1
+    }
+}
+
+/// A rule as it stands.
 #[derive(Clone, Copy, Default)]
 pub struct Rule {
-    pub place: usize,
     pub first: u64,
     pub second: u64,
 }
@@ -55,7 +68,7 @@ pub struct Rule {
 impl Rule {
     /// The rule at a place.
     pub fn at(m: &State, place: usize) -> Rule {
-        Rule { place, first: m[RULES + 2 * place], second: m[RULES + 2 * place + 1] }
+        Rule { first: m[RULES + 2 * place], second: m[RULES + 2 * place + 1] }
     }
 
     /// 0 notional, 1 volume, 2 count.
@@ -69,6 +82,15 @@ impl Rule {
 
     pub fn is_firm(&self) -> bool {
         self.second & SCOPE == 0
+    }
+
+    /// Which of its accounts counts this unit, if it has one for it; a firm rule's is that of unit 0.
+    pub fn account(&self, unit: u64) -> Option<usize> {
+        match self.second >> 8 & 3 {
+            0 => (unit == 0).then_some(0),
+            1 => (unit < UNITS).then_some(unit as usize),
+            _ => (unit == self.second & 3).then_some(0),
+        }
     }
 
     pub fn window(&self) -> u64 {

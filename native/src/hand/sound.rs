@@ -87,7 +87,7 @@ fn are_distinct(names: &[u64]) -> bool {
     })
 }
 
-/// What a rule may hold: its limit, its window's least and most, its total.
+/// What a rule may hold: its limit, its window's least and most, the totals of its accounts.
 struct Bounds {
     limit: u64,
     least: u64,
@@ -134,12 +134,25 @@ struct Tally {
 }
 
 impl Tally {
-    /// Adds a rule's two numbers and its total.
-    fn add(&mut self, first: u64, second: u64, total: u64, bounds: &Bounds) {
+    /// Adds the totals of a rule's accounts, and gives those after them.
+    fn add_totals<'a>(&mut self, second: u64, totals: &'a [u64], bounds: &Bounds) -> Option<&'a [u64]> {
+        let out = |total: &u64| total | bounds.total.wrapping_sub(*total);
+        if second & SCOPE == WHOLE {
+            let (four, others) = totals.split_first_chunk::<{ UNITS as usize }>()?;
+            self.bad |= four.iter().fold(0, |bad, total| bad | out(total));
+            Some(others)
+        } else {
+            let (total, others) = totals.split_first()?;
+            self.bad |= out(total);
+            Some(others)
+        }
+    }
+
+    /// Adds a rule's two numbers.
+    fn add(&mut self, first: u64, second: u64, bounds: &Bounds) {
         let (limit, window) = (first >> 27, first & WINDOW);
         self.bad |= limit.wrapping_sub(1) | bounds.limit.wrapping_sub(limit);
         self.bad |= window.wrapping_sub(bounds.least) | bounds.most.wrapping_sub(window);
-        self.bad |= total | bounds.total.wrapping_sub(total);
         self.longest = self.longest.max(window);
         let root = second >> 2 & 63;
         let covers = COVERS[(second >> 6 & 12 | second & 3) as usize];
@@ -162,17 +175,19 @@ impl Tally {
 fn longest_of_rules(m: &State) -> Option<Longest> {
     let rules = m[RULE_COUNT] as usize;
     let (used, unused) = m[RULES..TOTALS].split_at(2 * rules);
-    let (totals, beside) = m[TOTALS..FIRM_TRIPPED].split_at(rules);
+    let mut left = &m[TOTALS..FIRM_TRIPPED];
     let mut tally = Tally { bad: 0, seen: 0, firms: 0, longest: 0, over: 0, units: [0; 64] };
-    for (rule, total) in used.chunks_exact(2).zip(totals) {
-        tally.add(rule[0], rule[1], *total, BOUNDS.get((rule[1] >> 10) as usize)?);
+    for rule in used.chunks_exact(2) {
+        let bounds = BOUNDS.get((rule[1] >> 10) as usize)?;
+        tally.add(rule[0], rule[1], bounds);
+        left = tally.add_totals(rule[1], left, bounds)?;
     }
     let is_good = tally.bad >> 63 == 0
         && tally.over & CLASH == 0
         && tally.firms <= 10
         && tally.seen == m[ROOT_COUNT]
         && is_zero(unused)
-        && is_zero(beside);
+        && is_zero(left);
     is_good.then_some(tally.longest)
 }
 

@@ -1,6 +1,6 @@
 //! The typed calls against the independent second program, on random days: answers, Remaining, Status, clock, names, marks
 //! and the profile that is written back.
-use mbrumzheg::{Armed, Contracts, Event, Level, Offer, Premium, Reset, Root, Scope, Time, Unit, UnitOfRoot, PROFILE_MOST};
+use mbrumzheg::{Armed, Contracts, Event, Level, Offer, Premium, Refusal, Reset, Root, Scope, Time, Unit, UnitOfRoot, PROFILE_MOST};
 use second::profile::Level as SecondLevel;
 
 /// Numbers that look random and are the same on every run.
@@ -81,8 +81,10 @@ fn compare(unit: &Unit<Box<[u64]>, Armed>, other: &second::unit::Unit) {
     for rule in 0..=unit.rule_count() {
         for later in [0, 1, 149, 1_000] {
             let time = Time::from_ms(armed.clock + later).expect("a time");
-            let wanted = other.remaining(time.ms(), rule).numbers();
-            assert_eq!(unit.remaining(time, rule).map_or_else(|refusal| [refusal.number(), 0], |left| [0, left]), wanted);
+            for of in UnitOfRoot::ALL {
+                let wanted = other.remaining(time.ms(), rule, of.number()).numbers();
+                assert_eq!(unit.remaining(time, rule, of).map_or_else(|refusal| [refusal.number(), 0], |left| [0, left]), wanted);
+            }
         }
     }
 }
@@ -101,7 +103,10 @@ fn same_rules(unit: &Unit<Box<[u64]>, Armed>, other: &second::unit::Unit) {
             Scope::Unit(root, of_root) => SecondLevel::Root { root: root.number(), unit: Some(of_root.number()) },
         };
         assert_eq!(level, known.level);
-        assert_eq!(unit.remaining(Time::START, rule.number), Ok(rule.limit));
+        for of in UnitOfRoot::ALL {
+            let wanted = if rule.scope.units().contains(&of) { Ok(rule.limit) } else { Err(Refusal::Unknown) };
+            assert_eq!(unit.remaining(Time::START, rule.number, of), wanted);
+        }
     }
 }
 

@@ -36,6 +36,7 @@ pub enum Call {
     Remaining {
         time: u64,
         rule: u64,
+        unit: u64,
     },
     Status,
     /// Text with so many bytes of room.
@@ -59,7 +60,7 @@ impl Call {
             Call::Order { time, root, reset } => on.order(time, root, reset).numbers().to_vec(),
             Call::Lockout { time, level, root } => on.lockout(time, level, root).numbers().to_vec(),
             Call::Offer { time, root, unit, premium, contracts } => on.offer(time, root, unit, premium, contracts).numbers().to_vec(),
-            Call::Remaining { time, rule } => on.remaining(time, rule).numbers().to_vec(),
+            Call::Remaining { time, rule, unit } => on.remaining(time, rule, unit).numbers().to_vec(),
             Call::Status => on.status().numbers().to_vec(),
             Call::Text { verdict, room } => on.text(verdict, &mut vec![0; room as usize]).numbers().to_vec(),
             Call::Profile { room } => on.profile(&mut vec![0; room as usize]).numbers().to_vec(),

@@ -39,7 +39,7 @@ fn words(call: Call) -> String {
         Call::Order { time, root, reset } => format!("order {time} {root} {reset}"),
         Call::Lockout { time, level, root } => format!("lockout {time} {level} {root}"),
         Call::Offer { time, root, unit, premium, contracts } => format!("offer {time} {root} {unit} {premium} {contracts}"),
-        Call::Remaining { time, rule } => format!("remaining {time} {rule}"),
+        Call::Remaining { time, rule, unit } => format!("remaining {time} {rule} {unit}"),
         Call::Status => "status".to_string(),
         Call::Text { verdict, room } => format!("text {verdict} {room}"),
         Call::Profile { room } => format!("profile {room}"),

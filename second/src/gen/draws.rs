@@ -2,20 +2,29 @@
 
 use super::call::Call;
 use super::maker::{Maker, Pace};
-use crate::profile::{Measure, MOST_BYTES};
+use crate::profile::{Measure, MOST_BYTES, UNITS};
 use crate::{profile_out, LAST_TIME, MOST_CONTRACTS, MOST_PREMIUM};
 
 impl Maker {
+    /// Remaining of some rule, most times on a unit that is the rule's own.
     pub(super) fn remaining(&mut self) -> Call {
         let rules = self.state().map_or(4, |armed| armed.profile.rules.len() as u64);
         let rule = self.random.below(rules);
-        let time = self.time();
+        let (time, unit) = (self.time(), self.own_unit(rule));
         let odd = self.random.once_in(20);
-        match self.random.below(2) {
-            0 if odd => Call::Remaining { time: self.odd_time(), rule },
-            _ if odd => Call::Remaining { time, rule: self.random.pick(&[rules, 255, 256, u64::MAX]) },
-            _ => Call::Remaining { time, rule },
+        match self.random.below(3) {
+            0 if odd => Call::Remaining { time: self.odd_time(), rule, unit },
+            1 if odd => Call::Remaining { time, rule: self.random.pick(&[rules, 255, 256, u64::MAX]), unit },
+            _ if odd => Call::Remaining { time, rule, unit: self.random.pick(&[0, 1, 2, 3, 4, u64::MAX]) },
+            _ => Call::Remaining { time, rule, unit },
         }
+    }
+
+    /// A unit of which the rule keeps an account; any of the four if there is no such rule.
+    fn own_unit(&mut self, rule: u64) -> u64 {
+        let known = self.state().and_then(|armed| armed.profile.rules.get(rule as usize));
+        let own: Vec<u64> = (0..UNITS).filter(|unit| known.is_none_or(|rule| rule.has_account(*unit))).collect();
+        self.random.pick(&own)
     }
 
     pub(super) fn text(&mut self) -> Call {
@@ -82,12 +91,12 @@ impl Maker {
     fn rule_with_rest(&mut self, time: u64, root: u64, unit: u64) -> Option<(Measure, u64)> {
         let armed = self.follows.as_ref()?.armed.as_ref()?;
         let rules = armed.profile.rules.iter().enumerate();
-        let covering: Vec<usize> = rules.filter(|(_, rule)| rule.covers(root, unit)).map(|(place, _)| place).collect();
+        let covering: Vec<(usize, u64)> = rules.filter_map(|(place, rule)| Some((place, rule.account(root, unit)?))).collect();
         if covering.is_empty() {
             return None;
         }
-        let place = self.random.pick(&covering);
-        let rest = self.follows.as_ref()?.remaining(time, place as u64).value;
+        let (place, account) = self.random.pick(&covering);
+        let rest = self.follows.as_ref()?.remaining(time, place as u64, account).value;
         Some((armed.profile.rules[place].measure, rest))
     }
 

@@ -62,7 +62,7 @@ pub mbrumzheg-lockout : Determines 2 mbrumzheg-lockout-kinds.ps mbrumzheg-lockou
 mbrumzheg-lockout κs args asked x y u v p q = (refl, λ i. (one (p .0) (q .0) i, (v .1 .0, (v .1 .1 .0, (v .1 .1 .1 .0, (one (p .1) (q .1) i, v .1 .1 .1 .1 .1))))))
 
 pub mbrumzheg-remaining : Determines 2 mbrumzheg-remaining-kinds.ps mbrumzheg-remaining-kinds.r mbrumzheg-remaining-reads.Asked mbrumzheg-remaining-reads.Learnt
-mbrumzheg-remaining κs args asked x y u v p q = (refl, λ i. (v .0, (v .1 .0, (v .1 .1 .0, (one p q i, v .1 .1 .1 .1)))))
+mbrumzheg-remaining κs args asked x y u v p q = (refl, λ i. (v .0, (v .1 .0, (v .1 .1 .0, (v .1 .1 .1 .0, (one p q i, v .1 .1 .1 .1 .1))))))
 
 pub mbrumzheg-read-record : Determines 2 mbrumzheg-read-record-kinds.ps mbrumzheg-read-record-kinds.r mbrumzheg-read-record-reads.Asked mbrumzheg-read-record-reads.Learnt
 mbrumzheg-read-record κs args asked x y u v p q = (refl, λ i. (v .0, (one p q i, v .1 .1)))

@@ -22,6 +22,14 @@ use Rattle.rules.proofs.Limit.amount.Kinds as limit-amount-kinds
 use Rattle.rules.proofs.Limit.amount.Reads as limit-amount-reads
 use Rattle.rules.proofs.Limit.ceiling.Kinds as limit-ceiling-kinds
 use Rattle.rules.proofs.Limit.ceiling.Reads as limit-ceiling-reads
+use Rattle.rules.proofs.Rule.accounts.Kinds as rule-accounts-kinds
+use Rattle.rules.proofs.Rule.accounts.Reads as rule-accounts-reads
+use Rattle.rules.proofs.Rule.counts_for.Kinds as rule-counts-for-kinds
+use Rattle.rules.proofs.Rule.counts_for.Reads as rule-counts-for-reads
+use Rattle.rules.proofs.Rule.place_of.Kinds as rule-place-of-kinds
+use Rattle.rules.proofs.Rule.place_of.Reads as rule-place-of-reads
+use Rattle.rules.proofs.Rule.of_unit.Kinds as rule-of-unit-kinds
+use Rattle.rules.proofs.Rule.of_unit.Reads as rule-of-unit-reads
 
 pub rule-covers : Determines 0 rule-covers-kinds.ps rule-covers-kinds.r rule-covers-reads.Asked rule-covers-reads.Learnt
 rule-covers κs args asked x y u v p q = (one p q, refl)
@@ -52,3 +60,15 @@ limit-amount κs args asked x y u v p q = (one p q, refl)
 
 pub limit-ceiling : Determines 0 limit-ceiling-kinds.ps limit-ceiling-kinds.r limit-ceiling-reads.Asked limit-ceiling-reads.Learnt
 limit-ceiling κs args asked x y u v p q = (one p q, refl)
+
+pub rule-accounts : Determines 0 rule-accounts-kinds.ps rule-accounts-kinds.r rule-accounts-reads.Asked rule-accounts-reads.Learnt
+rule-accounts κs args asked x y u v p q = (one p q, refl)
+
+pub rule-counts-for : Determines 0 rule-counts-for-kinds.ps rule-counts-for-kinds.r rule-counts-for-reads.Asked rule-counts-for-reads.Learnt
+rule-counts-for κs args asked x y u v p q = (one p q, refl)
+
+pub rule-place-of : Determines 0 rule-place-of-kinds.ps rule-place-of-kinds.r rule-place-of-reads.Asked rule-place-of-reads.Learnt
+rule-place-of κs args asked x y u v p q = (one p q, refl)
+
+pub rule-of-unit : Determines 0 rule-of-unit-kinds.ps rule-of-unit-kinds.r rule-of-unit-reads.Asked rule-of-unit-reads.Learnt
+rule-of-unit κs args asked x y u v p q = (one p q, refl)

@@ -14,10 +14,12 @@ use Rattle.state.proofs.name_in.Kinds as name-in-kinds
 use Rattle.state.proofs.name_in.Reads as name-in-reads
 use Rattle.state.proofs.entries_in.Kinds as entries-in-kinds
 use Rattle.state.proofs.entries_in.Reads as entries-in-reads
-use Rattle.state.proofs.accounts_in.Kinds as accounts-in-kinds
-use Rattle.state.proofs.accounts_in.Reads as accounts-in-reads
+use Rattle.state.proofs.rules_in.Kinds as rules-in-kinds
+use Rattle.state.proofs.rules_in.Reads as rules-in-reads
 use Rattle.state.proofs.rule_in.Kinds as rule-in-kinds
 use Rattle.state.proofs.rule_in.Reads as rule-in-reads
+use Rattle.state.proofs.account_at.Kinds as account-at-kinds
+use Rattle.state.proofs.account_at.Reads as account-at-reads
 use Rattle.state.proofs.total_in.Kinds as total-in-kinds
 use Rattle.state.proofs.total_in.Reads as total-in-reads
 use Rattle.state.proofs.put_total.Kinds as put-total-kinds
@@ -43,11 +45,14 @@ name-in κs args asked x y u v p q = (one p q, refl)
 pub entries-in : Determines 1 entries-in-kinds.ps entries-in-kinds.r entries-in-reads.Asked entries-in-reads.Learnt
 entries-in κs args asked x y u v p q = (one p q, refl)
 
-pub accounts-in : Determines 1 accounts-in-kinds.ps accounts-in-kinds.r accounts-in-reads.Asked accounts-in-reads.Learnt
-accounts-in κs args asked x y u v p q = (one p q, refl)
+pub rules-in : Determines 1 rules-in-kinds.ps rules-in-kinds.r rules-in-reads.Asked rules-in-reads.Learnt
+rules-in κs args asked x y u v p q = (one p q, refl)
 
 pub rule-in : Determines 1 rule-in-kinds.ps rule-in-kinds.r rule-in-reads.Asked rule-in-reads.Learnt
 rule-in κs args asked x y u v p q = (one p q, refl)
+
+pub account-at : Determines 1 account-at-kinds.ps account-at-kinds.r account-at-reads.Asked account-at-reads.Learnt
+account-at κs args asked x y u v p q = (one p q, refl)
 
 pub total-in : Determines 1 total-in-kinds.ps total-in-kinds.r total-in-reads.Asked total-in-reads.Learnt
 total-in κs args asked x y u v p q = (one p q, refl)

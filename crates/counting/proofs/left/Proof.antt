@@ -1,10 +1,17 @@
--- `counting::left` meets its contract: what the account has counted is taken from its limit. Assumes nothing.
-use mathlib.Core.Path.{ap, _∙_}
-use Rattle.rules.specs.Valid.{isRule}
+-- `counting::left` meets its contract: the account of the rule for the unit is the one that is asked for. Assumes nothing.
+use Prim.Native.Nat.{ℕ, _<_}
+use mathlib.Core.Path.{_≡_, sym, ap, ap₂, _∙_, subst}
+use lib.ListN.{length}
+use Rattle.rules.specs.Amounts.{amountIn}
+use Rattle.rules.specs.Units.{ofUnit}
 use Rattle.rules.specs.declared.Rule.{Rule}
-use Rattle.tables.proofs.RulePlace.{rule-in-range}
-use Rattle.state.proofs.Laid.{laid-valid}
-use Rattle.counting.proofs.Counted.{account-measured, account-left}
+use Rattle.rules.specs.declared.Account.{Account}
+use Rattle.machine.specs.State.{rulesIn}
+use Rattle.machine.specs.Remaining.{ruleAt, accountAt, accountFor, leftOf}
+use Rattle.machine.proofs.Refusals.{Asked}
+use Rattle.machine.proofs.Units.{place-low, account-rule}
+use Rattle.state.specs.State.{decode}
+use Rattle.state.specs.Laid.{accountIn}
 use borrow.Author.Needs.{needs}
 use Rattle.counting.proofs.left.Statement.{statement}
 use Rattle.counting.proofs.left.Tie as tie
@@ -12,35 +19,37 @@ use Rattle.counting.proofs.left.Tie as tie
 rule-in-requires : tie.Need-rule-in-requires
 rule-in-requires c κs = search needs
 
-total-in-requires : tie.Need-total-in-requires
-total-in-requires c κs = let p = c .before .before .pre in (p .0, p .1, ap (λ (r : Rule). r .limit) (c .rule-in .ensures))
+account-at-requires : tie.Need-account-at-requires
+account-at-requires c κs = search needs
 
-logged-requires : tie.Need-logged-requires
-logged-requires c κs = let p = c .before .before .before .pre in (p .0, ap (isRule 64) (c .before .rule-in .ensures) ∙ laid-valid (p .0) (p .1), p .2)
+of-unit-requires : tie.Need-of-unit-requires
+of-unit-requires c κs = search needs
 
-counted-requires : tie.Need-counted-requires
-counted-requires c κs = search needs
-
-left-requires : tie.Need-left-requires
-left-requires c κs =
-    let p = c .before .before .before .before .before .pre in
-    let is = c .before .before .before .rule-in .ensures in (
-      rule-in-range 64 _ (ap (isRule 64) is ∙ laid-valid (p .0) (p .1)) .0,
-      account-measured (p .0) (p .1) is (c .before .before .total-in .ensures) (c .before .logged .ensures) (c .counted .ensures),
+left-of-requires : tie.Need-left-of-requires
+unfolding accountFor accountAt rulesIn
+left-of-requires c κs =
+    let start = c .before .before .before .before in
+    let p = start .pre in
+    let s = decode (start .args .m .now) in
+    let rule = start .args .rule in
+    let unit = start .args .unit in
+    let asked : Asked (rulesIn s) rule unit = record { known = p .1; unitKnown = p .2 } in
+    let place = sym (c .before .account-at .ensures) in
+    let own = c .of-unit .ensures ∙ ap (λ (r : Rule). ofUnit r unit) (c .before .before .rule-in .ensures) in (
+      p .0,
+      subst (λ (i : ℕ). i < length (s .part .accounts)) place (place-low s (p .0 .fits .fitting) rule unit asked),
+      own ∙ sym (account-rule s (p .0 .fits .fitting) rule unit asked) ∙ ap (λ (i : ℕ). accountIn (start .args .m .now) i .rule) place,
+      p .3,
     )
 
 returns : tie.Need-returns
+unfolding accountFor accountAt rulesIn ofUnit
 returns c =
-    let p = c .before .before .before .before .before .before .pre in
-    account-left (p .0) (p .1) (c .before .before .before .before .rule-in .ensures) (c .before .before .before .total-in .ensures) (c .before .before .logged .ensures) (c .before .counted .ensures) (c .left .ensures)
+    let start = c .before .before .before .before .before in
+    let s = decode (start .args .m .now) in
+    c .left-of .ensures
+    ∙ ap₂ (λ (r : Rule) (i : ℕ). amountIn (r .limit) (leftOf s (start .args .time) (accountIn (start .args .m .now) i)))
+    (c .before .of-unit .ensures ∙ ap (λ (r : Rule). ofUnit r (start .args .unit)) (c .before .before .before .rule-in .ensures)) (c .before .before .account-at .ensures)
 
 pub left-spec : {M : Type 1} → statement M
-left-spec =
-    tie.close
-    (tie.spec
-    rule-in-requires
-    total-in-requires
-    logged-requires
-    counted-requires
-    left-requires
-    returns)
+left-spec = tie.close (tie.spec rule-in-requires account-at-requires of-unit-requires left-of-requires returns)

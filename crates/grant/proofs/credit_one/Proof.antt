@@ -24,42 +24,38 @@ use borrow.Author.Needs.{needs}
 use Rattle.grant.proofs.credit_one.Statement.{statement}
 use Rattle.grant.proofs.credit_one.Tie as tie
 
-rule-in-requires : tie.Need-rule-in-requires
-rule-in-requires c κs = search needs
-
 is-absolute-requires : tie.Need-is-absolute-requires
 is-absolute-requires c κs = search needs
 
 covers-requires : tie.Need-covers-requires
 covers-requires c κs = search needs
 
-same-length : tie.Need-same-length
-same-length c = search needs
-
 returns : tie.Need-returns
 returns c =
-    let args = c .before .before .before .before .before .before .args in
+    let start = c .before .before .before .before in
+    let args = start .args in
     let a = accountIn (args .m .now) (args .i) in
     let absolute = c .before .before .is-absolute .ensures in
     let inside = c .before .covers .ensures in
-    let is = c .before .before .before .rule-in .ensures in
+    let is = start .pre .2 in
     record {
-      memory = change-none (credited (args .o) (args .grant)) (args .i) (c .before .before .before .before .before .before .pre .0) (credited-off (args .o) (args .grant) a is absolute inside (c .if1 .taken));
+      memory = change-none (credited (args .o) (args .grant)) (args .i) (start .pre .0) (credited-off (args .o) (args .grant) a is absolute inside (c .if1 .taken));
       root = sym (ap (λ (b : Bool). args .before .root || b) (fills-off (args .o) (args .grant) a is absolute inside (Root (args .o .root)) (c .if1 .taken)) ∙ or-false (args .before .root));
       firm = sym (ap (λ (b : Bool). args .before .firm || b) (fills-off (args .o) (args .grant) a is absolute inside Firm (c .if1 .taken)) ∙ or-false (args .before .firm));
     }
 
 total-in-requires : tie.Need-total-in-requires
-total-in-requires c κs = let p = c .before .before .before .before .before .before .before .pre in (p .0, p .1, ap (λ (r : Rule). r .limit) (c .before .before .before .before .rule-in .ensures))
+total-in-requires c κs = let p = c .before .before .before .before .before .pre in (p .0, p .1, ap (λ (r : Rule). r .limit) (p .2))
 
 filled-requires : tie.Need-filled-requires
 filled-requires c κs =
-    let p = c .before .before .before .before .before .before .before .before .pre in
-    let a = accountIn (c .before .before .before .before .before .before .before .before .args .m .now) (c .before .before .before .before .before .before .before .before .args .i) in (
-      (λ k. isOf (c .before .before .before .before .before .rule-in .ensures k .limit) (c .total-in .ensures k)) ∙ laid-measured (p .0) (p .1),
-      subst (λ (t : Amount). In totals (numberOf t)) (sym (c .total-in .ensures)) (total-in (a .rule) (a .total) (p .2) .1),
-      p .3,
+    let start = c .before .before .before .before .before .before in
+    let p = start .pre in
+    let a = accountIn (start .args .m .now) (start .args .i) in (
+      (λ k. isOf (p .2 k .limit) (c .total-in .ensures k)) ∙ laid-measured (p .0) (p .1),
+      subst (λ (t : Amount). In totals (numberOf t)) (sym (c .total-in .ensures)) (total-in (a .rule) (a .total) (p .3) .1),
       p .4,
+      p .5,
     )
 
 put-total-requires : tie.Need-put-total-requires
@@ -67,32 +63,36 @@ put-total-requires c κs = search needs
 
 reached-requires : tie.Need-reached-requires
 reached-requires c κs =
-    let p = c .before .before .before .before .before .before .before .before .before .before .before .before .before .pre in
-    let limit = c .before .before .before .before .before .before .before .before .before .before .rule-in .result .limit in (
-      subst (λ (r : Rule). InRange (r .limit)) (sym (c .before .before .before .before .before .before .before .before .before .before .rule-in .ensures)) (laid-in-range (p .0) (p .1) .0),
+    let start = c .before .before .before .before .before .before .before .before .before .before .before in
+    let p = start .pre in
+    let limit = start .args .rule .limit in (
+      subst (λ (r : Rule). InRange (r .limit)) (sym (p .2)) (laid-in-range (p .0) (p .1) .0),
       ap (λ (b : Account). isOf limit (b .total)) (c .before .before .before .before .filled .ensures) ∙ of-in limit _,
     )
 
 is-firm-requires : tie.Need-is-firm-requires
 is-firm-requires c κs = search needs
 
-same-length-2 : tie.Need-same-length-2
-same-length-2 c = search needs
+same-length : tie.Need-same-length
+same-length c = search needs
 
 returns-2 : tie.Need-returns-2
 returns-2 c =
-    let args = c .before .before .before .before .before .before .before .before .before .before .before .before .before .before .before .before .before .args in
+    let at-filled = c .before .before .before .before .before .before .before .before in
+    let at-test = at-filled .before .before .before in
+    let start = at-test .before .before .before .before in
+    let args = start .args in
     let o = args .o in
     let a = accountIn (args .m .now) (args .i) in
-    let is = c .before .before .before .before .before .before .before .before .before .before .before .before .before .before .rule-in .ensures in
-    let absolute = c .before .before .before .before .before .before .before .before .before .before .before .before .before .is-absolute .ensures in
-    let inside = c .before .before .before .before .before .before .before .before .before .before .before .before .covers .ensures in
-    let some = c .before .before .before .before .before .before .before .before .before .before .before .if1 .left in
-    let raised : c .before .before .before .before .before .before .before .before .filled .result .total ≡ amountIn (a .rule .limit) (numberOf (a .total) + added (a .rule .limit) (o .premium) (args .grant)) =
-    ap (λ (b : Account). b .total) (c .before .before .before .before .before .before .before .before .filled .ensures)
-    ∙ ap₂ (λ (t : Amount) (r : Rule). amountIn (r .limit) (numberOf t + added (r .limit) (o .premium) (args .grant))) (c .before .before .before .before .before .before .before .before .before .total-in .ensures) is in
-    let x = c .before .before .before .before .before .before .before .before .before .before .before .before .before .is-absolute .result in
-    let y = c .before .before .before .before .before .before .before .before .before .before .before .before .covers .result in
+    let is = start .pre .2 in
+    let absolute = at-test .before .before .is-absolute .ensures in
+    let inside = at-test .before .covers .ensures in
+    let some = at-test .if1 .left in
+    let raised : at-filled .filled .result .total ≡ amountIn (a .rule .limit) (numberOf (a .total) + added (a .rule .limit) (o .premium) (args .grant)) =
+    ap (λ (b : Account). b .total) (at-filled .filled .ensures)
+    ∙ ap₂ (λ (t : Amount) (r : Rule). amountIn (r .limit) (numberOf t + added (r .limit) (o .premium) (args .grant))) (at-filled .before .total-in .ensures) is in
+    let x = at-test .before .before .is-absolute .result in
+    let y = at-test .before .covers .result in
     let covered : not y ≡ false = ap not (and-r x y (not-false (x && y) some)) in
     let firm = c .before .before .is-firm .ensures in
     let full =
@@ -105,18 +105,4 @@ returns-2 c =
     }
 
 pub credit-one-spec : {M : Type 1} → statement M
-credit-one-spec =
-    tie.close
-    (tie.spec
-    rule-in-requires
-    is-absolute-requires
-    covers-requires
-    same-length
-    returns
-    total-in-requires
-    filled-requires
-    put-total-requires
-    reached-requires
-    is-firm-requires
-    same-length-2
-    returns-2)
+credit-one-spec = tie.close (tie.spec is-absolute-requires covers-requires returns total-in-requires filled-requires put-total-requires reached-requires is-firm-requires same-length returns-2)

@@ -13,25 +13,21 @@ use borrow.Author.Needs.{needs}
 use Rattle.grant.proofs.lower.Statement.{statement}
 use Rattle.grant.proofs.lower.Tie as tie
 
-rule-in-requires : tie.Need-rule-in-requires
-rule-in-requires c κs = search needs
-
 covers-requires : tie.Need-covers-requires
 covers-requires c κs = search needs
 
 returns : tie.Need-returns
 returns c =
-    let at-rule = c .before .before in
-    let start = at-rule .before .before in
+    let start = c .before .before .before in
     let args = start .args in
     let xs = args .m .now in
     let a = accountIn xs (args .i) in
     let test = c .before .covers .ensures in (
       record {
-        root = lowered-off (args .o) a (at-rule .rule-in .ensures) test (decode xs .log) (Root (args .o .root)) (args .cuts .root) (c .if1 .taken);
-        firm = lowered-off (args .o) a (at-rule .rule-in .ensures) test (decode xs .log) Firm (args .cuts .firm) (c .if1 .taken);
+        root = lowered-off (args .o) a (start .pre .2) test (decode xs .log) (Root (args .o .root)) (args .cuts .root) (c .if1 .taken);
+        firm = lowered-off (args .o) a (start .pre .2) test (decode xs .log) Firm (args .cuts .firm) (c .if1 .taken);
       },
-      start .pre .2,
+      start .pre .3,
     )
 
 counted-by-requires : tie.Need-counted-by-requires
@@ -39,10 +35,10 @@ counted-by-requires c κs = search needs
 
 allowance-requires : tie.Need-allowance-requires
 allowance-requires c κs =
-    let at-rule = c .before .before .before .before in
-    let p = at-rule .before .before .pre in
-    let limit = at-rule .rule-in .result .limit in (
-      subst (λ (r : Rule). InRange (r .limit)) (sym (at-rule .rule-in .ensures)) (laid-in-range (p .0 .laid) (p .1) .0),
+    let start = c .before .before .before .before .before in
+    let p = start .pre in
+    let limit = start .args .rule .limit in (
+      subst (λ (r : Rule). InRange (r .limit)) (sym (p .2)) (laid-in-range (p .0 .laid) (p .1) .0),
       ap (isOf limit) (c .before .counted-by .ensures .0) ∙ of-in limit _,
       p .0 .premium .0,
     )
@@ -55,15 +51,14 @@ least-requires c κs = search needs
 
 returns-2 : tie.Need-returns-2
 returns-2 c =
-    let at-rule = c .before .before .before .before .before .before .before .before in
-    let start = at-rule .before .before in
+    let start = c .before .before .before .before .before .before .before .before .before in
     let args = start .args in
     let xs = args .m .now in
     let a = accountIn xs (args .i) in
     let at-most = c .before .before .before in
     let told = at-most .before .before in
     let at-covers = told .before .before in
-    let is = at-rule .rule-in .ensures in
+    let is = start .pre .2 in
     let allows = allows-is (decode xs .log) (args .o) a is (told .counted-by .ensures .0) (at-most .allowance .ensures) in
     let inside = told .before .if1 .left in
     let firm = c .before .before .is-firm .ensures in (
@@ -79,15 +74,14 @@ least-requires-2 c κs = search needs
 
 returns-3 : tie.Need-returns-3
 returns-3 c =
-    let at-rule = c .before .before .before .before .before .before .before .before in
-    let start = at-rule .before .before in
+    let start = c .before .before .before .before .before .before .before .before .before in
     let args = start .args in
     let xs = args .m .now in
     let a = accountIn xs (args .i) in
     let at-most = c .before .before .before in
     let told = at-most .before .before in
     let at-covers = told .before .before in
-    let is = at-rule .rule-in .ensures in
+    let is = start .pre .2 in
     let allows = allows-is (decode xs .log) (args .o) a is (told .counted-by .ensures .0) (at-most .allowance .ensures) in
     let inside = told .before .if1 .left in
     let firm = c .before .before .is-firm .ensures in (
@@ -102,7 +96,6 @@ pub lower-spec : {M : Type 1} → statement M
 lower-spec =
     tie.close
     (tie.spec
-    rule-in-requires
     covers-requires
     returns
     counted-by-requires

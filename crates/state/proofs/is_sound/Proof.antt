@@ -9,6 +9,7 @@ use Rattle.state.proofs.Sound.{sound-short, sound-front, roots-fit, sou
 use borrow.Author.Needs.{needs}
 use Rattle.state.proofs.is_sound.Statement.{statement}
 use Rattle.state.proofs.is_sound.Tie as tie
+use Rattle.state.specs.State.{totalsAt, totalsSize}
 
 returns : tie.Need-returns
 returns c = sound-short _ (c .if1 .taken)
@@ -75,7 +76,7 @@ are-totals-requires c κs =
     let long = c .before .before .before .before .before .before .before .before .before .before .if1 .left in
     let front = sym (c .before .before .before .before .before .before .before .before .before .is-front .ensures) ∙ not-false _ (c .before .before .before .before .before .before .before .before .if2 .left) in
     let rules = sym (c .before .before .before .are-rules .ensures) ∙ not-false _ (c .before .before .if3 .left) in
-    (part-long xs long 68 513 (omega arith), part-long xs long 581 256 (omega arith), rules-fit xs long front rules)
+    (part-long xs long 68 513 (omega arith), part-long xs long totalsAt totalsSize (omega arith), rules-fit xs long front rules)
 
 sub-are-locks : tie.Need-sub-are-locks
 sub-are-locks c = search needs

@@ -10,6 +10,7 @@ use Rattle.state.proofs.put_total.Tie as tie
 use Rattle.state.proofs.put_total.Reads as reads
 use Rattle.state.proofs.put_total.Lts as lts
 use Rattle.rules.proofs.Amount.number.Reads as number-reads
+use Rattle.state.specs.State.{totalsAt}
 
 add-at : tie.Need-add-at
 add-at c = omega (arith, laid-few (c .before .pre .0), c .before .pre .0 .long, c .before .pre .1)
@@ -29,7 +30,7 @@ same-length c = search needs
 returns : tie.Need-returns
 returns c =
     let start = c .before .before in
-    ap (λ (n : ℕ). set (start .args .m .now) (581 + start .args .i) n) (c .number .ensures) ∙ laid-put (start .pre .0) (start .pre .1) (start .args .total)
+    ap (λ (n : ℕ). set (start .args .m .now) (totalsAt + start .args .i) n) (c .number .ensures) ∙ laid-put (start .pre .0) (start .pre .1) (start .args .total)
 
 pub put-total-spec : {M : Type 1} → statement M
 put-total-spec =

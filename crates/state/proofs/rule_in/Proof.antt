@@ -4,7 +4,7 @@ use native.Mathlib.Omega.{arith}
 use mathlib.Core.Path.{_∙_}
 use Rattle.tables.proofs.RulePlace.{rule-here}
 use Rattle.state.specs.Tests.{rulesPart}
-use Rattle.state.proofs.Laid.{laid-few, laid-rule}
+use Rattle.state.proofs.Laid.{laid-rule}
 use borrow.Author.Needs.{needs}
 use Rattle.state.proofs.rule_in.Statement.{statement}
 use Rattle.state.proofs.rule_in.Tie as tie
@@ -22,25 +22,25 @@ part-table-end : tie.Need-part-table-end
 part-table-end c = search needs
 
 mul-at : tie.Need-mul-at
-mul-at c = omega (arith, laid-few (c .before .before .pre .0), c .before .before .pre .1)
+mul-at c = omega (arith, c .before .before .pre .0 .fits .rules, c .before .before .pre .1)
 
 add-at : tie.Need-add-at
-add-at c = omega (arith, laid-few (c .before .before .pre .0), c .before .before .pre .1)
+add-at c = omega (arith, c .before .before .pre .0 .fits .rules, c .before .before .pre .1)
 
 mul-first : tie.Need-mul-first
-mul-first c = omega (arith, laid-few (c .before .before .pre .0), c .before .before .pre .1)
+mul-first c = omega (arith, c .before .before .pre .0 .fits .rules, c .before .before .pre .1)
 
 shared-slice-read-first : tie.Need-shared-slice-read-first
-shared-slice-read-first c = omega (arith, laid-few (c .before .before .before .pre .0), c .before .before .before .pre .1)
+shared-slice-read-first c = omega (arith, c .before .before .before .pre .0 .fits .rules, c .before .before .before .pre .1)
 
 add-second : tie.Need-add-second
-add-second c = omega (arith, laid-few (c .before .before .before .pre .0), c .before .before .before .pre .1)
+add-second c = omega (arith, c .before .before .before .pre .0 .fits .rules, c .before .before .before .pre .1)
 
 mul-second : tie.Need-mul-second
-mul-second c = omega (arith, laid-few (c .before .before .before .pre .0), c .before .before .before .pre .1)
+mul-second c = omega (arith, c .before .before .before .pre .0 .fits .rules, c .before .before .before .pre .1)
 
 shared-slice-read-second : tie.Need-shared-slice-read-second
-shared-slice-read-second c = omega (arith, laid-few (c .before .before .before .before .pre .0), c .before .before .before .before .pre .1)
+shared-slice-read-second c = omega (arith, c .before .before .before .before .pre .0 .fits .rules, c .before .before .before .before .pre .1)
 
 rule-of-requires : tie.Need-rule-of-requires
 rule-of-requires c κs = search needs

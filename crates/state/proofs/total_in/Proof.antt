@@ -12,6 +12,7 @@ use Rattle.state.proofs.total_in.Tie as tie
 use Rattle.state.proofs.total_in.Reads as reads
 use Rattle.state.proofs.total_in.Lts as lts
 use Rattle.rules.proofs.Limit.amount.Reads as amount-reads
+use Rattle.state.specs.State.{totalsAt}
 
 add-at : tie.Need-add-at
 add-at c = omega (arith, laid-few (c .before .pre .0), c .before .pre .0 .long, c .before .pre .1)
@@ -28,7 +29,7 @@ amount-requires c κs = search needs
 returns : tie.Need-returns
 returns c =
     let start = c .before .before .before in
-    let n = getD (start .args .m .now) (581 + start .args .i) 0 in
+    let n = getD (start .args .m .now) (totalsAt + start .args .i) 0 in
     c .amount .ensures ∙ ap (λ (limit : Limit). amountIn limit n) (start .pre .2) ∙ laid-total (start .pre .0) (start .pre .1)
 
 pub total-in-spec : {M : Type 1} → statement M

@@ -9,6 +9,7 @@ use Rattle.state.proofs.Writes.{writes}
 use borrow.Author.Needs.{needs}
 use Rattle.state.proofs.write_armed.Statement.{statement}
 use Rattle.state.proofs.write_armed.Tie as tie
+use Rattle.state.specs.State.{restSize, totalsAt}
 
 slice-aggregate-copy : tie.Need-slice-aggregate-copy
 slice-aggregate-copy c = search needs
@@ -95,10 +96,10 @@ returns c =
     let p4 = c .before .before .before .before .before .before .copy4 .last .1 .0 in
     let m4 = take 69 m3 ++ (p4 ++ drop (length m3 - 69) (drop 69 m3)) in
     let w =
-    writes (a .m .now) (1 ∷ 0 ∷ a .firm ∷ a .roots ∷ []) (a .names .now) (a .rules ∷ []) (a .table .now) (zeros 1285) (p .0) refl (p .1) refl (p .2) m1 p2 m2 p3 m3 p4 m4
+    writes (a .m .now) (1 ∷ 0 ∷ a .firm ∷ a .roots ∷ []) (a .names .now) (a .rules ∷ []) (a .table .now) (zeros restSize) (p .0) refl (p .1) refl (p .2) m1 p2 m2 p3 m3 p4 m4
     (c .before .before .before .before .before .before .before .before .before .before .before .before .before .before .before .before .before .before .before .copy .ensures) (c .before .before .before .before .before .before .before .before .before .before .before .before .before .before .before .copy2 .ensures) refl (c .before .before .before .before .before .before .before .before .before .before .copy3 .ensures) refl (c .before .before .before .before .before .before .copy4 .ensures) refl in
-    let e : c .before .before .blank .last .0 ≡ zeros (length (take 1285 (drop 581 m4))) = c .before .before .blank .ensures in
-    ap (λ (zs : List ℕ). take 581 m4 ++ (zs ++ drop 1285 (drop 581 m4))) (e ∙ ap zeros (length-take-le 1285 (drop 581 m4) (w .0))) ∙ w .1
+    let e : c .before .before .blank .last .0 ≡ zeros (length (take restSize (drop totalsAt m4))) = c .before .before .blank .ensures in
+    ap (λ (zs : List ℕ). take totalsAt m4 ++ (zs ++ drop restSize (drop totalsAt m4))) (e ∙ ap zeros (length-take-le restSize (drop totalsAt m4) (w .0))) ∙ w .1
 
 pub write-armed-spec : {M : Type 1} → statement M
 write-armed-spec =

@@ -1,4 +1,4 @@
--- `views::rule` meets its contract: the rules of the accounts are those of the profile. Assumes nothing.
+-- `views::rule` meets its contract: a rule is told from where it stands in the table. Assumes nothing.
 use native.Mathlib.Omega.{arith}
 use mathlib.Core.Path.{sym, _∙_}
 use Rattle.views.proofs.Held.{laid}
@@ -13,20 +13,20 @@ memory-refusal-requires c κs = search needs
 returns : tie.Need-returns
 returns c = rule-refused _ _ (c .before .memory-refusal .ensures) (c .if1 .taken) _
 
-accounts-in-requires : tie.Need-accounts-in-requires
-accounts-in-requires c κs = laid _ (sym (c .before .memory-refusal .ensures) ∙ c .if1 .left)
+rules-in-requires : tie.Need-rules-in-requires
+rules-in-requires c κs = laid _ (sym (c .before .memory-refusal .ensures) ∙ c .if1 .left)
 
 returns-2 : tie.Need-returns-2
-returns-2 c = rule-unknown _ (sym (c .before .before .before .memory-refusal .ensures) ∙ c .before .before .if1 .left) _ (c .before .accounts-in .ensures) _ (c .if2 .taken)
+returns-2 c = rule-unknown _ (sym (c .before .before .before .memory-refusal .ensures) ∙ c .before .before .if1 .left) _ (c .before .rules-in .ensures) _ (c .if2 .taken)
 
 rule-in-requires : tie.Need-rule-in-requires
-rule-in-requires c κs = (laid _ (sym (c .before .before .before .memory-refusal .ensures) ∙ c .before .before .if1 .left), omega (arith, c .before .accounts-in .ensures, c .if2 .left))
+rule-in-requires c κs = (laid _ (sym (c .before .before .before .memory-refusal .ensures) ∙ c .before .before .if1 .left), omega (arith, c .before .rules-in .ensures, c .if2 .left))
 
 terms-requires : tie.Need-terms-requires
 terms-requires c κs = search needs
 
 returns-3 : tie.Need-returns-3
-returns-3 c = c .terms .ensures ∙ rule-told _ (sym (c .before .before .before .before .before .memory-refusal .ensures) ∙ c .before .before .before .before .if1 .left) _ (c .before .before .before .accounts-in .ensures) _ (c .before .before .if2 .left) _ (c .before .rule-in .ensures)
+returns-3 c = c .terms .ensures ∙ rule-told _ (sym (c .before .before .before .before .before .memory-refusal .ensures) ∙ c .before .before .before .before .if1 .left) _ (c .before .before .before .rules-in .ensures) _ (c .before .before .if2 .left) _ (c .before .rule-in .ensures)
 
 pub rule-spec : {M : Type 1} → statement M
-rule-spec = tie.close (tie.spec memory-refusal-requires returns accounts-in-requires returns-2 rule-in-requires terms-requires returns-3)
+rule-spec = tie.close (tie.spec memory-refusal-requires returns rules-in-requires returns-2 rule-in-requires terms-requires returns-3)

@@ -90,12 +90,12 @@ function roots(names) {
   document.querySelectorAll("#offer button, [data-reset], [data-lock=root]").forEach((button) => (button.disabled = names.length === 0));
 }
 
-// A gauge for each rule, kept from one state to the next so that it moves.
+// A gauge for each rule and unit that is counted for itself, kept from one state to the next so that it moves.
 function rules(armed, sort) {
   const list = $("rules");
   const root = armed.roots.indexOf($("root").value) + 1;
   const sorted = armed.rules.filter((rule) => sort !== "root" || rule.level === root || rule.level === 0);
-  if (sort === "share") sorted.sort((a, b) => b.thousandths - a.thousandths || a.number - b.number);
+  if (sort === "share") sorted.sort((a, b) => b.thousandths - a.thousandths);
   const known = new Map([...list.children].map((own) => [own.dataset.rule, own]));
   const drawn = sorted.map((rule) => {
     const key = `${rule.number} ${rule.kind} ${rule.of} ${rule.limit}`;
@@ -129,7 +129,7 @@ function fill(own, rule) {
   top.children[2].textContent = `${rule.percent}%`;
   const share = rule.thousandths;
   bar.className = "bar" + (share >= 1000 ? " full" : share >= 800 ? " high" : share >= 500 ? " half" : "");
-  bar.setAttribute("aria-label", `use of rule ${rule.number}`);
+  bar.setAttribute("aria-label", `use of rule ${rule.number}, ${rule.of}`);
   bar.setAttribute("aria-valuenow", String(rule.percent));
   bar.firstChild.style.width = `${share / 10}%`;
   bottom.children[0].textContent = `used ${rule.used} of ${rule.limit}`;
