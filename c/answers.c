@@ -188,6 +188,7 @@ static void words(void) {
 
 static void records(void) {
     static const uint8_t bytes[MBRUMZHEG_RECORD_BYTES] = {0x40, 0, 0, 0x50, 0, 1, 0x11, 0x70, 0, 0x0C, 0x80, 0};
+    const struct mbrumzheg_event order = {MBRUMZHEG_KIND_ORDER, 30, 0, 0, 0, 0, MBRUMZHEG_RESET_NONE, 0};
     const struct mbrumzheg_reading reading = mbrumzheg_try_read_record(bytes, sizeof bytes);
     struct mbrumzheg_event event = reading.event;
     struct mbrumzheg_record record = mbrumzheg_try_write_record(event);
@@ -196,6 +197,9 @@ static void records(void) {
     EXPECT(mbrumzheg_try_read_record(bytes, 11).refusal == MBRUMZHEG_FAULTY_RECORD);
     event.reset = MBRUMZHEG_RESET_SYMBOL;
     EXPECT(mbrumzheg_try_write_record(event).refusal == MBRUMZHEG_FAULTY_RECORD);
+    event = order;
+    for (event.reset = 0; event.reset < 8; event.reset++)
+        EXPECT(mbrumzheg_try_write_record(event).refusal == (event.reset > MBRUMZHEG_RESET_BOTH ? MBRUMZHEG_FAULTY_RECORD : MBRUMZHEG_ACCEPTED));
 }
 
 /* Each kind of event comes to its call. */

@@ -97,6 +97,7 @@ static void try_calls(uint64_t *state, uint64_t time) {
             try_numbers(OFFER, state, time, root, n, 100000000, 1);
             try_numbers(LOCKOUT, state, time, n % 3, n ? 0 : root, 0, 0);
             try_numbers(ORDER, state, time, root, n, 0, 0);
+            try_numbers(ORDER, state, time, root, n + MBRUMZHEG_RESET_T, 0, 0);
             try_numbers(REMAINING, state, time, root * 4 + n, n % 4, 0, 0);
             try_numbers(STATUS, state, 0, 0, 0, 0, 0);
             try_numbers(ROOT_NAMED, state, n + 2, 0, 0, 0, 0);

@@ -25,7 +25,7 @@ static void *run_day(void *memory) {
     for (int n = 0; n < EVENTS; n++) {
         const uint64_t drawn = next(&seed), root = drawn % 2;
         time += drawn % 30;
-        if (drawn % 16 == 3) mbrumzheg_try_order((uint64_t *)memory, MBRUMZHEG_SIZE, time, root, next(&seed) % 4);
+        if (drawn % 16 == 3) mbrumzheg_try_order((uint64_t *)memory, MBRUMZHEG_SIZE, time, root, next(&seed) % 7);
         else if (drawn % 256 == 5) mbrumzheg_try_lockout((uint64_t *)memory, MBRUMZHEG_SIZE, time, 0, root);
         else mbrumzheg_try_offer((uint64_t *)memory, MBRUMZHEG_SIZE, time, root, next(&seed) % 4, 1 + drawn % 90000, 1 + next(&seed) % 400);
     }

@@ -46,6 +46,22 @@ static void cuts_and_locks() {
     EXPECT(*unit->order({Time{40}, Root{0}, Reset::Both}) == Verdict::Free && unit->status()->lowest_locked == MBRUMZHEG_NO_ROOT);
 }
 
+static void locks_are_lifted_without_forgetting() {
+    auto unit = arm("ABCD,abs_vol,XYZ,10\nABCD,abs_vol,,10,,T");
+    const auto full = unit->offer(at(0, 10));
+    EXPECT(full->root_trip && full->firm_trip && unit->lock(RootLockout{Time{0}, Root{0}}).accepted());
+    const auto saved = unit->memory();
+    EXPECT(*unit->order({Time{0}, Root{0}, Reset::T}) == Verdict::FirmLocked && unit->status()->locked == 0);
+    EXPECT(*unit->order({Time{0}, Root{0}, Reset::E}) == Verdict::Free);
+    EXPECT(*unit->remaining(Time{0}, 0, UnitOfRoot::CallsFront) == 0 && *unit->remaining(Time{0}, 1, UnitOfRoot::CallsFront) == 0);
+    const auto again = unit->offer(at(0, 1));
+    EXPECT(again->verdict == Verdict::Free && again->grant == 0 && again->root_trip && again->firm_trip);
+    auto other = Unit::adopt(saved);
+    EXPECT(*other->order({Time{0}, Root{0}, Reset::E}) == Verdict::RootLocked && *other->order({Time{0}, Root{0}, Reset::TE}) == Verdict::Free);
+    EXPECT(other->order({Time{0}, Root{0}, static_cast<Reset>(7)}).refusal() == Refusal::Unknown);
+    for (const Reset reset : {Reset::T, Reset::E, Reset::TE}) EXPECT(write_record(Order{Time{0}, Root{0}, reset}).refusal() == Refusal::FaultyRecord);
+}
+
 static void each_unit_counts_for_itself() {
     auto unit = arm("ABCD,abs_vol,XYZ,100\nABCD,abs_vol,XYZ,90,,,P,T\nABCD,abs_vol,,500,,T");
     const auto offered = [&unit](UnitOfRoot of, std::uint64_t contracts) {
@@ -133,6 +149,7 @@ static void events_have_records() {
 
 int main() {
     cuts_and_locks();
+    locks_are_lifted_without_forgetting();
     each_unit_counts_for_itself();
     names_and_rules_are_known();
     the_rules_are_written_back();

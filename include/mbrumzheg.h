@@ -24,6 +24,8 @@
 #include <stddef.h>
 #include <stdint.h>
 
+#include "mbrumzheg_numbers.h"
+
 #ifdef __cplusplus
 extern "C" {
 #endif
@@ -66,105 +68,6 @@ extern "C" {
 #define MBRUMZHEG_MOST_RULES 256
 #define MBRUMZHEG_MOST_ROOTS 64
 #define MBRUMZHEG_LOG_PLACES 512
-
-/* Refusals. docs/EMBEDDING.md says what to do at each. */
-enum mbrumzheg_refusal {
-    MBRUMZHEG_ACCEPTED = 0,
-    MBRUMZHEG_NO_ROOM = 1,        /* the memory is short, or the room is */
-    MBRUMZHEG_UNSOUND = 2,        /* the mark is not 0, and the state is not sound */
-    MBRUMZHEG_ARMED_ALREADY = 3,  /* arming with a mark that is not 0 */
-    MBRUMZHEG_NOT_ARMED = 4,      /* the mark is 0 */
-    MBRUMZHEG_PROFILE_LENGTH = 5, /* the profile is empty, or above 65,536 bytes */
-    MBRUMZHEG_MALFORMED = 6,      /* a line's number of fields, a field's length or characters, or an unknown type */
-    MBRUMZHEG_OTHER_FIRM = 7,     /* a line's firm differs from line 1's */
-    MBRUMZHEG_OUT_OF_RANGE = 8,   /* a limit or a window */
-    MBRUMZHEG_LEVEL_CLASH = 9,    /* a root with T, or neither */
-    MBRUMZHEG_UNIT_CLASH = 10,    /* call/put and month do not go together, or stand in a firm rule */
-    MBRUMZHEG_TOO_MANY = 11,      /* one rule or root too many */
-    MBRUMZHEG_BAD_TIME = 12,      /* a time out of range, or below the clock */
-    MBRUMZHEG_UNKNOWN = 13,       /* a root, unit, rule, level, reset or verdict number, a unit that is not the rule's, or a root's name */
-    MBRUMZHEG_BAD_AMOUNT = 14,    /* a premium or contracts out of range */
-    MBRUMZHEG_LOG_FULL = 15,      /* 512 entries stand inside the longest window */
-    MBRUMZHEG_FAULTY_RECORD = 16  /* no record of a valid event, or no valid event */
-};
-
-/* Verdicts: not locked, the firm is locked, the root is locked. */
-enum mbrumzheg_verdict { MBRUMZHEG_FREE = 0, MBRUMZHEG_FIRM_LOCKED = 1, MBRUMZHEG_ROOT_LOCKED = 2 };
-
-/* What an order resets: nothing, its root, the firm, both. */
-enum mbrumzheg_reset { MBRUMZHEG_RESET_NONE = 0, MBRUMZHEG_RESET_SYMBOL = 1, MBRUMZHEG_RESET_FIRM = 2, MBRUMZHEG_RESET_BOTH = 3 };
-
-/* What a lockout locks. */
-enum mbrumzheg_level { MBRUMZHEG_LEVEL_ROOT = 0, MBRUMZHEG_LEVEL_FIRM = 1 };
-
-/* The units of a root: calls or puts, of the front month or of the months behind it. */
-enum mbrumzheg_unit {
-    MBRUMZHEG_CALLS_FRONT = 0,
-    MBRUMZHEG_CALLS_TRAILING = 1,
-    MBRUMZHEG_PUTS_FRONT = 2,
-    MBRUMZHEG_PUTS_TRAILING = 3
-};
-
-/* The kinds of event records. */
-enum mbrumzheg_kind { MBRUMZHEG_KIND_ORDER = 0, MBRUMZHEG_KIND_OFFER = 1, MBRUMZHEG_KIND_LOCKOUT = 2 };
-
-/* The types of rules, by what they count: premium times contracts, contracts or executions, in a window of time or over the day. */
-enum mbrumzheg_rule_type {
-    MBRUMZHEG_RATE_NTNL = 0,
-    MBRUMZHEG_RATE_VOL = 1,
-    MBRUMZHEG_RATE_COUNT = 2,
-    MBRUMZHEG_ABS_NTNL = 3,
-    MBRUMZHEG_ABS_VOL = 4,
-    MBRUMZHEG_ABS_COUNT = 5
-};
-
-/* Status' lowest locked root where none is locked, and a firm rule's root; the unit of a rule that covers all four. */
-enum { MBRUMZHEG_NO_ROOT = 64, MBRUMZHEG_ALL_UNITS = 4 };
-
-/* How long a row is, that of a rule, and that of a record that was read. */
-enum { MBRUMZHEG_ROW = 5, MBRUMZHEG_RULE_ROW = 6, MBRUMZHEG_EVENT_ROW = 9 };
-
-/* The places in a row: of every call, of Arm, of Order, Lockout and Offer, of Remaining, of Status, of Text, a root's name and a profile, of a root
- * by its name, of a rule, of a record that was read. */
-enum mbrumzheg_place {
-    MBRUMZHEG_ROW_REFUSAL = 0,
-
-    MBRUMZHEG_ROW_LINE = 1,
-    MBRUMZHEG_ROW_FIRM = 2,
-    MBRUMZHEG_ROW_RULES = 3,
-    MBRUMZHEG_ROW_ROOTS = 4,
-
-    MBRUMZHEG_ROW_VERDICT = 1,
-    MBRUMZHEG_ROW_GRANT = 2,
-    MBRUMZHEG_ROW_ROOT_TRIP = 3,
-    MBRUMZHEG_ROW_FIRM_TRIP = 4,
-
-    MBRUMZHEG_ROW_REMAINS = 1,
-
-    MBRUMZHEG_ROW_TRIPPED = 1,
-    MBRUMZHEG_ROW_LOCKED_BY_USER = 2,
-    MBRUMZHEG_ROW_LOCKED = 3,
-    MBRUMZHEG_ROW_LOWEST_LOCKED = 4,
-
-    MBRUMZHEG_ROW_BYTES = 1,
-
-    MBRUMZHEG_ROW_ROOT_NAMED = 1,
-
-    MBRUMZHEG_ROW_RULE_TYPE = 1,
-    MBRUMZHEG_ROW_RULE_LIMIT = 2,
-    MBRUMZHEG_ROW_RULE_WINDOW = 3,
-    MBRUMZHEG_ROW_RULE_ROOT = 4,
-    MBRUMZHEG_ROW_RULE_UNIT = 5,
-
-    MBRUMZHEG_ROW_KIND = 1,
-    MBRUMZHEG_ROW_TIME = 2,
-    MBRUMZHEG_ROW_ROOT = 3,
-    MBRUMZHEG_ROW_UNIT = 4,
-    MBRUMZHEG_ROW_PREMIUM = 5,
-    MBRUMZHEG_ROW_CONTRACTS = 6,
-    MBRUMZHEG_ROW_RESET = 7,
-    MBRUMZHEG_ROW_LEVEL = 8
-};
 
 /* The numbers that calls take. Each is judged by the call; one out of its range is refused by the number in brackets.
  *
@@ -236,7 +139,8 @@ MBRUMZHEG_NOT_NULL void mbrumzheg_text(uint64_t verdict, uint8_t *room, size_t r
 /* Reads an event record of just 12 bytes. Row, of NINE numbers: refusal, kind, time, root, unit, premium, contracts, reset, level. */
 MBRUMZHEG_NOT_NULL void mbrumzheg_read_record(const uint8_t *bytes, size_t bytes_len, uint64_t row[MBRUMZHEG_AT_LEAST(9)]);
 
-/* Writes an event's record to the first 12 bytes of a room; a number that its kind does not use is 0. Row: refusal. */
+/* Writes an event's record to the first 12 bytes of a room; a number that its kind does not use is 0, and a reset above 3 has no such record [16].
+ * Row: refusal. */
 MBRUMZHEG_NOT_NULL void mbrumzheg_write_record(uint64_t kind, uint64_t time, uint64_t root, uint64_t unit, uint64_t premium,
                                                uint64_t contracts, uint64_t reset, uint64_t level, uint8_t *room, size_t room_len,
                                                uint64_t row[MBRUMZHEG_AT_LEAST(5)]);
@@ -245,6 +149,9 @@ MBRUMZHEG_NOT_NULL void mbrumzheg_write_record(uint64_t kind, uint64_t time, uin
 }
 #endif
 
+#include "mbrumzheg_structs.h"
 #include "mbrumzheg_answers.h"
+#include "mbrumzheg_events.h"
+#include "mbrumzheg_words.h"
 
 #endif

@@ -235,7 +235,7 @@ inline Result<Event> read_record(const Record& bytes) {
     }
 }
 
-// The record of an event; FaultyRecord if one of its numbers is out of range.
+// The record of an event; FaultyRecord if one of its numbers is out of range, or its reset above Both.
 inline Result<Record> write_record(const Event& event) {
     const auto written = mbrumzheg_try_write_record(detail::numbers(event));
     if (written.refusal != MBRUMZHEG_ACCEPTED) return detail::refused<Record>(written.refusal);

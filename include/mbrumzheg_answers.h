@@ -1,111 +1,17 @@
-/* The calls of mbrumzheg.h with a struct as the answer, so that no row can be too short, and words for their numbers. Included by mbrumzheg.h.
+/* The calls of mbrumzheg.h with a struct as the answer, so that no row can be too short. Included by mbrumzheg.h.
  *
  * Each function here makes one call and gives its row names. After a refusal all other members are 0 (but for Arm's line and the
  * size that a profile takes). */
+#include "mbrumzheg.h"
+
 #ifndef MBRUMZHEG_ANSWERS_H
 #define MBRUMZHEG_ANSWERS_H
-
-#include "mbrumzheg.h"
 
 #if defined(__cplusplus)
 #define MBRUMZHEG_AS(type, value) static_cast<type>(value)
 #else
 #define MBRUMZHEG_AS(type, value) ((type)(value))
 #endif
-
-/* What Arm answers: the refusal, for 6 to 11 with the first faulty line from 1; the firm's name as one number; how many rules and roots. */
-struct mbrumzheg_armed {
-    enum mbrumzheg_refusal refusal;
-    uint64_t line;
-    uint64_t firm;
-    uint64_t rules;
-    uint64_t roots;
-};
-
-/* What an order, a lockout or an offer is answered; of an offer also the contracts granted, and what this offer tripped. */
-struct mbrumzheg_judged {
-    enum mbrumzheg_refusal refusal;
-    enum mbrumzheg_verdict verdict;
-    uint64_t grant;
-    bool root_trip;
-    bool firm_trip;
-};
-
-/* What remains of a rule's limit on a unit: ten-thousandths of a dollar, contracts or executions, by the rule's type. */
-struct mbrumzheg_remains {
-    enum mbrumzheg_refusal refusal;
-    uint64_t amount;
-};
-
-/* How many roots are tripped, locked by the user, locked at all; the lowest locked one, MBRUMZHEG_NO_ROOT if none. */
-struct mbrumzheg_standing {
-    enum mbrumzheg_refusal refusal;
-    uint64_t tripped;
-    uint64_t locked_by_user;
-    uint64_t locked;
-    uint64_t lowest_locked;
-};
-
-/* The root that has a name. */
-struct mbrumzheg_found {
-    enum mbrumzheg_refusal refusal;
-    uint64_t root;
-};
-
-/* A root's name, here with a terminating 0, and its length without it. */
-struct mbrumzheg_name {
-    enum mbrumzheg_refusal refusal;
-    size_t length;
-    char text[MBRUMZHEG_NAME_BYTES + 1];
-};
-
-/* A rule: its limit as the profile has it, in whole dollars, contracts or executions; its window in milliseconds, 0 for an absolute rule; its root,
- * MBRUMZHEG_NO_ROOT for a firm rule; its unit, MBRUMZHEG_ALL_UNITS for all four. */
-struct mbrumzheg_rule_terms {
-    enum mbrumzheg_refusal refusal;
-    enum mbrumzheg_rule_type type;
-    uint64_t limit;
-    uint64_t window;
-    uint64_t root;
-    uint64_t unit;
-};
-
-/* How many bytes of a profile were written; with MBRUMZHEG_NO_ROOM for a room that is short, how many it takes. */
-struct mbrumzheg_written {
-    enum mbrumzheg_refusal refusal;
-    size_t size;
-};
-
-/* The text of a rejection, here with a terminating 0, and its length without it. */
-struct mbrumzheg_wording {
-    enum mbrumzheg_refusal refusal;
-    size_t length;
-    char text[MBRUMZHEG_TEXT_BYTES + 1];
-};
-
-/* An event by its numbers; one that its kind does not use is 0. */
-struct mbrumzheg_event {
-    uint64_t kind;
-    uint64_t time;
-    uint64_t root;
-    uint64_t unit;
-    uint64_t premium;
-    uint64_t contracts;
-    uint64_t reset;
-    uint64_t level;
-};
-
-/* What a record was read as. */
-struct mbrumzheg_reading {
-    enum mbrumzheg_refusal refusal;
-    struct mbrumzheg_event event;
-};
-
-/* The record of an event. */
-struct mbrumzheg_record {
-    enum mbrumzheg_refusal refusal;
-    uint8_t bytes[MBRUMZHEG_RECORD_BYTES];
-};
 
 /* A row's refusal. */
 static inline enum mbrumzheg_refusal mbrumzheg_refusal_in(const uint64_t *row) {
@@ -170,18 +76,6 @@ static inline struct mbrumzheg_judged mbrumzheg_try_offer(uint64_t *memory, size
     uint64_t row[MBRUMZHEG_ROW];
     mbrumzheg_offer(memory, memory_len, time, root, unit, premium, contracts, row);
     return mbrumzheg_judged_in(row);
-}
-
-/* The call of an event's kind; a kind that is none of the three is refused with 16, as its record would be. */
-static inline struct mbrumzheg_judged mbrumzheg_try_event(uint64_t *memory, size_t memory_len, struct mbrumzheg_event event) {
-    uint64_t refused[MBRUMZHEG_ROW] = {MBRUMZHEG_FAULTY_RECORD, 0, 0, 0, 0};
-    switch (event.kind) {
-    case MBRUMZHEG_KIND_ORDER: return mbrumzheg_try_order(memory, memory_len, event.time, event.root, event.reset);
-    case MBRUMZHEG_KIND_OFFER:
-        return mbrumzheg_try_offer(memory, memory_len, event.time, event.root, event.unit, event.premium, event.contracts);
-    case MBRUMZHEG_KIND_LOCKOUT: return mbrumzheg_try_lockout(memory, memory_len, event.time, event.level, event.root);
-    default: return mbrumzheg_judged_in(refused);
-    }
 }
 
 /* mbrumzheg_remaining */
@@ -270,33 +164,6 @@ static inline struct mbrumzheg_wording mbrumzheg_try_text(uint64_t verdict) {
     return wording;
 }
 
-/* mbrumzheg_read_record */
-static inline struct mbrumzheg_reading mbrumzheg_try_read_record(const uint8_t *bytes, size_t bytes_len) {
-    uint64_t row[MBRUMZHEG_EVENT_ROW];
-    struct mbrumzheg_reading reading;
-    mbrumzheg_read_record(bytes, bytes_len, row);
-    reading.refusal = mbrumzheg_refusal_in(row);
-    reading.event.kind = row[MBRUMZHEG_ROW_KIND];
-    reading.event.time = row[MBRUMZHEG_ROW_TIME];
-    reading.event.root = row[MBRUMZHEG_ROW_ROOT];
-    reading.event.unit = row[MBRUMZHEG_ROW_UNIT];
-    reading.event.premium = row[MBRUMZHEG_ROW_PREMIUM];
-    reading.event.contracts = row[MBRUMZHEG_ROW_CONTRACTS];
-    reading.event.reset = row[MBRUMZHEG_ROW_RESET];
-    reading.event.level = row[MBRUMZHEG_ROW_LEVEL];
-    return reading;
-}
-
-/* mbrumzheg_write_record, into the answer itself */
-static inline struct mbrumzheg_record mbrumzheg_try_write_record(struct mbrumzheg_event event) {
-    uint64_t row[MBRUMZHEG_ROW];
-    struct mbrumzheg_record record = {MBRUMZHEG_ACCEPTED, {0}};
-    mbrumzheg_write_record(event.kind, event.time, event.root, event.unit, event.premium, event.contracts, event.reset, event.level,
-                           record.bytes, sizeof record.bytes, row);
-    record.refusal = mbrumzheg_refusal_in(row);
-    return record;
-}
-
 /* Writes a name that came as one number, its bytes in base 256, as a string of at most 8 characters; answers its length. */
 static inline size_t mbrumzheg_name_text(uint64_t name, char text[MBRUMZHEG_AT_LEAST(9)]) {
     size_t length = 0;
@@ -308,7 +175,5 @@ static inline size_t mbrumzheg_name_text(uint64_t name, char text[MBRUMZHEG_AT_L
     text[length] = 0;
     return length;
 }
-
-#include "mbrumzheg_words.h"
 
 #endif

@@ -38,12 +38,15 @@ inline const char* sentence(Refusal refusal) noexcept { return mbrumzheg_refusal
 
 enum class Verdict : std::uint64_t { Free = MBRUMZHEG_FREE, FirmLocked = MBRUMZHEG_FIRM_LOCKED, RootLocked = MBRUMZHEG_ROOT_LOCKED };
 
-// What an order resets before it is judged.
+// What an order resets before it is judged; T, E and TE lift the locks of its root, of the firm and of both, and forget nothing that was counted.
 enum class Reset : std::uint64_t {
     None = MBRUMZHEG_RESET_NONE,
     Symbol = MBRUMZHEG_RESET_SYMBOL,
     Firm = MBRUMZHEG_RESET_FIRM,
     Both = MBRUMZHEG_RESET_BOTH,
+    T = MBRUMZHEG_RESET_T,
+    E = MBRUMZHEG_RESET_E,
+    TE = MBRUMZHEG_RESET_TE,
 };
 
 enum class UnitOfRoot : std::uint64_t {

@@ -1,8 +1,8 @@
 /* What each refusal of mbrumzheg.h means, for logs and for people. Included by mbrumzheg.h. */
+#include "mbrumzheg.h"
+
 #ifndef MBRUMZHEG_WORDS_H
 #define MBRUMZHEG_WORDS_H
-
-#include "mbrumzheg.h"
 
 /* What a refusal means: a sentence without its first capital and full stop. */
 static inline const char *mbrumzheg_refusal_text(uint64_t refusal) {

@@ -1,6 +1,7 @@
 //! Answers in words, with the scope paper's numbers in brackets after them.
 
 use crate::profile::Profile;
+use crate::resets;
 use crate::sitting::{Passed, Sitting};
 use crate::words::{self, grouped};
 use mbrumzheg::{Answer, Event, Level, Marks, Offer, Refusal, Reset, Root, Verdict};
@@ -72,12 +73,7 @@ pub fn counts(profile: &Profile, places: &[usize]) -> String {
 
 fn ordered(sitting: &Sitting, root: Root, reset: Reset, verdict: Verdict) -> String {
     let name = sitting.profile.root_name(root.number());
-    let done = match reset {
-        Reset::None => String::new(),
-        Reset::Symbol => format!("root {name} reset; "),
-        Reset::Firm => format!("firm {} reset; ", sitting.profile.firm),
-        Reset::Both => format!("root {name} and firm {} reset; ", sitting.profile.firm),
-    };
+    let done = resets::done(reset, &format!("root {name}"), &format!("firm {}", sitting.profile.firm));
     match verdict {
         Verdict::Free => format!("{done}the order on {name} may pass"),
         _ => format!("{done}{}", rejected(sitting, verdict, root)),

@@ -1,6 +1,6 @@
 //! The words after offer, order and lock, made into events with the profile's names and the unit's clock.
 
-use crate::command::shortened;
+use crate::command::{shortened, Command};
 use crate::help::{LOCK_FORM, OFFER_FORM, ORDER_FORM};
 use crate::profile::Profile;
 use crate::words;
@@ -16,6 +16,16 @@ pub struct Names<'a> {
 }
 
 impl Names<'_> {
+    /// The event that a command asks for; none for a command that asks for another thing.
+    pub fn event(&self, command: &Command) -> Option<Result<Event, String>> {
+        match command {
+            Command::Offer(words) => Some(self.offer(words)),
+            Command::Order(words) => Some(self.order(words)),
+            Command::Lock(words) => Some(self.lockout(words)),
+            _ => None,
+        }
+    }
+
     /// The offer that words ask for.
     pub fn offer(&self, typed: &[String]) -> Result<Event, String> {
         let [time, root, call_put, month, premium, contracts] = typed else {
@@ -111,11 +121,5 @@ pub fn unit(call_put: &str, month: &str, form: &str) -> Result<UnitOfRoot, Strin
 }
 
 fn read_reset(word: &str) -> Result<Reset, String> {
-    match word.to_ascii_lowercase().as_str() {
-        "none" => Ok(Reset::None),
-        "symbol" => Ok(Reset::Symbol),
-        "firm" => Ok(Reset::Firm),
-        "both" => Ok(Reset::Both),
-        _ => Err(format!("'{}' is no reset; type {ORDER_FORM}", shortened(word))),
-    }
+    word.to_ascii_lowercase().parse().map_err(|_| format!("'{}' is no reset; type {ORDER_FORM}", shortened(word)))
 }

@@ -105,6 +105,7 @@ pub fn shape(kind: Kind) -> &'static str {
         Kind::Cut => "<path class=\"cut\" d=\"M-5.5 -4.5h11l-5.5 9.5z\"/>",
         Kind::Trip => "<path class=\"trip\" d=\"M-4.5 -4.5l9 9m0 -9l-9 9\"/>",
         Kind::Reset => "<circle class=\"reset\" r=\"4.5\"/>",
+        Kind::Unlock => "<path class=\"reset\" d=\"M0 -5.5l5.5 5.5l-5.5 5.5l-5.5 -5.5z\"/>",
         Kind::Lockout => "<rect class=\"lockout\" x=\"-4.5\" y=\"-4.5\" width=\"9\" height=\"9\"/>",
         Kind::Rejected => "<line class=\"rejected\" y1=\"-4\" y2=\"4\"/>",
     }
@@ -116,6 +117,7 @@ pub fn shape_id(kind: Kind) -> &'static str {
         Kind::Cut => "cut",
         Kind::Trip => "trip",
         Kind::Reset => "reset",
+        Kind::Unlock => "unlock",
         Kind::Lockout => "lockout",
         Kind::Rejected => "rejected",
     }

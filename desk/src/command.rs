@@ -35,8 +35,13 @@ pub enum Command {
     Status,
     /// Forget everything.
     Clear,
-    /// Write the day's records to a file.
-    Save(Kept),
+    /// Write the day to a file, as records or in words.
+    Save {
+        /// The file.
+        kept: Kept,
+        /// Whether it is written in words.
+        in_words: bool,
+    },
     /// Pass the events of a file; `quiet` shows only what did not simply pass.
     Replay {
         /// The file of records.
@@ -77,7 +82,7 @@ pub fn read(line: &str) -> Result<Command, String> {
         "profile" => kept(rest, "profile").map(|kept| Command::Profile(Some(kept))),
         "status" => alone(rest, "status", Command::Status),
         "clear" => alone(rest, "clear", Command::Clear),
-        "save" => kept(rest, "save").map(Command::Save),
+        "save" => save(rest),
         "replay" => replay(rest),
         "report" => report(rest),
         "help" | "?" => Ok(Command::Help(Some(rest.to_string()).filter(|name| !name.is_empty()))),
@@ -104,6 +109,14 @@ fn replay(rest: &str) -> Result<Command, String> {
     let (name, quiet) = with_last(rest, "quiet");
     let file = file(name, "replay FILE, or replay FILE quiet")?;
     Ok(Command::Replay { file, quiet })
+}
+
+/// A file to save to, then `words` and `over` where they are asked for.
+fn save(rest: &str) -> Result<Command, String> {
+    let (rest, over) = with_last(rest, "over");
+    let (name, in_words) = with_last(rest, "words");
+    let form = "save FILE [words], or save FILE [words] over to write over a file that is there";
+    file(name, form).map(|file| Command::Save { kept: Kept { file, over }, in_words })
 }
 
 fn kept(rest: &str, command: &str) -> Result<Kept, String> {

@@ -31,7 +31,7 @@ fn following(command: &str, words: &[&str], roots: &[String]) -> Vec<String> {
         ("offer", 2) => all(&["call", "put"]),
         ("offer", 3) => all(&["front", "trailing"]),
         ("order", 2) => all(&["reset"]),
-        ("order", 3) => all(&["symbol", "firm", "both"]),
+        ("order", 3) => all(&["symbol", "firm", "both", "t", "e", "te"]),
         ("lock", 0) => [levels(), all(&TIMES)].concat(),
         ("lock", 1) => levels(),
         ("remaining", 0) => [levels(), all(&["rule"]), all(&TIMES)].concat(),
@@ -41,7 +41,9 @@ fn following(command: &str, words: &[&str], roots: &[String]) -> Vec<String> {
             limit => all(on_unit(limit)),
         },
         ("replay", 1) => all(&["quiet"]),
-        ("save" | "profile", 1) => all(&["over"]),
+        ("save", 1) => all(&["words", "over"]),
+        ("save", 2) if words[1] == "words" => all(&["over"]),
+        ("profile", 1) => all(&["over"]),
         ("report", 1) => all(&["from"]),
         ("report", 3) => all(&["to"]),
         _ => Vec::new(),
@@ -97,7 +99,8 @@ mod tests {
         assert_eq!(offered("offer 0ms XYZ "), ["call", "put"]);
         assert_eq!(offered("offer 0ms XYZ call t"), ["trailing"]);
         assert_eq!(offered("order now 7 r"), ["reset"]);
-        assert_eq!(offered("order now 7 reset "), ["symbol", "firm", "both"]);
+        assert_eq!(offered("order now 7 reset "), ["symbol", "firm", "both", "t", "e", "te"]);
+        assert_eq!(offered("order now 7 reset t"), ["t", "te"]);
         assert_eq!(offered("lock f"), ["firm"]);
         assert_eq!(offered("remaining now x"), ["XYZ", "XQ"]);
         assert_eq!(offered("remaining r"), ["rule"]);
@@ -110,8 +113,11 @@ mod tests {
         assert_eq!(offered("remaining firm "), [""; 0]);
         assert_eq!(offered("remaining rule "), [""; 0]);
         assert_eq!(offered("help ref"), ["refusals"]);
+        assert_eq!(offered("help res"), ["resets"]);
         assert_eq!(offered("replay day.records q"), ["quiet"]);
-        assert_eq!(offered("save day.records "), ["over"]);
+        assert_eq!(offered("save day.records "), ["words", "over"]);
+        assert_eq!(offered("save day.txt words "), ["over"]);
+        assert_eq!(offered("save day.txt over "), [""; 0]);
         assert_eq!(offered("prof"), ["profile"]);
         assert_eq!(offered("help prof"), ["profile"]);
         assert_eq!(offered("profile active "), ["over"]);

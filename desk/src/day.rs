@@ -8,13 +8,13 @@ use crate::lane::Lane;
 use crate::marks::{Kind, Marks};
 use crate::profile::Profile;
 use crate::progress::Progress;
+use crate::resets::{lifts, zeroes};
 use crate::scale::{Curves, Scale};
 use crate::sitting::{Passed, Sitting};
-use crate::spool::RecordReader;
-use crate::standing::{level, reset_levels};
+use crate::source::Source;
+use crate::standing::level;
 use crate::sums::Sums;
 use mbrumzheg::{Answer, Event, Level, Unit, Verdict};
-use std::io::Read;
 
 /// The whole day, or the figures of the whole day and the pictures of a stretch.
 pub struct Day {
@@ -35,14 +35,13 @@ pub struct Day {
 }
 
 impl Day {
-    /// Replays records on a unit armed with the profile.
-    pub fn replayed(profile: &Profile, records: impl Read, stretch: Option<(u64, u64)>, progress: &mut Progress) -> Result<Day, String> {
+    /// Replays a day on a unit armed with the profile.
+    pub fn replayed(profile: &Profile, from: &mut dyn Source, stretch: Option<(u64, u64)>, progress: &mut Progress) -> Result<Day, String> {
         let unit = Unit::new().arm(&profile.text).map_err(|refused| refused.to_string())?;
         let mut sitting = Sitting::new(unit, "", &profile.text);
         let mut day = Day::of_counts(profile, stretch);
-        let mut records = RecordReader::new(records);
-        while let Some(record) = records.record().map_err(|error| format!("the records cannot be read to their end: {error}"))? {
-            let passed = sitting.answer_record(record, &mut day.curves);
+        while let Some(piece) = from.next(sitting.unit.clock())? {
+            let passed = sitting.answer_piece(&piece, &mut day.curves);
             day.take(&sitting, &passed);
             progress.step();
         }
@@ -117,7 +116,10 @@ impl Day {
                 let trips = [(level(offer.root, false), answer.root_trip), (0, answer.firm_trip)];
                 trips.into_iter().filter(|(_, tripped)| *tripped).for_each(|(level, _)| mark(level, Kind::Trip));
             }
-            Event::Order { root, reset, .. } => reset_levels(*root, *reset).into_iter().for_each(|level| mark(level, Kind::Reset)),
+            Event::Order { root, reset, .. } => {
+                let kind = if zeroes(*reset) == lifts(*reset) { Kind::Reset } else { Kind::Unlock };
+                lifts(*reset).of(*root).into_iter().for_each(|level| mark(level, kind));
+            }
             Event::Lockout { level: Level::Firm, .. } => mark(0, Kind::Lockout),
             Event::Lockout { level: Level::Root(root), .. } => mark(level(*root, false), Kind::Lockout),
         }

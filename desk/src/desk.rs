@@ -9,7 +9,7 @@ use crate::help;
 use crate::keeping::Caution;
 use crate::sitting::Sitting;
 use crate::table;
-use mbrumzheg::{Event, Unit};
+use mbrumzheg::Unit;
 use std::io::{self, Write};
 
 /// What stands on the desk: a unit without rules, or one with a day behind it.
@@ -76,15 +76,13 @@ impl Desk {
         match command {
             Command::Arm(file) => self.arm(&file),
             Command::Check(file) => check::check(&file, &files::profile(&file)?),
-            Command::Offer(words) => self.pass(|names| names.offer(&words)),
-            Command::Order(words) => self.pass(|names| names.order(&words)),
-            Command::Lock(words) => self.pass(|names| names.lockout(&words)),
+            Command::Offer(_) | Command::Order(_) | Command::Lock(_) => self.pass(&command),
             Command::Remaining(words) => self.remaining(&words),
             Command::Profile(None) => self.profile(),
             Command::Profile(Some(kept)) => self.save_profile(&kept),
             Command::Status => table::status(self.sitting()?).map_err(|refusal| refusal.to_string()),
             Command::Clear => self.clear(),
-            Command::Save(kept) => self.save(&kept),
+            Command::Save { kept, in_words } => self.save(&kept, in_words),
             Command::Report { file, stretch } => self.report(&file, stretch),
             Command::Help(None) => Ok(help::list()),
             Command::Help(Some(name)) => help::on(&name).ok_or_else(|| no_help(&name)),
@@ -124,11 +122,12 @@ impl Desk {
         Ok(words)
     }
 
-    /// Passes the event that the words ask for.
-    fn pass(&mut self, asked: impl FnOnce(Names) -> Result<Event, String>) -> Result<String, String> {
+    /// Passes the event that a command asks for.
+    fn pass(&mut self, command: &Command) -> Result<String, String> {
         let sitting = self.sitting()?;
-        let event = asked(Names { profile: &sitting.profile, clock: sitting.unit.clock() })?;
-        let passed = sitting.pass(event);
+        let names = Names { profile: &sitting.profile, clock: sitting.unit.clock() };
+        let Some(event) = names.event(command) else { return Ok(String::new()) };
+        let passed = sitting.pass(event?);
         Ok(answer::answer(sitting, &passed))
     }
 

@@ -1,6 +1,8 @@
 //! Files that the desk reads and writes. None is written over by a slip, and none is left half written.
 
+use crate::in_words;
 use crate::report;
+use crate::sitting::Sitting;
 use crate::spool::Spool;
 use std::fs::File;
 use std::io::{self, BufWriter, Read, Write};
@@ -31,6 +33,16 @@ pub fn records(name: &str) -> Result<(Box<dyn Read>, Option<u64>), String> {
 pub fn write_records(name: &str, day: &Spool, over: bool) -> Result<(), String> {
     may_keep(name, "save", over)?;
     let all = |to: &mut dyn Write| day.reader().and_then(|mut from| io::copy(&mut from, to)).map(drop);
+    whole(name, all).map_err(|error| cannot_write(name, &error))
+}
+
+/// Writes a day in words; a file that is there already stays as it is, unless `over` says that it may be written over.
+pub fn write_words(name: &str, sitting: &Sitting, over: bool) -> Result<(), String> {
+    may_keep(name, "save", over)?;
+    let all = |to: &mut dyn Write| {
+        let mut pieces = sitting.day.pieces().map_err(io::Error::other)?;
+        in_words::write(&sitting.profile, &mut pieces, to)
+    };
     whole(name, all).map_err(|error| cannot_write(name, &error))
 }
 

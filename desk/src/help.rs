@@ -1,6 +1,7 @@
 //! What can be typed: every command with its form, a sentence and an example.
 
 use crate::explain::wrapped;
+use crate::resets;
 use mbrumzheg::Refusal;
 
 /// A command, or something else that help can be asked for.
@@ -20,7 +21,7 @@ pub struct Topic {
 /// How an offer is typed.
 pub const OFFER_FORM: &str = "offer TIME ROOT call|put front|trailing PREMIUM CONTRACTS";
 /// How an order is typed.
-pub const ORDER_FORM: &str = "order TIME ROOT [reset symbol|firm|both]";
+pub const ORDER_FORM: &str = "order TIME ROOT [reset symbol|firm|both|t|e|te]";
 /// How a lockout is typed.
 pub const LOCK_FORM: &str = "lock [TIME] ROOT|firm";
 /// How the table of rules is asked for.
@@ -57,8 +58,9 @@ pub const COMMANDS: [Topic; 14] = [
         name: "order",
         form: ORDER_FORM,
         short: "pass an order, which may reset the root or the firm",
-        long: "Passes an order on a root. A reset comes first: it frees the root (symbol), the firm, or both, and their counts begin anew.",
-        examples: &["order 20ms XYZ", "order now XYZ reset symbol"],
+        long: "Passes an order on a root. A reset comes first: it frees the root (symbol), the firm, or both, and their counts begin anew. With \
+               t, e and te the root, the firm or both are freed alike, and what they have counted stays. See help resets.",
+        examples: &["order 20ms XYZ", "order now XYZ reset symbol", "order now XYZ reset t"],
     },
     Topic {
         name: "lock",
@@ -97,18 +99,20 @@ pub const COMMANDS: [Topic; 14] = [
     },
     Topic {
         name: "save",
-        form: "save FILE [over]",
-        short: "write the day's events as 12-byte records",
+        form: "save FILE [words] [over]",
+        short: "write the day's events as 12-byte records, or in words",
         long: "Writes every record of the day, refused and faulty ones too, byte for byte and in their places, so that the program and replay \
-               print the same lines. A file that is there already is left alone, unless over is typed after its name.",
-        examples: &["save day.records", "save day.records over"],
+               print the same lines. A 12-byte record has no room for resets t, e and te; a day with such is kept in words, each event as it \
+               would be typed, which replay and desk report take and the program does not. A file that is there already is left alone, \
+               unless over is typed last.",
+        examples: &["save day.records", "save day.records over", "save day.txt words"],
     },
     Topic {
         name: "replay",
         form: "replay FILE [quiet]",
-        short: "pass the records of FILE; quiet shows no plain pass",
-        long:
-            "Passes every record of a file, each with its answer. With quiet only cuts, trips, rejections, resets and refusals are shown.",
+        short: "pass the day in FILE; quiet shows no plain pass",
+        long: "Passes every record of a file, or every event of a day that was saved in words, each with its answer. With quiet only cuts, \
+               trips, rejections, resets and refusals are shown.",
         examples: &["replay day.records", "replay day.records quiet"],
     },
     Topic {
@@ -130,7 +134,7 @@ pub const COMMANDS: [Topic; 14] = [
         name: "help",
         form: "help [COMMAND]",
         short: "this list, or more on a command",
-        long: "There is also help time, help numbers, help refusals and help profile.",
+        long: "There is also help time, help numbers, help resets, help refusals and help profile.",
         examples: &["help offer", "help refusals"],
     },
     Topic { name: "quit", form: "quit", short: "the end", long: "Ends the desk, as the end of the input does. At a terminal it asks first where typed events are not saved.", examples: &["quit"] },
@@ -182,15 +186,17 @@ pub fn list() -> String {
     lines.extend(wrapped("TIME is 10ms, 2.5s, 09:30, 09:30:00.250, now, or +10ms for 10 ms after the clock. # starts a comment.", WIDTH));
     lines.push("In brackets: the event's place, refusal, verdict, grant, root trip, firm trip.".to_string());
     lines.push("Rules are numbered from 0: rule 0 is the profile's first line.".to_string());
-    lines.push("More: help COMMAND, help time, help numbers, help refusals, help profile.".to_string());
+    lines.push("More: help COMMAND, help time, numbers, resets, refusals, profile.".to_string());
     lines.join("\n")
 }
 
 /// More on a command or another topic, if there is such.
 pub fn on(name: &str) -> Option<String> {
     let name = name.to_ascii_lowercase();
-    if name == "refusals" {
-        return Some(refusals());
+    match name.as_str() {
+        "refusals" => return Some(refusals()),
+        "resets" => return Some(resets::help(WIDTH)),
+        _ => {}
     }
     let mut lines = Vec::new();
     for topic in COMMANDS.iter().chain(&OTHERS).filter(|topic| topic.name == name) {
@@ -204,7 +210,7 @@ pub fn on(name: &str) -> Option<String> {
 /// Everything that help can be asked for.
 pub fn names() -> impl Iterator<Item = &'static str> {
     let others = OTHERS.iter().filter(|other| COMMANDS.iter().all(|command| command.name != other.name));
-    COMMANDS.iter().chain(others).map(|topic| topic.name).chain(["refusals"])
+    COMMANDS.iter().chain(others).map(|topic| topic.name).chain(["resets", "refusals"])
 }
 
 fn refusals() -> String {

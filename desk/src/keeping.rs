@@ -9,7 +9,7 @@ use crate::files;
 use crate::progress::Progress;
 use crate::report;
 use crate::sitting::Sitting;
-use crate::spool::{event_of, RecordReader};
+use crate::source;
 use crate::sums::Sums;
 use crate::table::counted;
 use crate::words;
@@ -61,11 +61,20 @@ impl Desk {
         Some(format!("{} {are} not saved: type save FILE, or {command} again to lose {them}", counted(lost, "event")))
     }
 
-    pub(crate) fn save(&mut self, Kept { file, over }: &Kept) -> Result<String, String> {
+    pub(crate) fn save(&mut self, Kept { file, over }: &Kept, in_words: bool) -> Result<String, String> {
         let sitting = self.sitting()?;
-        files::write_records(file, &sitting.day, *over)?;
+        let pieces = sitting.day.records() as usize;
+        let mut text = if in_words {
+            files::write_words(file, sitting, *over)?;
+            format!("saved {} in words to {file}", counted(pieces, "event"))
+        } else {
+            sitting
+                .may_be_records()
+                .map_err(|why| format!("{why}; type save {file} words to keep the day in words, which replay and report take"))?;
+            files::write_records(file, &sitting.day, *over)?;
+            format!("saved {} to {file}", counted(pieces, "record"))
+        };
         sitting.unsaved = 0;
-        let mut text = format!("saved {} to {file}", counted(sitting.day.records() as usize, "record"));
         if let Some(place) = sitting.day.filled().first() {
             text.push_str(&format!(
                 "; record {place} came short, and was filled up with bytes 255 so that those after it keep their places: it is faulty as before"
@@ -95,10 +104,9 @@ impl Desk {
             return Err("there is nothing to report yet; type offer, order, lock or replay first".to_string());
         }
         files::may_report(file)?;
-        let reader = sitting.day.reader().map_err(|error| format!("the day's records cannot be read again: {error}"))?;
         let mut progress = Progress::of(Some(sitting.day.records()));
-        let day = Day::replayed(&sitting.profile, reader, stretch, &mut progress)?;
-        let made = report::Made::at_the_desk(sitting);
+        let day = Day::replayed(&sitting.profile, &mut sitting.day.pieces()?, stretch, &mut progress)?;
+        let made = report::Made::at_the_desk(sitting)?;
         files::write_report(file, &report::of_name(file, &sitting.profile, &day, &made))?;
         Ok(format!("wrote {} on {} to {file}", report::kind(file), counted(sitting.place, "record")))
     }
@@ -121,23 +129,25 @@ fn replay(
     out: &mut dyn Write,
 ) -> io::Result<Result<String, String>> {
     let clock = sitting.unit.clock();
-    let mut progress = Progress::of(bytes.map(|bytes| bytes.div_ceil(RECORD_SIZE as u64)));
     let (mut sums, mut late) = (Sums::default(), false);
+    let profile = sitting.profile.clone();
+    let (mut pieces, are_words) = match source::of_file(from, &profile) {
+        Ok(opened) => opened,
+        Err(error) => return Ok(Err(format!("'{file}' cannot be read: {error}"))),
+    };
+    let mut progress = Progress::of(bytes.filter(|_| !are_words).map(|bytes| bytes.div_ceil(RECORD_SIZE as u64)));
     sitting.sources.replayed.push(file.to_string());
-    let mut records = RecordReader::new(from);
     loop {
-        let record = match records.record() {
-            Ok(Some(record)) => record,
+        let piece = match pieces.next(sitting.unit.clock()) {
+            Ok(Some(piece)) => piece,
             Ok(None) => break,
-            Err(error) => {
-                return Ok(Err(format!(
-                    "'{file}' cannot be read to its end: {error}; {} were passed",
-                    counted(sums.records as usize, "record")
-                )))
+            Err(why) => {
+                let passed = counted(sums.records as usize, "record");
+                return Ok(Err(format!("'{file}' ends here: {why}; {passed} before it passed")));
             }
         };
-        late |= sums.records == 0 && event_of(record).is_some_and(|event| event.time() < clock);
-        let passed = sitting.pass_record(record);
+        late |= sums.records == 0 && piece.event().is_some_and(|event| event.time() < clock);
+        let passed = sitting.pass_piece(&piece);
         sums.take(&passed);
         progress.step();
         if !quiet || passed.is_notable() {

@@ -9,8 +9,10 @@ pub enum Kind {
     Cut,
     /// A rule tripped.
     Trip,
-    /// An order reset the level.
+    /// An order reset the level: its counts were zeroed, its lock lifted.
     Reset,
+    /// An order unlocked the level and left what it counted.
+    Unlock,
     /// The level was locked by hand.
     Lockout,
     /// An order or offer was rejected, since the level was locked.
@@ -19,7 +21,7 @@ pub enum Kind {
 
 impl Kind {
     /// Every kind.
-    pub const ALL: [Kind; 5] = [Kind::Cut, Kind::Trip, Kind::Reset, Kind::Lockout, Kind::Rejected];
+    pub const ALL: [Kind; 6] = [Kind::Cut, Kind::Trip, Kind::Reset, Kind::Unlock, Kind::Lockout, Kind::Rejected];
 
     /// What it is called.
     pub fn name(self) -> &'static str {
@@ -27,6 +29,7 @@ impl Kind {
             Kind::Cut => "cut",
             Kind::Trip => "trip",
             Kind::Reset => "reset",
+            Kind::Unlock => "unlock",
             Kind::Lockout => "lockout by hand",
             Kind::Rejected => "rejection",
         }
@@ -65,7 +68,7 @@ const SLOT: u64 = 8;
 #[derive(Clone, Debug, Default, PartialEq, Eq)]
 pub struct Marks {
     tallies: Vec<Tally>,
-    counts: [u64; 5],
+    counts: [u64; Kind::ALL.len()],
 }
 
 impl Marks {

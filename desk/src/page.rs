@@ -25,7 +25,7 @@ pub fn page(profile: &Profile, day: &Day, made: &Made) -> String {
         format!("<header><h1>{title}</h1><p>{}</p></header>", about(day)),
         format!("<section id=\"overview\"><h2>Overview</h2>{}{}</section>", counts(profile, day), tables::overview(profile, &limits)),
         format!("<section id=\"locks\"><h2>Locks over time</h2>{}{}</section>", drawn.lanes, tables::locks(profile, day)),
-        format!("<section id=\"legend\"><h2>Legend</h2>{}</section>", legend()),
+        format!("<section id=\"legend\"><h2>Legend</h2>{}<h3>What a reset zeroes and lifts</h3>{}</section>", legend(), tables::resets()),
         format!("<h2>Use of each rule against its limit</h2>{}{}", drawn.rules, unused(profile, &limits)),
         format!("<section id=\"events\"><h2>What did not simply pass</h2>{}</section>", tables::events(day)),
         format!("<section id=\"profile\"><h2>Profile</h2><pre>{}</pre></section>", text_of(profile)),

@@ -123,10 +123,11 @@ impl Drawn<'_> {
         [self.band(level, top + 3.0, LANE - 6.0), base, marks].concat()
     }
 
-    /// The resets and lockouts of each level, which all of its counts show.
+    /// The resets, unlocks and lockouts of each level, which all of its counts show.
     fn level_marks(&self) -> String {
         let of_level = |(level, tallies): (usize, &Vec<Tally>)| {
-            let shared: Vec<Tally> = tallies.iter().copied().filter(|tally| matches!(tally.kind, Kind::Reset | Kind::Lockout)).collect();
+            let shared: Vec<Tally> =
+                tallies.iter().copied().filter(|tally| matches!(tally.kind, Kind::Reset | Kind::Unlock | Kind::Lockout)).collect();
             format!("<g id=\"level{level}\">{}</g>", marks(self.axis, &shared, |_| BOTTOM))
         };
         self.lane_marks.iter().enumerate().map(of_level).collect()

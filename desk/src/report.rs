@@ -9,6 +9,7 @@ use crate::profile::Profile;
 use crate::progress::Progress;
 use crate::sha256::{self, Sha256};
 use crate::sitting::Sitting;
+use crate::source;
 use crate::table::counted;
 use mbrumzheg::{Unit, RECORD_SIZE};
 use std::io::{self, Read};
@@ -35,7 +36,7 @@ pub struct Made {
     pub records: Vec<String>,
     /// How many events were typed.
     pub typed: usize,
-    /// The sum of all records, as a file that holds them has it.
+    /// The sum of the whole day, as a file that holds it has it.
     pub records_sum: String,
     /// The version.
     pub version: &'static str,
@@ -45,17 +46,17 @@ pub struct Made {
 
 impl Made {
     /// From a day at the desk.
-    pub fn at_the_desk(sitting: &Sitting) -> Made {
+    pub fn at_the_desk(sitting: &Sitting) -> Result<Made, String> {
         let sources = &sitting.sources;
-        Made {
+        Ok(Made {
             profile: sources.profile.clone(),
             profile_sum: sha256::hex(&sitting.profile.text),
             records: sources.replayed.clone(),
             typed: sources.typed,
-            records_sum: sitting.day.sum(),
+            records_sum: sitting.file_sum()?,
             version: VERSION,
             kit: KIT,
-        }
+        })
     }
 }
 
@@ -86,9 +87,12 @@ pub fn of_files(profile_file: &str, records_file: &str, to: &str, stretch: Optio
     let (from, bytes) = given::records(records_file)?;
     let mut summed = Summed { from, sum: Sha256::default() };
     let profile = Profile::of_accepted(&text);
-    let mut progress = Progress::of(bytes.map(|bytes| bytes.div_ceil(RECORD_SIZE as u64)));
-    let day = Day::replayed(&profile, &mut summed, stretch, &mut progress)?;
-    drop(progress);
+    let day = {
+        let opened = source::of_file(&mut summed, &profile);
+        let (mut pieces, are_words) = opened.map_err(|error| format!("'{records_file}' cannot be read: {error}"))?;
+        let mut progress = Progress::of(bytes.filter(|_| !are_words).map(|bytes| bytes.div_ceil(RECORD_SIZE as u64)));
+        Day::replayed(&profile, &mut *pieces, stretch, &mut progress).map_err(|why| format!("'{records_file}': {why}"))?
+    };
     if day.sums.records == 0 {
         return Err(format!("'{records_file}' holds no records, so there is nothing to report"));
     }

@@ -1,5 +1,7 @@
 //! SHA-256 (FIPS 180-4), for the sums by which a page names the files that it was made from.
 
+use std::io;
+
 /// A sum that bytes are added to, piece by piece.
 #[derive(Clone)]
 pub struct Sha256 {
@@ -41,6 +43,17 @@ impl Sha256 {
         }
         last.add(&bits.to_be_bytes());
         last.state.iter().map(|word| format!("{word:08x}")).collect()
+    }
+}
+
+impl io::Write for Sha256 {
+    fn write(&mut self, bytes: &[u8]) -> io::Result<usize> {
+        self.add(bytes);
+        Ok(bytes.len())
+    }
+
+    fn flush(&mut self) -> io::Result<()> {
+        Ok(())
     }
 }
 

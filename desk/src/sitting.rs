@@ -2,9 +2,11 @@
 
 use crate::counts::Count;
 use crate::ledger::{Ledger, Watch};
+use crate::piece::Piece;
 use crate::profile::{Profile, Rule};
-use crate::spool::{event_of, Spool};
-use crate::standing::{level, reset_levels, Lock, Standing};
+use crate::resets;
+use crate::spool::Spool;
+use crate::standing::{level, Lock, Standing};
 use mbrumzheg::{Answer, Armed, Contracts, Event, Level, Marks, Offer, Refusal, Root, Time, Unit, Verdict};
 
 /// The unit that the desk works with.
@@ -16,7 +18,7 @@ pub struct Sitting {
     pub unit: ArmedUnit,
     /// What it was armed from.
     pub profile: Profile,
-    /// Every record passed, refused and faulty ones too, so that a replay gives the same lines.
+    /// Every piece passed, refused and faulty ones too, so that a replay gives the same lines.
     pub day: Spool,
     /// How many records were passed: the place of the last.
     pub place: usize,
@@ -76,19 +78,19 @@ impl Sitting {
     pub fn pass(&mut self, event: Event) -> Passed {
         self.unsaved += 1;
         self.sources.typed += 1;
-        self.pass_record(&event.to_record())
+        self.pass_piece(&Piece::of(event))
     }
 
-    /// Passes a record of a file, and keeps it.
-    pub fn pass_record(&mut self, record: &[u8]) -> Passed {
-        self.day.add(record);
-        self.answer_record(record, &mut ())
+    /// Passes a piece of a file, and keeps it.
+    pub fn pass_piece(&mut self, piece: &Piece) -> Passed {
+        self.day.add(piece);
+        self.answer_piece(piece, &mut ())
     }
 
-    /// Passes a record without keeping it, and tells what the counts have used.
-    pub fn answer_record(&mut self, record: &[u8], watch: &mut dyn Watch) -> Passed {
+    /// Passes a piece without keeping it, and tells what the counts have used.
+    pub fn answer_piece(&mut self, piece: &Piece, watch: &mut dyn Watch) -> Passed {
         self.place += 1;
-        let event = event_of(record);
+        let event = piece.event();
         let answer = event.map_or(Err(Refusal::FaultyRecord), |event| self.unit.answer(event));
         let (cut_by, reached, ended) = Default::default();
         let mut passed = Passed { place: self.place, event, answer, cut_by, reached, covered: false, ended };
@@ -106,8 +108,10 @@ impl Sitting {
             Event::Offer(offer) if answer.verdict.passes() => self.fill(offer, answer, passed, watch),
             Event::Offer(offer) => self.standing.reject(rejecting(answer, offer.root), Some(offer.contracts.count())),
             Event::Order { root, reset, .. } => {
-                for level in reset_levels(*root, *reset) {
+                for level in resets::zeroes(*reset).of(*root) {
                     self.profile.counts_of(level).for_each(|count| self.ledger.forget(count.place, ms, watch));
+                }
+                for level in resets::lifts(*reset).of(*root) {
                     self.stand(level, ms, &[], passed);
                 }
                 if !answer.verdict.passes() {

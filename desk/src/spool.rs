@@ -1,6 +1,9 @@
-//! The bytes of a day's records: in memory while they are few, and from there on in a file without a name in the system's folder for such.
+//! The pieces of a day: records by their bytes, in memory while they are few and from there on in a file without a name in the system's folder for such;
+//! events that no record holds beside them.
 
+use crate::piece::Piece;
 use crate::sha256::Sha256;
+use crate::source::Records;
 use mbrumzheg::{Event, RECORD_SIZE};
 use std::fs::File;
 use std::io::{self, Read, Seek, SeekFrom, Write};
@@ -8,10 +11,10 @@ use std::io::{self, Read, Seek, SeekFrom, Write};
 /// So many bytes are kept in memory.
 const MOST_HELD: usize = 1 << 20;
 
-/// What a record that came short is filled up with where another follows it: no event's record ends so.
+/// What a record that came short is filled up with where another follows it, and what stands in the place of an event apart: no event's record ends so.
 const FILLING: u8 = 0xFF;
 
-/// Every record that was passed, refused and faulty ones too, byte for byte and in its place.
+/// Every piece that was passed, refused and faulty ones too, byte for byte and in its place.
 #[derive(Default)]
 pub struct Spool {
     /// The first part, where there is more than memory keeps.
@@ -22,17 +25,26 @@ pub struct Spool {
     held: Vec<u8>,
     sum: Sha256,
     filled: Vec<u64>,
+    /// Events that no record holds, by their places from 1.
+    apart: Vec<(u64, Event)>,
 }
 
 impl Spool {
-    /// Adds a record: its twelve bytes, or fewer of one that came short.
-    pub fn add(&mut self, record: &[u8]) {
+    /// Adds a piece: a record's twelve bytes, or fewer of one that came short, or an event apart.
+    pub fn add(&mut self, piece: &Piece) {
         let short = self.bytes() % RECORD_SIZE as u64;
         if short > 0 {
-            self.filled.push(self.bytes() / RECORD_SIZE as u64 + 1);
+            self.filled.push(self.records());
             self.put(&[FILLING; RECORD_SIZE][short as usize..]);
         }
-        self.put(record);
+        match piece {
+            Piece::Record(record) => self.put(record.bytes()),
+            Piece::Apart(event) => {
+                self.apart.push((self.records() + 1, *event));
+                self.sum.add(format!("{event:?}").as_bytes());
+                self.put(&[FILLING; RECORD_SIZE]);
+            }
+        }
     }
 
     fn put(&mut self, bytes: &[u8]) {
@@ -54,12 +66,11 @@ impl Spool {
         file.write_all(&self.held)
     }
 
-    /// How many bytes there are.
-    pub fn bytes(&self) -> u64 {
+    fn bytes(&self) -> u64 {
         self.filed + self.held.len() as u64
     }
 
-    /// How many records there are, a short last one too.
+    /// How many pieces there are, a short last record too.
     pub fn records(&self) -> u64 {
         self.bytes().div_ceil(RECORD_SIZE as u64)
     }
@@ -69,12 +80,17 @@ impl Spool {
         &self.filled
     }
 
-    /// The sum of all bytes.
+    /// The events that no record holds, by their places from 1.
+    pub fn apart(&self) -> &[(u64, Event)] {
+        &self.apart
+    }
+
+    /// A sum of all pieces; of a day without events apart it is that of the records' bytes.
     pub fn sum(&self) -> String {
         self.sum.hex()
     }
 
-    /// All bytes, from the first.
+    /// All records' bytes, from the first. Of a day with events apart they are not the whole day.
     pub fn reader(&self) -> io::Result<impl Read + '_> {
         let filed: Box<dyn Read> = match self.file.as_ref() {
             Some(mut file) => {
@@ -84,6 +100,12 @@ impl Spool {
             None => Box::new(io::empty()),
         };
         Ok(filed.chain(&self.held[..]))
+    }
+
+    /// All pieces, from the first.
+    pub fn pieces(&self) -> Result<Records<'_, impl Read + '_>, String> {
+        let reader = self.reader().map_err(|error| format!("the day's records cannot be read again: {error}"))?;
+        Ok(Records::beside(reader, &self.apart))
     }
 }
 
@@ -101,44 +123,12 @@ fn nameless() -> io::Result<File> {
     Err(io::ErrorKind::AlreadyExists.into())
 }
 
-/// The records of some bytes, one after the other, of any number; the last may be short.
-pub struct RecordReader<R> {
-    from: R,
-    piece: Vec<u8>,
-    at: usize,
-}
-
-/// So many records are read at a time.
-const PIECE: usize = 4_096 * RECORD_SIZE;
-
-impl<R: Read> RecordReader<R> {
-    /// Reads from this.
-    pub fn new(from: R) -> RecordReader<R> {
-        RecordReader { from, piece: Vec::new(), at: 0 }
-    }
-
-    /// The next record's bytes, twelve of them but for a short last one; nothing at the end.
-    pub fn record(&mut self) -> io::Result<Option<&[u8]>> {
-        if self.at >= self.piece.len() {
-            self.at = 0;
-            self.piece.clear();
-            self.from.by_ref().take(PIECE as u64).read_to_end(&mut self.piece)?;
-        }
-        let rest = &self.piece[self.at..];
-        let record = &rest[..rest.len().min(RECORD_SIZE)];
-        self.at += record.len();
-        Ok((!record.is_empty()).then_some(record))
-    }
-}
-
-/// The event of a record's bytes, if they are one's.
-pub fn event_of(record: &[u8]) -> Option<Event> {
-    Event::from_record(record).ok()
-}
-
 #[cfg(test)]
 mod tests {
-    use super::{event_of, RecordReader, Spool};
+    use super::Spool;
+    use crate::piece::{Piece, Record};
+    use crate::source::Source;
+    use mbrumzheg::{Event, Reset, Root, Time};
     use std::io::Read;
 
     fn bytes_of(spool: &Spool) -> Vec<u8> {
@@ -147,15 +137,24 @@ mod tests {
         bytes
     }
 
+    fn record(bytes: &[u8]) -> Piece {
+        Piece::Record(Record::of(bytes))
+    }
+
+    fn pieces_of(spool: &Spool) -> Vec<Piece> {
+        let mut pieces = spool.pieces().expect("a reader");
+        std::iter::from_fn(|| pieces.next(Time::START).expect("read")).collect()
+    }
+
     #[test]
     fn more_than_memory_keeps_comes_back_byte_for_byte() {
         let mut spool = Spool::default();
         let mut all = Vec::new();
         for number in 0..250_000u32 {
-            let mut record = [0u8; 12];
-            record[..4].copy_from_slice(&number.to_be_bytes());
-            spool.add(&record);
-            all.extend_from_slice(&record);
+            let mut bytes = [0u8; 12];
+            bytes[..4].copy_from_slice(&number.to_be_bytes());
+            spool.add(&record(&bytes));
+            all.extend_from_slice(&bytes);
             // reading in between disturbs nothing
             if number % 90_000 == 0 {
                 assert_eq!(bytes_of(&spool), all);
@@ -164,26 +163,37 @@ mod tests {
         assert!(spool.file.is_some() && spool.held.len() < super::MOST_HELD);
         assert_eq!(bytes_of(&spool), all);
         assert_eq!((spool.records(), spool.sum()), (250_000, crate::sha256::hex(&all)));
-        let again = spool.reader().expect("a reader");
-        let mut records = RecordReader::new(again);
-        let mut count = 0;
-        while let Some(record) = records.record().expect("read") {
-            assert_eq!(record.len(), 12);
-            count += 1;
-        }
-        assert_eq!(count, 250_000);
+        let again: Vec<Piece> = all.chunks(12).map(record).collect();
+        assert!(pieces_of(&spool) == again);
     }
 
     #[test]
     fn a_short_record_keeps_its_bytes_and_its_place() {
         for length in 1..12 {
             let mut spool = Spool::default();
-            spool.add(&vec![0; length]);
+            spool.add(&record(&vec![0; length]));
             assert_eq!((bytes_of(&spool).len(), spool.records(), spool.filled().len()), (length, 1, 0));
-            spool.add(&[0; 12]);
+            spool.add(&record(&[0; 12]));
             let bytes = bytes_of(&spool);
             assert_eq!((bytes.len(), spool.records(), spool.filled()), (24, 2, &[1][..]));
-            assert_eq!(event_of(&bytes[..12]), None, "a record that is filled up is still faulty");
+            assert_eq!(record(&bytes[..12]).event(), None, "a record that is filled up is still faulty");
         }
+    }
+
+    #[test]
+    fn events_apart_come_back_in_their_places() {
+        let order = |reset| Piece::of(Event::Order { time: Time::START, root: Root::new(0).expect("a root"), reset });
+        let all = [order(Reset::T), order(Reset::Symbol), record(&[0xFF; 12]), order(Reset::TE), order(Reset::E), record(&[1, 2])];
+        let mut spool = Spool::default();
+        all.iter().for_each(|piece| spool.add(piece));
+        assert_eq!(pieces_of(&spool), all);
+        assert_eq!(spool.apart().iter().map(|(place, _)| *place).collect::<Vec<_>>(), [1, 4, 5]);
+        // another event in the same place has another sum
+        let mut other = Spool::default();
+        [order(Reset::E)].iter().chain(&all[1..]).for_each(|piece| other.add(piece));
+        assert_ne!(spool.sum(), other.sum());
+        // one that follows a short record has the next place
+        spool.add(&order(Reset::T));
+        assert_eq!((spool.records(), spool.filled(), spool.apart().last().map(|(place, _)| *place)), (7, &[6][..], Some(7)));
     }
 }

@@ -3,7 +3,7 @@
 use crate::counts::Count;
 use crate::profile::{Profile, Scope};
 use crate::words;
-use mbrumzheg::{Marks, Reset, Root, Time};
+use mbrumzheg::{Marks, Root, Time};
 
 /// A level's number: 0 is the firm, and a root's is one more than its own.
 pub fn level_of(scope: Scope) -> usize {
@@ -19,16 +19,6 @@ pub fn level(root: Root, firm: bool) -> usize {
         0
     } else {
         root.number() as usize + 1
-    }
-}
-
-/// The levels that a reset frees.
-pub fn reset_levels(root: Root, reset: Reset) -> Vec<usize> {
-    match reset {
-        Reset::None => Vec::new(),
-        Reset::Symbol => vec![level(root, false)],
-        Reset::Firm => vec![0],
-        Reset::Both => vec![level(root, false), 0],
     }
 }
 

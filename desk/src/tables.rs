@@ -5,7 +5,9 @@ use crate::day::Day;
 use crate::entries::{Entry, Group};
 use crate::export;
 use crate::figures::{face, CountFigures};
+use crate::marks::Kind;
 use crate::profile::Profile;
+use crate::resets;
 use crate::standing::level_name;
 use crate::words::grouped;
 
@@ -84,6 +86,14 @@ pub fn locks(profile: &Profile, day: &Day) -> String {
     let heads = [("Locked", ""), ("Since", ""), ("Until", ""), ("Cause", "")];
     let each = table("lock-list", &[&heads[..], &rejections[..]].concat(), each);
     format!("<h3>Rejected while locked, by level</h3>{sums}<h3>Rejected while locked, by lock</h3>{each}{rest}")
+}
+
+/// What each reset zeroes and lifts, and the mark that it has.
+pub fn resets() -> String {
+    let [word, zeroes, lifts] = resets::HEADS;
+    let mark = |zeroes: &str| if zeroes == "nothing" { Kind::Unlock } else { Kind::Reset }.name().to_string();
+    let rows = resets::rows().map(|row| vec![row.word, mark(&row.zeroes), row.zeroes, row.lifts]);
+    table("resets", &[(word, ""), ("mark", ""), (zeroes, ""), (lifts, "")], rows) + &format!("<p>{}</p>", resets::REMARK)
 }
 
 /// What did not simply pass: cuts and trips, locks and refusals before rejections.

@@ -87,12 +87,10 @@ pub fn unit(unit: UnitOfRoot) -> &'static str {
 }
 
 /// A reset in the words that the desk takes; nothing for none.
-pub fn reset(reset: Reset) -> &'static str {
+pub fn reset(reset: Reset) -> String {
     match reset {
-        Reset::None => "",
-        Reset::Symbol => " reset symbol",
-        Reset::Firm => " reset firm",
-        Reset::Both => " reset both",
+        Reset::None => String::new(),
+        _ => format!(" reset {reset}"),
     }
 }
 

@@ -10,7 +10,7 @@ use desk::command::{self, Command};
 use desk::counts::Count;
 use desk::profile::{Profile, Rule, Scope};
 use desk::sitting::Sitting;
-use desk::spool::RecordReader;
+use desk::source::Source;
 use mbrumzheg::{Event, Offer, Refusal, Reset, Time, UnitOfRoot, Verdict};
 
 #[test]
@@ -82,10 +82,10 @@ fn a_replayed_day_has_the_same_answers() {
             let passed = first.pass(next);
             lines.push(answer::replayed(&first, &passed));
         }
-        let mut records = RecordReader::new(first.day.reader().expect("a reader"));
+        let mut pieces = first.day.pieces().expect("a reader");
         let mut again = Vec::new();
-        while let Some(record) = records.record().expect("read") {
-            let passed = second.pass_record(record);
+        while let Some(piece) = pieces.next(Time::START).expect("read") {
+            let passed = second.pass_piece(&piece);
             again.push(answer::replayed(&second, &passed));
         }
         assert_eq!(lines, again);

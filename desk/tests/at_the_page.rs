@@ -32,6 +32,7 @@ fn what_a_person_does_at_the_page() {
     browser.keys("#day", &place.join("day").to_string_lossy());
     lines(&browser, 3);
     assert!(browser.text("#lines tr").contains("refused with 16"), "{}", browser.text("#lines tr"));
+    unlocked_by_keys_and_saved_in_words(&browser);
     let complaints = browser.complaints();
     let wrong = |part: &str| complaints.iter().filter(|one| one.contains(part) && one.contains("422")).count();
     assert_eq!((wrong("/arm"), wrong("/line"), complaints.len()), (1, 1, 2), "only of the wrong profile and offer: {complaints:?}");
@@ -92,6 +93,26 @@ fn at_another_time_and_as_a_line(browser: &Browser) {
     browser.wait_text("#drawn", "at 2010ms");
     browser.fill("#line", "order now XYZ reset symbol\u{E007}");
     browser.wait_text("#words", "root XYZ reset; the order on XYZ may pass");
+}
+
+/// The keys of T, E and TE unlock and leave what was counted; records cannot hold that, so the day is saved in words.
+fn unlocked_by_keys_and_saved_in_words(browser: &Browser) {
+    let href = |browser: &Browser| browser.script("return document.querySelector('#save').getAttribute('href')").text().to_string();
+    assert_eq!(href(browser), "day.records");
+    for (key, words) in [
+        ("4", "root XYZ unlocked, its counts stay; the order on XYZ may pass"),
+        ("5", "firm ABCD unlocked, its counts stay; the order on XYZ may pass"),
+        ("6", "root XYZ and firm ABCD unlocked, their counts stay; the order on XYZ may pass"),
+    ] {
+        browser.press(key);
+        browser.wait_text("#words", words);
+    }
+    lines(browser, 6);
+    assert_eq!(href(browser), "day.txt");
+    browser.click("#what-resets-do summary");
+    browser.wait("document.querySelector('#resets').checkVisibility()");
+    assert!(browser.text("#resets").contains("te\tnothing\tthe root and the firm"), "{}", browser.text("#resets"));
+    assert_eq!(browser.script("return document.querySelectorAll('#resets tr').length").number(), 6);
 }
 
 fn cleared_and_brought_back(browser: &Browser) {

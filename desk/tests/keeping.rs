@@ -1,6 +1,6 @@
 //! What the desk keeps: a saved day is never written over by a slip, every record keeps its bytes and its place, and nothing typed is lost without a word.
 mod common;
-use common::{event, profile, Dice};
+use common::{profile, recorded, Dice};
 use desk::lines::{run, Ended, Manner};
 use mbrumzheg::Event;
 use std::fs;
@@ -85,7 +85,7 @@ fn every_record_keeps_its_bytes_and_its_place() {
     for seed in 0..60 {
         let mut dice = Dice::new(seed);
         fs::write(place.path("profile"), profile(&mut dice)).expect("written");
-        let mut bytes: Vec<u8> = (0..dice.below(30)).flat_map(|n| event(&mut dice, n * 50, 3).to_record()).collect();
+        let mut bytes: Vec<u8> = (0..dice.below(30)).flat_map(|n| recorded(&mut dice, n * 50, 3).0).collect();
         for _ in 0..dice.below(6) {
             let length = bytes.len() as u64;
             if let Some(byte) = bytes.get_mut(dice.below(length) as usize) {
@@ -144,8 +144,6 @@ fn a_script_that_saves_nothing_is_warned_on_standard_error() {
         assert_eq!(String::from_utf8_lossy(&output.stderr), warning, "{lines}");
         assert!(output.status.success());
     }
-    assert_eq!(
-        fs::read(place.path("day")).expect("saved"),
-        Event::from_record(&fs::read(place.path("day")).expect("saved")).expect("an event").to_record()
-    );
+    let day = fs::read(place.path("day")).expect("saved");
+    assert_eq!(Event::from_record(&day).expect("an event").to_record().as_ref().map(|record| &record[..]), Ok(&day[..]));
 }

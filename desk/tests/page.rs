@@ -6,6 +6,7 @@ mod json;
 use common::{event, profile, Dice};
 use desk::counts::Count;
 use desk::day::Day;
+use desk::piece::{Piece, Record};
 use desk::progress::Progress;
 use desk::report::{self, Made};
 use desk::sitting::Sitting;
@@ -13,8 +14,9 @@ use mbrumzheg::{Event, Level, Time, Unit};
 
 /// A report of a sitting's day or a stretch of it, of the kind that a name asks for.
 fn written(sitting: &Sitting, name: &str, stretch: Option<(u64, u64)>) -> String {
-    let day = Day::replayed(&sitting.profile, sitting.day.reader().expect("a reader"), stretch, &mut Progress::of(None)).expect("a day");
-    report::of_name(name, &sitting.profile, &day, &Made::at_the_desk(sitting))
+    let mut pieces = sitting.day.pieces().expect("a reader");
+    let day = Day::replayed(&sitting.profile, &mut pieces, stretch, &mut Progress::of(None)).expect("a day");
+    report::of_name(name, &sitting.profile, &day, &Made::at_the_desk(sitting).expect("a sum"))
 }
 
 fn armed(text: &str) -> Sitting {
@@ -108,9 +110,9 @@ fn pages_are_well_formed_and_fetch_nothing() {
 fn a_page_names_what_it_was_made_from() {
     let mut sitting = armed("ABCD,abs_vol,XYZ,1000");
     sitting.pass(Event::Lockout { time: Time::START, level: Level::Firm });
-    sitting.pass_record(&[0xFF; 5]);
+    sitting.pass_piece(&Piece::Record(Record::of(&[0xFF; 5])));
     let page = written(&sitting, "page.html", None);
-    let record = Event::Lockout { time: Time::START, level: Level::Firm }.to_record();
+    let record = Event::Lockout { time: Time::START, level: Level::Firm }.to_record().expect("a record");
     let sums = [desk::sha256::hex(b"ABCD,abs_vol,XYZ,1000"), desk::sha256::hex(&[&record[..], &[0xFF; 5]].concat())];
     let footer = between(&page, "<footer>", "</footer>");
     for wanted in [sums[0].as_str(), sums[1].as_str(), report::VERSION, report::KIT, "profile", "1 typed at the desk"] {
@@ -172,7 +174,7 @@ fn json_and_csv_have_the_figures_of_the_page() {
 #[test]
 fn a_day_of_faulty_records_alone_has_a_page() {
     let mut sitting = armed("ABCD,abs_vol,XYZ,1000");
-    sitting.pass_record(&[0xFF; 12]);
+    sitting.pass_piece(&Piece::Record(Record::of(&[0xFF; 12])));
     let page = written(&sitting, "page.html", None);
     tags(&page);
     assert!(page.contains("No record of this day holds an event that was not refused."));

@@ -1,7 +1,7 @@
 //! The page, the desk's replay and the program `gateway` agree on random files of records, faulty and short ones among them: the same places, refusals,
 //! verdicts, grants and trips.
 mod common;
-use common::{event, profile, Dice};
+use common::{profile, recorded, Dice};
 use std::fs;
 use std::path::{Path, PathBuf};
 use std::process::{Command, Stdio};
@@ -27,9 +27,9 @@ fn records(dice: &mut Dice) -> Vec<u8> {
     let mut clock = 0;
     let mut bytes = Vec::new();
     for _ in 0..1 + dice.below(400) {
-        let next = event(dice, clock, 3);
+        let (record, next) = recorded(dice, clock, 3);
         clock = clock.max(next.time().ms());
-        bytes.extend(next.to_record());
+        bytes.extend(record);
     }
     for _ in 0..dice.below(20) {
         let at = dice.below(bytes.len() as u64) as usize;

@@ -1,55 +1,20 @@
 //! The served desk: who may ask, and what bad input does.
+#[path = "common/asking.rs"]
+mod asking;
 mod browser;
 mod common;
 #[path = "common/serving.rs"]
 mod serving;
+use asking::{get, post, raw, request, state};
 use browser::json::Json;
 use common::{profile, Dice};
 use serving::{workplace, Serving};
 use std::fs;
-use std::io::{Read, Write};
+use std::io::Write;
 use std::net::{Shutdown, TcpStream};
 use std::time::{Duration, Instant};
 
 const PROFILE: &str = "ABCD,rate_vol,XYZ,500,1000\nABCD,abs_vol,QQQ,5\n";
-
-/// Sends bytes as they are, and answers what comes back: the status and the body.
-fn raw(port: u16, bytes: &[u8]) -> (u16, Vec<u8>) {
-    let mut stream = TcpStream::connect(("127.0.0.1", port)).expect("connected");
-    stream.set_read_timeout(Some(Duration::from_secs(30))).expect("set");
-    // the desk may refuse before it has read everything
-    let _ = stream.write_all(bytes);
-    let mut answer = Vec::new();
-    let _ = stream.read_to_end(&mut answer);
-    let end = answer.windows(4).position(|four| four == b"\r\n\r\n").unwrap_or(answer.len());
-    let head = String::from_utf8_lossy(&answer[..end]).into_owned();
-    let status = head.split(' ').nth(1).and_then(|word| word.parse().ok()).unwrap_or(0);
-    (status, answer.get(end + 4..).unwrap_or_default().to_vec())
-}
-
-fn request(serving: &Serving, method: &str, path: &str, more: &str, body: &[u8]) -> (u16, Vec<u8>) {
-    let (port, token) = (serving.port, &serving.token);
-    let mut bytes =
-        format!("{method} /{token}/{path} HTTP/1.1\r\nHost: 127.0.0.1:{port}\r\nContent-Length: {}\r\n{more}\r\n", body.len()).into_bytes();
-    bytes.extend_from_slice(body);
-    raw(port, &bytes)
-}
-
-fn get(serving: &Serving, path: &str) -> (u16, Vec<u8>) {
-    request(serving, "GET", path, "", b"")
-}
-
-fn post(serving: &Serving, path: &str, body: &[u8]) -> (u16, Json) {
-    let (status, bytes) = request(serving, "POST", path, "", body);
-    let text = String::from_utf8(bytes).expect("text");
-    (status, if text.starts_with('{') { Json::of(&text) } else { Json::Text(text) })
-}
-
-fn state(serving: &Serving) -> Json {
-    let (status, bytes) = get(serving, "state");
-    assert_eq!(status, 200);
-    Json::of(&String::from_utf8(bytes).expect("text")).get("state").clone()
-}
 
 #[test]
 fn only_this_machine_this_page_and_this_token_are_answered() {

@@ -8,6 +8,16 @@ use mbrumzheg::Unit;
 
 const PROFILE: &str = "ABCD,rate_vol,XYZ,500,1000\nABCD,abs_vol,QQQ,5\n";
 
+/// The day as a file: its records, or the day in words where an event has none, and then no records.
+fn saved(bench: &mut Bench) -> Vec<u8> {
+    if !bench.is_words_alone() {
+        return bench.save().expect("saved");
+    }
+    let why = bench.save().expect_err("records cannot hold it");
+    assert!(why.contains("has no 12-byte record") && why.ends_with("so the program cannot take this day"), "{why}");
+    bench.save_words().expect("saved")
+}
+
 /// The day on the page is the desk's: the same words and numbers, the same memory, and undoing is a replay of what is left.
 #[test]
 fn the_pages_day_is_the_desks_own() {
@@ -34,7 +44,7 @@ fn the_pages_day_is_the_desks_own() {
             continue;
         }
         let last = lines.len();
-        let saved = bench.save().expect("saved");
+        let saved = saved(&mut bench);
         for _ in 0..6 {
             let place = dice.below(last as u64 + 1) as usize;
             bench.go(place).expect("there is such a place");
@@ -44,7 +54,7 @@ fn the_pages_day_is_the_desks_own() {
             assert_eq!(bench.is_unsaved(), place > 0 && place < last);
         }
         bench.go(last).expect("forth again");
-        assert_eq!(bench.save().expect("saved"), saved);
+        assert_eq!(self::saved(&mut bench), saved);
         bench.clear().expect("cleared");
         bench.bring_back().expect("brought back");
         assert_eq!(bench.sitting.as_ref().expect("armed").unit.memory(), &memories[last][..]);
@@ -96,6 +106,26 @@ fn what_was_replaced_is_no_source() {
     bench.line("order 2ms XYZ").expect("an event");
     bench.go(3).expect("here");
     assert_eq!(sources(&bench), Some((vec![], 3)));
+}
+
+/// A day in words that has a line which is no event changes nothing.
+#[test]
+fn a_bad_line_changes_nothing() {
+    let mut bench = Bench::default();
+    bench.arm("profile", PROFILE.as_bytes()).expect("armed");
+    for line in ["order 0ms XYZ reset t", "order 1ms XYZ", "order 2ms XYZ"] {
+        bench.line(line).expect("an event");
+    }
+    bench.go(2).expect("undone");
+    let words = String::from_utf8(bench.save_words().expect("saved")).expect("text");
+    let why = bench.replay("day.txt", format!("{words}lock +5ms firm\norder 9ms SPY\n").as_bytes()).expect_err("a bad line");
+    assert!(why.starts_with("line 5: the profile has no root 'SPY'"), "{why}");
+    assert_eq!((bench.place(), bench.undone.len(), bench.is_unsaved()), (2, 1, false));
+    // good lines go on where the clock stands, each at the clock that those before it leave
+    bench.replay("day.txt", format!("{words}lock +5ms firm\norder +1ms XYZ reset e\n").as_bytes()).expect("replayed");
+    let asked: Vec<&str> = bench.log.iter().map(|entry| entry.asked.as_str()).collect();
+    assert_eq!(asked[4..], ["lock 6ms firm", "order 7ms XYZ reset e"]);
+    assert!(bench.undone.is_empty() && bench.is_unsaved());
 }
 
 /// The page gives the rules that the unit runs, and a unit that is armed with them is the same.

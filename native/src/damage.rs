@@ -204,12 +204,13 @@ fn reshape_rules(random: &mut Random, armed: &mut Armed) {
     }
 }
 
-/// Takes an entry away, doubles one, or adds one of any root at the clock.
+/// Takes an entry away, doubles one, takes its flags away, or adds one of any root at the clock.
 fn reshape_log(random: &mut Random, armed: &mut Armed) {
     let place = random.below(armed.log.len().max(1) as u64) as usize;
     let known = armed.log.get(place).copied();
-    match (random.below(3), known) {
+    match (random.below(4), known) {
         (0, Some(_)) => drop(armed.log.remove(place)),
+        (2, Some(entry)) => armed.log[place] = Entry { counts_for_root: false, counts_for_firm: false, ..entry },
         (1, Some(entry)) if armed.log.len() < LOG_PLACES => armed.log.insert(place, entry),
         _ if armed.log.len() < LOG_PLACES => {
             let [counts_for_root, counts_for_firm] = [(); 2].map(|_| random.once_in(2));

@@ -14,7 +14,7 @@ pub use records::{read_record, write_record};
 
 use counted::{counted_by, Covering, Cuts, Offer};
 use map::*;
-use reset::carry_out;
+use reset::{carry_out, LAST_RESET};
 use sound::{longest_if_sound, Longest};
 
 use crate::Row;
@@ -134,12 +134,12 @@ pub fn lockout(m: &mut [u64], time: u64, level: u64, root: u64) -> Row {
 pub fn order(m: &mut [u64], time: u64, root: u64, reset: u64) -> Row {
     row(state_mut(m).and_then(|m| {
         armed_at(m, time)?;
-        if root >= m[ROOT_COUNT] || reset > 3 {
+        if root >= m[ROOT_COUNT] || reset > LAST_RESET {
             return Err(13);
         }
         m[CLOCK] = time;
         if reset != 0 {
-            carry_out(m, root, reset & 1 != 0, reset & 2 != 0);
+            carry_out(m, root, reset);
         }
         Ok([verdict(m, root), 0, 0, 0])
     }))

@@ -174,6 +174,7 @@ fn small() -> Vec<Line> {
             ("Status", Step::new(Kind::Status, &[])),
             ("Order without reset", Step::new(Kind::Order, &[time, 0, 0])),
             ("Order, reset BOTH", Step::new(Kind::Order, &[time, 0, 3])),
+            ("Order, reset T and E", Step::new(Kind::Order, &[time, 0, 6])),
             ("Lockout of a root", Step::new(Kind::Lockout, &[time, 0, 0])),
             ("Remaining of a rate rule", Step::new(Kind::Remaining, &[time, 0, 0])),
         ];

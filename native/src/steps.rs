@@ -61,9 +61,15 @@ impl Day {
         self.queue.push_back(Step::arm(profile.into_bytes()));
         let mut time = self.random.below(1_000);
         let leaves = time + window.max(other);
+        let roots = self.random.pick(&[1, 2]);
         for _ in 0..self.random.between(509, 514) {
-            self.queue.push_back(Step::new(Kind::Offer, &[time, self.random.below(2), self.random.below(4), 1, 1]));
+            self.queue.push_back(Step::new(Kind::Offer, &[time, self.random.below(roots), self.random.below(4), 1, 1]));
             time += u64::from(self.random.once_in(20));
+        }
+        if self.random.once_in(2) {
+            // a reset may give room back before the next offers
+            let reset = Step::new(Kind::Order, &[time, self.random.below(2), self.random.pick(&[1, 2, 3, 3, 3, 4, 5, 6])]);
+            self.queue.extend([reset, Step::new(Kind::Offer, &[time, 0, 0, 1, 1])]);
         }
         if !self.random.once_in(3) {
             let times = [leaves - 1, leaves + self.random.below(2)];

@@ -1,5 +1,7 @@
 //! What came up in a run: so that a run that saw too little does not pass.
 
+mod lifted;
+mod room;
 mod units;
 
 use std::fmt;
@@ -11,11 +13,11 @@ use crate::scripts::{Kind, Step};
 use crate::SIZE;
 
 /// What has to come up at least once, beside each refusal from 1 to 15, in groups that are printed a line each.
-const WANTED: [(&str, &[&str]); 13] = [
+const WANTED: [(&str, &[&str]); 17] = [
     ("calls", &["arm", "clear", "order", "lockout", "offer", "remaining", "status", "text", "profile"]),
     ("offers", &["granted whole", "cut above 0", "cut to 0", "under a locked firm", "under a locked root"]),
     ("trips", &["of a root", "of the firm", "of both", "of an absolute rule just reached"]),
-    ("resets", &["none", "SYMBOL", "FIRM", "BOTH"]),
+    ("resets", &["none", "SYMBOL", "FIRM", "BOTH", "T", "E", "T and E"]),
     ("lockouts", &["of a root", "of the firm"]),
     ("offers when a window", &["ended 1 ms ago", "ends", "ends in 1 ms"]),
     ("armed with", &["256 rules", "64 roots", "10 firm rules", "6 rules on a unit", "firm rules alone"]),
@@ -25,6 +27,10 @@ const WANTED: [(&str, &[&str]); 13] = [
     ("profiles out", &["into just enough room", "into more", "room one byte short", "shorter", "short memory", "not armed", "unsound"]),
     ("Remaining of", units::ASKED),
     ("offers while another unit of the rule has", units::BESIDE),
+    ("T or E lifts", lifted::LIFTED),
+    ("offers while a total is at its limit or above", lifted::USED),
+    ("SYMBOL, FIRM or BOTH leaves of the log", room::LEFT),
+    ("damaged entries", room::FLAGLESS),
 ];
 /// The groups by their places.
 const CALLS: usize = 0;
@@ -40,6 +46,10 @@ const LENT: usize = 9;
 const OUT: usize = 10;
 const ASKED: usize = 11;
 const BESIDE: usize = 12;
+const LIFTED: usize = 13;
+const USED: usize = 14;
+const LEFT: usize = 15;
+const FLAGLESS: usize = 16;
 
 /// Counts of what came up.
 #[derive(Default)]
@@ -51,6 +61,9 @@ pub struct Tally {
     seen: [[u64; 10]; WANTED.len()],
     /// Was a number changed from outside since the last call, and was the state unsound before?
     damaged: Option<bool>,
+    /// Which marks an order has to lift, and how many entries there are before it.
+    lifts: Vec<usize>,
+    entries: usize,
 }
 
 impl Tally {
@@ -65,6 +78,9 @@ impl Tally {
         }
         self.see(LENT, lent_place(second.length()));
         if let Some(was_unsound) = self.damaged.take() {
+            if second.is_unsound() && room::is_sound_but_for_flags(second.numbers()) {
+                self.see(FLAGLESS, 0);
+            }
             self.see(
                 DAMAGED,
                 match (second.is_unsound(), second.unit().armed.is_some()) {
@@ -80,8 +96,10 @@ impl Tally {
                 },
             );
         }
-        if step.kind == Kind::Offer {
-            self.see_windows(step.numbers[0], second);
+        match step.kind {
+            Kind::Offer => self.see_windows(step.numbers[0], second),
+            Kind::Order => self.look_before(step, second),
+            _ => {}
         }
     }
 
@@ -98,7 +116,7 @@ impl Tally {
             Kind::Remaining if [0, 13].contains(&row[0]) => self.see_remaining(step, second),
             _ if row[0] != 0 => {}
             Kind::Arm => self.see_profile(second),
-            Kind::Order => self.see(RESETS, step.numbers[2] as usize),
+            Kind::Order => self.see_order(step.numbers[2], second),
             Kind::Lockout => self.see(LOCKOUTS, step.numbers[1] as usize),
             Kind::Offer => self.see_offer(step, row, second),
             _ => {}
@@ -155,6 +173,19 @@ impl Tally {
         self.see(ASKED, units::asked(armed, rule, unit));
     }
 
+    /// Keeps what has to be known of the state before an order.
+    fn look_before(&mut self, step: &Step, second: &mut Lent) {
+        let Some(armed) = &second.unit().armed else { return };
+        (self.lifts, self.entries) = (lifted::lifted(armed, step), armed.log.len());
+    }
+
+    fn see_order(&mut self, reset: u64, second: &mut Lent) {
+        self.see(RESETS, reset as usize);
+        let left = second.unit().armed.as_ref().map_or(0, |armed| armed.log.len());
+        room::left(reset, self.entries, left).into_iter().for_each(|place| self.see(LEFT, place));
+        std::mem::take(&mut self.lifts).into_iter().for_each(|place| self.see(LIFTED, place));
+    }
+
     fn see_offer(&mut self, step: &Step, row: Row, second: &mut Lent) {
         let [time, root, unit, _, contracts] = step.numbers;
         let [_, verdict, grant, root_trip, firm_trip] = row;
@@ -172,8 +203,11 @@ impl Tally {
         (0..trips.len()).filter(|place| trips[*place]).for_each(|place| self.see(TRIPS, place));
         let Some(armed) = &second.unit().armed else { return };
         self.full_logs += u64::from(armed.log.len() == LOG_PLACES && grant > 0);
-        let beside = units::beside(armed, time, root, unit);
-        (0..beside.len()).filter(|place| verdict == 0 && beside[*place]).for_each(|place| self.see(BESIDE, place));
+        if verdict == 0 {
+            let (beside, used) = (units::beside(armed, time, root, unit), lifted::used(armed, root, unit, grant));
+            (0..beside.len()).filter(|place| beside[*place]).for_each(|place| self.see(BESIDE, place));
+            used.into_iter().for_each(|place| self.see(USED, place));
+        }
     }
 }
 

@@ -50,7 +50,7 @@ impl Both {
 /// Good calls of each kind but Arm, Clear and Text.
 const GOOD: [&str; 6] = ["order 50 0 0", "lockout 50 0 0", "offer 50 0 0 1 1", "remaining 50 0 0", "status", "profile 14"];
 /// The same with every number wrong.
-const BAD: [&str; 5] = ["order 86400000 64 4", "lockout 86400000 2 64", "offer 86400000 64 4 0 0", "remaining 86400000 256 4", "profile 0"];
+const BAD: [&str; 5] = ["order 86400000 64 7", "lockout 86400000 2 64", "offer 86400000 64 4 0 0", "remaining 86400000 256 4", "profile 0"];
 
 #[test]
 fn refusal_1_short_memory_and_short_room() {
@@ -163,7 +163,7 @@ fn refusal_12_time() {
     both.says("order 50 0 0", &[0]);
     for time in [0, 49, 86_400_000, u64::MAX] {
         let lines = [
-            format!("order {time} 64 4"),
+            format!("order {time} 64 7"),
             format!("lockout {time} 2 64"),
             format!("offer {time} 64 4 0 0"),
             format!("remaining {time} 256 4"),
@@ -176,7 +176,19 @@ fn refusal_12_time() {
 #[test]
 fn refusal_13_numbers_not_known() {
     let mut both = Both::armed("A,abs_vol,Q,5");
-    both.refuses(13, &["order 5 1 0", "order 5 0 4", "order 5 18446744073709551615 0", "lockout 5 0 1", "lockout 5 1 1", "lockout 5 2 0"]);
+    both.refuses(
+        13,
+        &[
+            "order 5 1 0",
+            "order 5 0 7",
+            "order 5 0 18446744073709551615",
+            "order 5 1 4",
+            "order 5 18446744073709551615 0",
+            "lockout 5 0 1",
+            "lockout 5 1 1",
+            "lockout 5 2 0",
+        ],
+    );
     both.refuses(
         13,
         &["offer 5 1 0 0 0", "offer 5 0 4 1 1", "offer 5 64 0 1 1", "remaining 5 1 0", "remaining 5 256 0", "remaining 5 0 4"],
@@ -201,7 +213,7 @@ fn refusal_15_log_full_exactly_inside_the_longest_window() {
         both.says("offer 7 0 0 1 1", &[0, 0, 1]);
     }
     both.refuses(15, &["offer 7 0 0 1 1", "offer 1006 0 0 1 1", "offer 1006 1 0 1 1"]).refuses(14, &["offer 8 0 0 0 1"]);
-    both.says("order 1006 0 3", &[0]).refuses(15, &["offer 1006 0 0 1 1"]).says("offer 1007 0 0 1 1", &[0, 0, 1]);
+    both.says("order 1006 0 1", &[0]).refuses(15, &["offer 1006 0 0 1 1"]).says("offer 1007 0 0 1 1", &[0, 0, 1]);
 }
 
 #[test]
@@ -320,4 +332,62 @@ fn b12_each_unit_of_a_root_rule_counts_for_itself() {
     both.says("offer 0 0 0 1 60", &[0, 0, 60]).says("offer 1 0 3 1 60", &[0, 0, 60]).says("remaining 1 0 1", &[0, 100]);
     both.says("offer 2 0 3 1 60", &[0, 0, 40, 1]).says("order 2 0 0", &[0, 2]).says("offer 2 0 1 1 1", &[0, 2]);
     both.says("order 3 0 1", &[0]).says("remaining 3 0 0", &[0, 100]).says("remaining 3 0 3", &[0, 100]);
+}
+
+#[test]
+fn t_and_e_unlock_and_forget_nothing() {
+    let mut both = Both::armed("A,abs_vol,X,10\\nA,rate_vol,X,50,1000\\nA,abs_vol,,12,,T");
+    both.says("offer 0 0 3 1 2", &[0, 0, 2]).says("offer 0 0 0 1 10", &[0, 0, 10, 1, 1]).says("lockout 1 0 0", &[0]);
+    both.says("lockout 1 1 0", &[0]).says("order 1 0 4", &[0, 1]).says("order 2 0 5", &[0]).says("remaining 2 0 0", &[0, 0]);
+    both.says("remaining 2 0 3", &[0, 8]).says("remaining 2 1 0", &[0, 40]).says("remaining 2 2 0", &[0, 0]);
+    // both totals stand at their limits: an order passes, and the next offer trips again
+    both.says("order 3 0 0", &[0]).says("offer 3 0 0 1 1", &[0, 0, 0, 1, 1]).says("order 3 0 0", &[0, 1]).says("order 3 0 6", &[0]);
+    // on another unit the firm's total alone stands at its limit
+    both.says("offer 4 0 3 1 1", &[0, 0, 0, 0, 1])
+        .says("order 4 0 5", &[0])
+        .says("order 5 0 2", &[0])
+        .says("offer 5 0 3 1 9", &[0, 0, 8, 1]);
+    both.says("order 6 0 5", &[0, 2]).says("order 6 0 6", &[0]).refuses(13, &["order 7 0 7", "order 7 1 4", "order 7 1 5", "order 7 1 6"]);
+    Both::armed("A,abs_vol,,5,,T").refuses(13, &["order 0 0 4", "order 0 0 5", "order 0 0 6"]);
+}
+
+#[test]
+fn a_reset_gives_room_back() {
+    let full = || {
+        let mut both = Both::armed("A,rate_vol,Q,1000000000,1000\\nA,rate_vol,R,1000000000,1000");
+        for n in 0..512 {
+            both.says(&format!("offer {n} {} 0 1 1", n % 2), &[0, 0, 1]);
+        }
+        both.refuses(15, &["offer 600 0 0 1 1"]);
+        both
+    };
+    // a flag that is left keeps the entry, also where no firm rule is
+    full()
+        .says("order 600 0 1", &[0])
+        .refuses(15, &["offer 600 0 0 1 1"])
+        .says("order 600 0 2", &[0])
+        .says("offer 600 0 0 1 1", &[0, 0, 1]);
+    full()
+        .says("order 600 0 2", &[0])
+        .refuses(15, &["offer 600 0 0 1 1"])
+        .says("order 600 1 1", &[0])
+        .says("offer 600 0 0 1 1", &[0, 0, 1]);
+    // BOTH on one root leaves the entries of the other, which still count there
+    let mut both = full();
+    both.says("order 600 0 3", &[0]).says("remaining 600 0 0", &[0, 1_000_000_000]).says("remaining 600 1 0", &[0, 1_000_000_000 - 256]);
+    assert_eq!(both.0.second().numbers()[ENTRY_COUNT], 256);
+    for _ in 0..256 {
+        both.says("offer 600 0 0 1 1", &[0, 0, 1]);
+    }
+    both.refuses(15, &["offer 600 0 0 1 1"]).says("order 600 0 6", &[0]).refuses(15, &["offer 600 0 0 1 1"]);
+}
+
+#[test]
+fn an_entry_that_counts_for_nothing_is_unsound() {
+    for flags in 0..4 {
+        let mut both = Both::armed("A,rate_vol,Q,5,1000");
+        both.says("offer 7 0 2 1 1", &[0, 0, 1]);
+        both.run(&format!("damage {LOG} {}", 7 << 10 | 2 << 2 | flags));
+        both.says("status", if flags == 0 { &[2] } else { &[0, 0, 0, 0, 64] });
+    }
 }

@@ -25,7 +25,7 @@ class Order:
         return (0, self.time, self.root, 0, 0, 0, self.reset, 0)
 
     def to_record(self) -> bytes:
-        """The event's record."""
+        """The event's record; refused with FAULTY_RECORD for a reset above BOTH, which 12 bytes have no place for."""
         return _record(self.numbers())
 
 

@@ -167,12 +167,16 @@ class UnitOfRoot(_Worded):
 
 
 class Reset(_Worded):
-    """What an order resets before it is judged: nothing, its root, the firm (roots stay as they are), or both."""
+    """What an order resets before it is judged: nothing, its root, the firm (roots stay as they are), or both. T, E and TE lift the trip and the lockout of
+    its root, of the firm and of both, and forget nothing that was counted."""
 
     NONE = 0
     SYMBOL = 1
     FIRM = 2
     BOTH = 3
+    T = 4
+    E = 5
+    TE = 6
 
 
 class Verdict(_Worded):
@@ -197,7 +201,7 @@ class Verdict(_Worded):
 
 _WORDS = {
     UnitOfRoot: ("call front", "call trailing", "put front", "put trailing"),
-    Reset: ("none", "symbol", "firm", "both"),
+    Reset: ("none", "symbol", "firm", "both", "t", "e", "te"),
     Verdict: ("free", "firm locked", "root locked"),
 }
 

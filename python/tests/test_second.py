@@ -17,8 +17,8 @@ from mbrumzheg import Event, Level, Lockout, Marks, Measure, Offer, Order, Refus
 from mbrumzheg import Contracts, Premium, Reset, Root, Time, UnitOfRoot
 
 SECOND = Path(os.environ.get("SECOND", Path(__file__).parents[2] / "target/cargo/release"))
-# first seed, days, and calls a day: many short days, and a few that fill the log
-DAYS = [(1, 400, 300), (1_001, 20, 3_000)]
+# first seed, days, and calls a day: many short days, some long ones, and one that fills the log faster than its resets empty it
+DAYS = [(1, 400, 300), (1_001, 19, 3_000), (1_045, 1, 10_000)]
 FILES, RECORDS = 40, 1_000
 
 
@@ -183,7 +183,7 @@ class Second(unittest.TestCase):
                 pair.call(line)
         wanted = ["arm 0", "arm 3", "clear 0", "remaining 0", "remaining 12", "remaining 13", "status 0", "status 4", "text 0", "text 1", "profile 0", "profile 1", "profile 4"]
         wanted += [f"offer {refusal}" for refusal in (0, 4, 12, 13, 14, 15)] + ["lockout 0", "order 0", "typed", "stands armed"]
-        self.assertEqual((seen["day"], [word for word in wanted if not seen[word]]), (420, []), seen)
+        self.assertEqual((seen["day"], [word for word in wanted if not seen[word]]), (sum(days for _, days, _ in DAYS), []), seen)
 
     def test_records_are_read_and_answered_as_the_program_does(self) -> None:
         armed = 0

@@ -7,8 +7,8 @@ import unittest
 from dataclasses import replace
 from pathlib import Path
 
-from mbrumzheg import Contracts, Event, Level, Lockout, Marks, Offer, Order, Premium, Refusal, Refused, Reset, Root, Status, Time, Unit, UnitOfRoot, Verdict
-from mbrumzheg import PROFILE_MOST, SIZE, __version__, from_record, raw, records
+from mbrumzheg import Answer, Contracts, Event, Level, Lockout, Marks, Offer, Order, Premium, Refusal, Refused, Reset, Root, Status, Time, Unit, UnitOfRoot
+from mbrumzheg import Verdict, PROFILE_MOST, SIZE, __version__, from_record, raw, records
 
 EXAMPLE = "ABCD,abs_vol,XYZ,1000,0"
 REPOSITORY = Path(__file__).parents[2]
@@ -61,7 +61,7 @@ class Units(unittest.TestCase):
         self.assertEqual(str(refused), "refused with 8 at line 1: the line's limit or time limit is out of range")
         self.refused(Refusal.ARMED_ALREADY, unit.arm(EXAMPLE).arm, EXAMPLE)
 
-    def test_refusals_change_nothing(self) -> None:
+    def test_refusals_change_nothing_and_a_reset_gives_room_back(self) -> None:
         unit = Unit().arm("ABCD,rate_vol,XYZ,1000000,60000")
         for ms in range(512):
             self.assertEqual(unit.offer(offer(ms, 1)).grant, 1)
@@ -71,6 +71,10 @@ class Units(unittest.TestCase):
         self.refused(Refusal.UNKNOWN, unit.offer, offer(1_000, 1, root=1))
         self.refused(Refusal.UNKNOWN, unit.remaining, Time(1_000), 1, UnitOfRoot(0))
         self.assertEqual(unit.memory(), before)
+        self.assertEqual(unit.order(Time(1_000), Root(0), Reset.SYMBOL), Verdict.FREE)
+        self.refused(Refusal.LOG_FULL, unit.offer, offer(1_000, 1))
+        self.assertEqual(unit.order(Time(1_000), Root(0), Reset.BOTH), Verdict.FREE)
+        self.assertEqual(unit.offer(offer(1_000, 1)).grant, 1)
 
     def test_saved_memory_is_tested_before_it_is_taken(self) -> None:
         unit = Unit().arm(EXAMPLE)
@@ -100,6 +104,25 @@ class Units(unittest.TestCase):
         self.assertEqual([unit.offer(replace(offer(0, 1), unit=of)).verdict for of in UnitOfRoot], [Verdict.ROOT_LOCKED] * 4)
         self.assertEqual(unit.order(Time(0), Root(0), Reset.SYMBOL), Verdict.FREE)
         self.assertEqual(left(unit), [[100] * 4, [90], [320]])
+
+    def test_locks_are_lifted_without_forgetting(self) -> None:
+        locked, none = Marks(True, True), Marks()
+        for reset, of_root, of_firm, remains in [
+            (Reset.SYMBOL, none, locked, [[10], [0]]),
+            (Reset.FIRM, locked, none, [[0], [10]]),
+            (Reset.BOTH, none, none, [[10], [10]]),
+            (Reset.T, none, locked, [[0], [0]]),
+            (Reset.E, locked, none, [[0], [0]]),
+            (Reset.TE, none, none, [[0], [0]]),
+        ]:
+            unit = Unit().arm("ABCD,abs_vol,XYZ,10,,,C,F\nABCD,abs_vol,,10,,T")
+            self.assertTrue(unit.offer(offer(0, 10)).firm_trip)
+            unit.lockout(Time(1), Level(Root(0)))
+            unit.lockout(Time(1), Level())
+            verdict = Verdict.FIRM_LOCKED if of_firm.locked else Verdict.ROOT_LOCKED if of_root.locked else Verdict.FREE
+            self.assertEqual(unit.order(Time(2), Root(0), reset), verdict, str(reset))
+            self.assertEqual((unit.root_marks(Root(0)), unit.firm_marks, left(unit)), (of_root, of_firm, remains), str(reset))
+        self.assertEqual((unit.offer(offer(3, 1)), raw.order(unit._memory, 3, 0, 7)[0]), (Answer(Verdict.FREE, 0, True, True), 13))
 
     def test_status_and_marks_agree(self) -> None:
         unit = Unit().arm("ABCD,abs_vol,XYZ,1000\nABCD,abs_vol,QQQ,1000\nABCD,abs_vol,SPY,1")
@@ -152,11 +175,12 @@ class Units(unittest.TestCase):
         stretch = b"".join(event.to_record() for event in events)
         self.assertEqual(list(records(stretch + b"\0")), [*events, Refusal.FAULTY_RECORD])
         self.refused(Refusal.FAULTY_RECORD, from_record, b"\xff" * 12)
+        for reset in (Reset.T, Reset.E, Reset.TE):
+            self.refused(Refusal.FAULTY_RECORD, Order(Time(1), Root(0), reset).to_record)
 
     def test_python_and_c_have_the_same_names_and_words(self) -> None:
-        header = (REPOSITORY / "include/mbrumzheg.h").read_text()
-        words = (REPOSITORY / "include/mbrumzheg_words.h").read_text()
-        named = {name: int(number) for name, number in re.findall(r"MBRUMZHEG_(\w+) = (\d+)", header)}
+        header, numbers, words = ((REPOSITORY / f"include/mbrumzheg{part}.h").read_text() for part in ("", "_numbers", "_words"))
+        named = {name: int(number) for name, number in re.findall(r"MBRUMZHEG_(\w+) = (\d+)", numbers)}
         for refusal in Refusal:
             self.assertEqual(named[refusal.name], refusal)
             self.assertIn(f'case MBRUMZHEG_{refusal.name}: return "{refusal.sentence}";', words)

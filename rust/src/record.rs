@@ -10,7 +10,7 @@
 //!     premium: Premium::from_ten_thousandths(70_000)?,
 //!     contracts: Contracts::new(200)?,
 //! });
-//! let record = event.to_record();
+//! let record = event.to_record()?;
 //! assert_eq!(record, [0x40, 0, 0, 0x50, 0, 0x01, 0x11, 0x70, 0, 0x0C, 0x80, 0]);
 //! assert_eq!(Event::from_record(&record), Ok(event));
 //! # Ok::<(), mbrumzheg::Refusal>(())
@@ -19,6 +19,7 @@
 use crate::event::{Event, Offer};
 use crate::raw::{self, EventNumbers};
 use crate::refusal::Refusal;
+use crate::unit::accepted;
 use crate::values::{Contracts, Level, Premium, Reset, Root, Time, UnitOfRoot};
 use core::iter::FusedIterator;
 use core::slice::Chunks;
@@ -59,12 +60,10 @@ fn event([kind, time, root, unit, premium, contracts, reset, level]: EventNumber
 }
 
 impl Event {
-    /// The event's record.
-    pub fn to_record(&self) -> [u8; RECORD_SIZE] {
+    /// The event's record; [`Refusal::FaultyRecord`] for an order with a reset that 12 bytes have no place for, which are those above [`Reset::Both`].
+    pub fn to_record(&self) -> Result<[u8; RECORD_SIZE], Refusal> {
         let mut room = [0; RECORD_SIZE];
-        let row = raw::write_record(numbers(self), &mut room);
-        debug_assert_eq!(row[0], 0, "numbers within their ranges are written");
-        room
+        accepted(raw::write_record(numbers(self), &mut room)).map(|_| room)
     }
 
     /// The event of a record; [`Refusal::FaultyRecord`] for any bytes that no event has.
@@ -81,7 +80,7 @@ impl Event {
 /// ```
 /// use mbrumzheg::{Event, Level, Records, Refusal, Time};
 /// let event = Event::Lockout { time: Time::START, level: Level::Firm };
-/// let mut bytes = event.to_record().to_vec();
+/// let mut bytes = event.to_record().unwrap().to_vec();
 /// bytes.push(0);
 /// assert_eq!(Records::new(&bytes).collect::<Vec<_>>(), [Ok(event), Err(Refusal::FaultyRecord)]);
 /// ```
@@ -122,9 +121,10 @@ impl<W: Write> RecordWriter<W> {
         RecordWriter(to)
     }
 
-    /// Writes one event.
+    /// Writes one event. One that has no record is an [`InvalidInput`](io::ErrorKind::InvalidInput) with the refusal in it, and writes nothing.
     pub fn write(&mut self, event: &Event) -> io::Result<()> {
-        self.0.write_all(&event.to_record())
+        let record = event.to_record().map_err(|refusal| io::Error::new(io::ErrorKind::InvalidInput, refusal))?;
+        self.0.write_all(&record)
     }
 
     /// Flushes, and gives back what was written to.

@@ -116,13 +116,19 @@ pub enum Reset {
     Firm = 2,
     /// 3: the order's root and the firm.
     Both = 3,
+    /// 4: lifts the trip and the lockout of the order's root, and forgets nothing that was counted.
+    T = 4,
+    /// 5: the same of the firm; roots stay as they are.
+    E = 5,
+    /// 6: T and E.
+    TE = 6,
 }
 
 impl Reset {
-    /// The four, by number.
-    pub const ALL: [Reset; 4] = [Reset::None, Reset::Symbol, Reset::Firm, Reset::Both];
+    /// The seven, by number.
+    pub const ALL: [Reset; 7] = [Reset::None, Reset::Symbol, Reset::Firm, Reset::Both, Reset::T, Reset::E, Reset::TE];
 
-    /// A reset by its number; [`Refusal::Unknown`] above 3.
+    /// A reset by its number; [`Refusal::Unknown`] above 6.
     pub fn from_number(number: u64) -> Result<Reset, Refusal> {
         by_number(&Reset::ALL, number)
     }

@@ -222,5 +222,8 @@ words!(
     UnitOfRoot, "unit of a root: it is call front, call trailing, put front or put trailing",
     CallsFront "call front", CallsTrailing "call trailing", PutsFront "put front", PutsTrailing "put trailing"
 );
-words!(Reset, "reset: it is none, symbol, firm or both", None "none", Symbol "symbol", Firm "firm", Both "both");
+words!(
+    Reset, "reset: it is none, symbol, firm, both, t, e or te",
+    None "none", Symbol "symbol", Firm "firm", Both "both", T "t", E "e", TE "te"
+);
 words!(Verdict, "verdict: it is free, firm locked or root locked", Free "free", FirmLocked "firm locked", RootLocked "root locked");

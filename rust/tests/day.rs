@@ -149,7 +149,8 @@ fn records_of_all_kinds_come_back() {
     let roots = [0, 1, 63].map(root);
     let mut events = Vec::new();
     for (root, ms) in roots.into_iter().zip([0, 12_345_678, 86_399_999]) {
-        events.extend(Reset::ALL.map(|reset| Event::Order { time: time(ms), root, reset }));
+        let resets = [Reset::None, Reset::Symbol, Reset::Firm, Reset::Both];
+        events.extend(resets.map(|reset| Event::Order { time: time(ms), root, reset }));
         events.extend(UnitOfRoot::ALL.map(|unit| {
             Event::Offer(Offer {
                 time: time(ms),
@@ -163,7 +164,7 @@ fn records_of_all_kinds_come_back() {
         events.push(Event::Lockout { time: time(ms), level: Level::Firm });
     }
     for event in events {
-        assert_eq!(Event::from_record(&event.to_record()), Ok(event));
+        assert_eq!(event.to_record().and_then(|record| Event::from_record(&record)), Ok(event));
     }
 }
 

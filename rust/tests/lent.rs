@@ -8,8 +8,10 @@ fn a_day_on_lent_memory() {
     let root = unit.root_named("XYZ").expect("the profile has it");
     let time: Time = "09:30".parse().expect("a time");
     let mut day = [0; 2 * RECORD_SIZE];
-    day[..RECORD_SIZE].copy_from_slice(&Event::Lockout { time, level: Level::Root(root) }.to_record());
-    day[RECORD_SIZE..].copy_from_slice(&Event::Order { time, root, reset: Reset::None }.to_record());
+    let events = [Event::Lockout { time, level: Level::Root(root) }, Event::Order { time, root, reset: Reset::None }];
+    for (room, event) in day.chunks_mut(RECORD_SIZE).zip(events) {
+        room.copy_from_slice(&event.to_record().expect("an event that 12 bytes hold"));
+    }
     let verdicts = Records::new(&day).map(|record| record.and_then(|event| unit.answer(event)).map(|answer| answer.verdict));
     assert!(verdicts.eq([Ok(Verdict::Free), Ok(Verdict::RootLocked)]));
     assert_eq!((unit.firm().as_str(), unit.clock()), ("ABCD", time));

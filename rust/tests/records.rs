@@ -1,5 +1,6 @@
 //! The library's records against a packing of bits written here from the scope paper's list of widths.
-use mbrumzheg::{raw, Event, RecordWriter, Records, Refusal, RECORD_SIZE};
+use mbrumzheg::{raw, Event, RecordWriter, Records, Refusal, Reset, Root, Time, RECORD_SIZE};
+use std::io::ErrorKind;
 
 /// kind, time, root, unit, premium, contracts, reset, level, spare
 const WIDTHS: [u32; 9] = [2, 27, 6, 2, 27, 20, 2, 1, 9];
@@ -53,7 +54,7 @@ fn a_record_is_read_exactly_if_it_is_good_and_written_back_as_it_was() {
         match Event::from_record(&bytes) {
             Ok(event) => {
                 assert!(good(fields), "{fields:?} is read as {event:?}");
-                assert_eq!(event.to_record(), bytes);
+                assert_eq!(event.to_record(), Ok(bytes));
                 assert_eq!(event.time().ms(), fields[1]);
                 read += 1;
             }
@@ -79,6 +80,29 @@ fn the_writer_refuses_with_16_and_then_1() {
     assert_eq!((&room[..12], &room[12..]), (&packed([0, 10, 0, 0, 0, 0, 0, 0, 0])[..], &[9, 9][..]));
     assert_eq!(raw::read_record(&room[..12]), (0, order));
     assert_eq!(raw::read_record(&room[..11]), (16, [0; 8]));
+}
+
+#[test]
+fn a_reset_above_3_has_no_record_of_12_bytes() {
+    let mut room = [9; RECORD_SIZE];
+    for reset in [4, 5, 6, 7, u64::MAX] {
+        assert_eq!(raw::write_record([0, 10, 0, 0, 0, 0, reset, 0], &mut room), [16, 0, 0, 0, 0], "{reset}");
+    }
+    assert_eq!(raw::write_record([0, 10, 0, 0, 0, 0, 4, 0], &mut room[..3]), [16, 0, 0, 0, 0], "16 comes before 1");
+    assert_eq!(room, [9; RECORD_SIZE], "a refusal changes nothing");
+    let mut writer = RecordWriter::new(Vec::new());
+    for reset in Reset::ALL {
+        let order = Event::Order { time: Time::START, root: Root::new(7).expect("a root"), reset };
+        if reset <= Reset::Both {
+            writer.write(&order).expect("memory takes bytes");
+            continue;
+        }
+        assert_eq!(order.to_record(), Err(Refusal::FaultyRecord), "{reset}");
+        let error = writer.write(&order).expect_err("no record");
+        assert_eq!(error.kind(), ErrorKind::InvalidInput);
+        assert_eq!(error.get_ref().and_then(|why| why.downcast_ref()), Some(&Refusal::FaultyRecord));
+    }
+    assert_eq!(writer.finish().expect("memory takes bytes").len(), 4 * RECORD_SIZE);
 }
 
 #[test]

@@ -102,7 +102,7 @@ fn times_numbers_and_amounts_are_refused_with_12_13_and_14() {
     assert_eq!(Time::from_ms(86_400_000), Err(Refusal::BadTime));
     assert_eq!(Root::new(64), Err(Refusal::Unknown));
     assert_eq!(UnitOfRoot::from_number(4), Err(Refusal::Unknown));
-    assert_eq!(Reset::from_number(4), Err(Refusal::Unknown));
+    assert_eq!(Reset::from_number(7), Err(Refusal::Unknown));
     assert_eq!(Verdict::from_number(3), Err(Refusal::Unknown));
     for n in [0, 100_000_001, u64::MAX] {
         assert_eq!(Premium::from_ten_thousandths(n), Err(Refusal::BadAmount));
@@ -140,7 +140,7 @@ fn the_513th_fill_inside_the_longest_window_is_refused_with_15() {
 #[test]
 fn faulty_records_are_refused_with_16() {
     let order = Event::Order { time: time(10), root: root(0), reset: Reset::None };
-    let good = order.to_record();
+    let good = order.to_record().expect("an order without a reset");
     for length in [0, 11, 13] {
         let bytes: Vec<u8> = good.iter().copied().chain([0]).take(length).collect();
         assert_eq!(Event::from_record(&bytes), Err(Refusal::FaultyRecord), "{length} bytes");
@@ -152,7 +152,7 @@ fn faulty_records_are_refused_with_16() {
         assert_eq!(Event::from_record(&bytes), Err(Refusal::FaultyRecord), "byte {place}, bit {bit:#x}");
     }
     let late = Event::Order { time: Time::LAST, root: root(0), reset: Reset::None };
-    let mut bytes = late.to_record();
+    let mut bytes = late.to_record().expect("the last millisecond");
     assert_eq!(Event::from_record(&bytes), Ok(late));
     bytes[0] |= 0x3F;
     assert_eq!(Event::from_record(&bytes), Err(Refusal::FaultyRecord), "a time beyond the day");

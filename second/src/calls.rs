@@ -9,19 +9,38 @@ use crate::{is_contracts, is_premium};
 /// The lowest locked root of Status if no root is locked.
 pub const NO_ROOT: u64 = 64;
 
+/// The reset of the root: counts, trip and lockout.
+const SYMBOL: u64 = 1;
+/// The reset of the firm: counts, trip and lockout.
+const FIRM: u64 = 2;
+/// Both of these.
+const BOTH: u64 = 3;
+/// Lifts the root's trip and lockout alone.
+const T: u64 = 4;
+/// Lifts the firm's trip and lockout alone.
+const E: u64 = 5;
+/// Both of these, and the last reset that is known.
+const T_AND_E: u64 = 6;
+
 impl Armed {
     /// Order: the reset first, then the verdict.
     pub(crate) fn order(&mut self, time: u64, root: u64, reset: u64) -> Result<EventAnswer, u64> {
         self.check_time(time)?;
-        if !self.knows_root(root) || reset > 3 {
+        if !self.knows_root(root) || reset > T_AND_E {
             return Err(13);
         }
         self.clock = time;
-        if reset == 1 || reset == 3 {
+        if matches!(reset, SYMBOL | BOTH) {
             self.reset_root(root);
         }
-        if reset == 2 || reset == 3 {
+        if matches!(reset, FIRM | BOTH) {
             self.reset_firm();
+        }
+        if matches!(reset, T | T_AND_E) {
+            self.lift_root(root);
+        }
+        if matches!(reset, E | T_AND_E) {
+            self.lift_firm();
         }
         Ok(EventAnswer::verdict(self.verdict(root)))
     }

@@ -186,14 +186,14 @@ fn log_of(numbers: &[u64], clock: u64, roots: u64) -> Option<VecDeque<Entry>> {
     (log.len() <= LOG_PLACES && in_order).then_some(log)
 }
 
-/// The entry of two numbers, if all its fields are in range.
+/// The entry of two numbers, if all its fields are in range and a flag is set.
 fn entry_of(numbers: &[u64], roots: u64) -> Option<Entry> {
     let [spare, time, root, unit, for_root, for_firm] = parted(numbers[0], [27, 27, 6, 2, 1, 1]);
     let [above, premium, contracts] = parted(numbers[1], [17, 27, 20]);
     let in_range = is_time(time) && root < roots && unit < UNITS && is_premium(premium) && is_contracts(contracts);
     let (counts_for_root, counts_for_firm) = (for_root == 1, for_firm == 1);
     let entry = Entry { time, root, unit, premium, contracts, counts_for_root, counts_for_firm };
-    (spare == 0 && above == 0 && in_range).then_some(entry)
+    (spare == 0 && above == 0 && in_range && entry.counts()).then_some(entry)
 }
 
 /// A mark that is 0 or 1.

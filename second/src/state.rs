@@ -40,6 +40,13 @@ pub struct Entry {
     pub counts_for_firm: bool,
 }
 
+impl Entry {
+    /// Does it count for its root or the firm?
+    pub fn counts(&self) -> bool {
+        self.counts_for_root || self.counts_for_firm
+    }
+}
+
 /// A rule's totals by account.
 pub type Totals = [u64; UNITS as usize];
 
@@ -103,7 +110,8 @@ impl Armed {
         for entry in self.log.iter_mut().filter(|entry| entry.root == root) {
             entry.counts_for_root = false;
         }
-        self.roots[root as usize] = Marks::default();
+        self.drop_uncounted();
+        self.lift_root(root);
     }
 
     /// FIRM: the totals of firm rules, the firm flags of all entries, the firm's marks.
@@ -116,6 +124,22 @@ impl Armed {
         for entry in &mut self.log {
             entry.counts_for_firm = false;
         }
+        self.drop_uncounted();
+        self.lift_firm();
+    }
+
+    /// Entries that count for neither root nor firm leave the log.
+    fn drop_uncounted(&mut self) {
+        self.log.retain(Entry::counts);
+    }
+
+    /// T: the root's trip and lockout are taken away, and what it has used stays.
+    pub(crate) fn lift_root(&mut self, root: u64) {
+        self.roots[root as usize] = Marks::default();
+    }
+
+    /// E: the firm's trip and lockout are taken away, and what it has used stays.
+    pub(crate) fn lift_firm(&mut self) {
         self.firm = Marks::default();
     }
 }

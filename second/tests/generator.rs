@@ -1,9 +1,9 @@
-//! The generator: the same seed gives the same, every refusal turns up, and no limit is ever passed.
+//! The generator: the same seed gives the same, and every refusal turns up.
 
 use std::collections::BTreeSet;
 
 use second::gen::{self, Call};
-use second::profile::{self, Level, Measure, Rule};
+use second::profile;
 use second::records;
 use second::unit::Unit;
 
@@ -78,91 +78,6 @@ fn records_are_mostly_good() {
     let bytes = gen::records(1, 1_000, &text);
     let good = bytes.chunks(12).filter(|record| records::read(record).refusal == 0).count();
     assert!(good > 900 && good < 1_000);
-}
-
-/// A fill of the whole day's history, which nothing ever leaves.
-struct Fill {
-    time: u64,
-    root: u64,
-    unit: u64,
-    premium: u64,
-    contracts: u64,
-}
-
-/// The whole history with the places from which roots and firm count again.
-struct History {
-    fills: Vec<Fill>,
-    root_from: Vec<usize>,
-    firm_from: usize,
-}
-
-impl History {
-    /// The amount that the rule counts at a time on a unit, by the history alone; a firm rule counts all units as 0.
-    fn counted(&self, rule: &Rule, unit: u64, time: u64) -> u64 {
-        let from = match rule.level {
-            Level::Firm => self.firm_from,
-            Level::Root { root, .. } => self.root_from[root as usize],
-        };
-        let inside = |fill: &&Fill| rule.window.is_none_or(|window| time - fill.time < window);
-        self.fills[from..]
-            .iter()
-            .filter(|fill| match rule.level {
-                Level::Firm => true,
-                Level::Root { root, .. } => root == fill.root && unit == fill.unit,
-            })
-            .filter(inside)
-            .map(|fill| match rule.measure {
-                Measure::Notional => fill.premium * fill.contracts,
-                Measure::Volume => fill.contracts,
-                Measure::Count => 1,
-            })
-            .sum()
-    }
-}
-
-/// The units that Remaining takes for a rule.
-fn units(rule: &Rule) -> Vec<u64> {
-    match rule.level {
-        Level::Firm => vec![0],
-        Level::Root { unit: Some(unit), .. } => vec![unit],
-        Level::Root { unit: None, .. } => vec![0, 1, 2, 3],
-    }
-}
-
-#[test]
-fn the_history_never_passes_a_limit() {
-    for seed in 0..60 {
-        let text = gen::valid_profile(seed);
-        let rules = profile::read(&text).unwrap().rules;
-        let mut unit = Unit::new();
-        let roots = unit.arm(&text).roots as usize;
-        let mut history = History { fills: Vec::new(), root_from: vec![0; roots], firm_from: 0 };
-        let events = gen::events_near(seed, 1_500, &text);
-        for call in events.into_iter().filter(|call| call.record().is_some()) {
-            let numbers = call.run(&mut unit);
-            match call {
-                Call::Order { root, reset, .. } if numbers[0] == 0 => {
-                    if reset == 1 || reset == 3 {
-                        history.root_from[root as usize] = history.fills.len();
-                    }
-                    if reset == 2 || reset == 3 {
-                        history.firm_from = history.fills.len();
-                    }
-                }
-                Call::Offer { time, root, unit: own, premium, .. } if numbers[2] > 0 => {
-                    history.fills.push(Fill { time, root, unit: own, premium, contracts: numbers[2] });
-                    for (place, rule) in (0..).zip(&rules) {
-                        for of_rule in units(rule) {
-                            let counted = history.counted(rule, of_rule, time);
-                            assert!(counted <= rule.limit, "seed {seed}, rule {place}");
-                            assert_eq!(unit.remaining(time, place, of_rule).numbers(), [0, rule.limit - counted]);
-                        }
-                    }
-                }
-                _ => {}
-            }
-        }
-    }
 }
 
 #[test]

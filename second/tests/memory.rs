@@ -1,7 +1,6 @@
 //! The state in lent numbers, held beside the map of docs/MEMORY.md and document 01's sentence on soundness.
 
 use second::gen;
-use second::lent::Lent;
 use second::memory::{read, write, Held};
 use second::place::*;
 use second::unit::Unit;
@@ -166,10 +165,11 @@ fn each_part_of_the_sentence_can_fail() {
         &[(TOTAL[3] + 2, 1_000_000_000_000_001)],
         &[(TOTAL[1], 1)],
         &[(TOTAL[2], 1)],
-        &[(TOTAL[2] + 3, 1)], // totals too large, some of rate rules
-        &[(LOG, 13 << 10)],   // entries out of order
-        &[(LOG, 10 << 10 | 2 << 4)],
-        &[(LOG, 1 << 37)], // an unknown root, spare bits
+        &[(TOTAL[2] + 3, 1)],   // totals too large, some of rate rules
+        &[(LOG, 13 << 10 | 3)], // entries out of order
+        &[(LOG, 10 << 10 | 2 << 4 | 3)],
+        &[(LOG, 1 << 37 | 3)],       // an unknown root, spare bits
+        &[(LOG, 10 << 10 | 3 << 2)], // an entry that counts for neither root nor firm
         &[(LOG + 1, 3)],
         &[(LOG + 1, 100_000_001 << 20 | 3)],
         &[(LOG + 1, 1 << 47 | 1 << 20 | 3)], // premium and what is above it
@@ -199,7 +199,8 @@ fn what_no_day_gives_may_still_be_sound() {
         &[(RULES, 100_000_000_000 << 27)],
         &[(RULES + 2, 1_000_000_000 << 27 | 86_400_000)],
         &[(TOTAL[0], 1_000_000_000_000_000), (TOTAL[3], 1_000_000_000_000_000), (TOTAL[3] + 3, 1_000_000_000_000_000)],
-        &[(LOG, 12 << 10 | 1 << 4), (LOG + 1, 100_000_000 << 20 | 1_000_000)],
+        &[(LOG, 12 << 10 | 1 << 4 | 1), (LOG + 1, 100_000_000 << 20 | 1_000_000)],
+        &[(LOG, 10 << 10 | 3 << 2 | 2)],
         &[(ENTRY_COUNT, 0), (LOG, 0), (LOG + 1, 0), (LOG + 2, 0), (LOG + 3, 0)],
     ];
     for changes in sound {
@@ -217,30 +218,10 @@ fn no_entry_without_a_rate_rule_and_no_unit_with_seven_rules() {
         for line in 0..rules as usize {
             numbers[RULES + 2 * line..][..2].copy_from_slice(&[9 << 27, 1 << 11 | 1 << 10 | 1 << 8]);
         }
-        numbers[LOG..][..2].copy_from_slice(&[entries * (5 << 10), entries * (1 << 20 | 1)]);
+        numbers[LOG..][..2].copy_from_slice(&[entries * (5 << 10 | 3), entries * (1 << 20 | 1)]);
         read(&numbers)
     };
     assert!(matches!(absolute(6, 0), Held::Sound(_)));
     assert_eq!(absolute(7, 0), Held::Unsound);
     assert_eq!(absolute(1, 1), Held::Unsound);
-}
-
-#[test]
-fn lent_numbers_are_refused_by_1_then_4_then_2() {
-    let mut lent = Lent::new(vec![0; NUMBERS + 2]);
-    assert_eq!(lent.ask(|unit| unit.status().numbers()), [4, 0, 0, 0, 0]);
-    lent.numbers_mut()[MARK] = 1;
-    assert_eq!(lent.ask(|unit| unit.status().numbers()), [2, 0, 0, 0, 0]);
-    assert_eq!(lent.arm(b"A,abs_vol,Q,5"), [3, 0, 0, 0, 0]);
-    lent.set_length(NUMBERS - 1);
-    assert_eq!(lent.change(|unit| unit.order(0, 0, 0).numbers()), [1, 0, 0, 0, 0]);
-    assert_eq!([lent.arm(b""), lent.clear()], [[1, 0, 0, 0, 0]; 2]);
-    assert_eq!(lent.numbers()[MARK], 1);
-    lent.set_length(NUMBERS);
-    assert_eq!(lent.clear(), [0; 5]);
-    lent.numbers_mut()[LOG] = 5;
-    assert_eq!(lent.arm(b"A,abs_vol,Q"), [6, 1, 0, 0, 0]);
-    assert_eq!(lent.numbers()[LOG], 5, "a refusal changes nothing");
-    assert_eq!(lent.arm(b"A,abs_vol,Q,5"), [0, 0, 0x41, 1, 1]);
-    assert_eq!(lent.numbers()[..NUMBERS], numbers_of(lent.clone().unit()));
 }

@@ -71,7 +71,9 @@ fn kind_3_and_wide_numbers() {
     not_written(Record { time: 86_400_000, ..none });
     not_written(Record { time: 1 << 27, ..none });
     not_written(Record { root: 64, ..none });
-    not_written(Record { reset: 4, ..none });
+    for reset in [4, 5, 6, 7, u64::MAX] {
+        not_written(Record { reset, ..none });
+    }
     not_written(Record { kind: LOCKOUT, level: 2, ..none });
     not_written(Record { unit: 4, ..EXAMPLE });
     not_written(Record { premium: u64::MAX, ..EXAMPLE });

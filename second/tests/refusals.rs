@@ -1,4 +1,4 @@
-//! The refusals of an armed unit's calls, and readings 9 to 11.
+//! The refusals of an armed unit's calls, and readings 9 and 10.
 
 mod common;
 
@@ -70,7 +70,7 @@ fn refusal_13_numbers_not_known() {
         refused(&unit, 13, |unit| unit.lockout(5, 1, number).numbers());
         assert_eq!(unit.remaining(5, number, 0).numbers(), [13, 0]);
     }
-    refused(&unit, 13, |unit| unit.order(5, 0, 4).numbers());
+    refused(&unit, 13, |unit| unit.order(5, 0, 7).numbers());
     refused(&unit, 13, |unit| unit.offer(5, 0, 4, 0, 0).numbers());
     refused(&unit, 13, |unit| unit.lockout(5, 2, 0).numbers());
 }
@@ -128,12 +128,4 @@ fn reading_10_longest_window_of_all_rules() {
     }
     refused(&unit, 15, |unit| unit.offer(4_999, 0, 0, 1, 1).numbers());
     assert_eq!(unit.offer(5_000, 0, 0, 1, 1).grant, 1);
-}
-
-#[test]
-fn reading_11_entries_without_flags_fill_the_log() {
-    let mut unit = full_log(1_000);
-    assert_eq!(unit.order(1, 0, 3).numbers(), [0, 0, 0, 0, 0]);
-    assert!(unit.armed.as_ref().unwrap().log.iter().all(|entry| !entry.counts_for_root && !entry.counts_for_firm));
-    refused(&unit, 15, |unit| unit.offer(2, 0, 0, 1, 1).numbers());
 }

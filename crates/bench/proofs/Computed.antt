@@ -12,9 +12,9 @@ use Rattle.machine.specs.Step.{accountsAfter, locksAfter, logAfter, partAfter, 
 use Rattle.rules.specs.Amounts.{numberOf as amountNumber, amountIn}
 use Rattle.laws.specs.Lists.{same}
 use Rattle.laws.specs.Folds.{every, sumOf, keep, anyOf}
-use Rattle.machine.specs.Effects.{effectOf, zeroing, lifting}
+use Rattle.machine.specs.Effects.{resets, effectOf, zeroing, lifting}
 use Rattle.machine.specs.Order.{wiped, unflagged, unflaggedLog, levelNamed}
-use Rattle.machine.specs.Entries.{flagOf, entryShare, recent}
+use Rattle.machine.specs.Entries.{flagOf, isFlagged, entryShare, recent}
 use Rattle.rules.specs.Valid.{hasRate}
 use Rattle.machine.specs.Calls.{Call, offer}
 use Rattle.machine.specs.Locks.{isTripped, isByUser, isLocked, verdictOf, lifted, trippedBy, lockedOut}
@@ -73,7 +73,7 @@ computed : (every fits (table ++ (examples ++ tried)) ≡ true)
     × (outcomeOf hundred .profile .rules ≡ hundredRule ∷ [])
     × (answersOf (armed (outcomeOf hundred .profile)) (offer forty ∷ offer forty ∷ offer forty ∷ [])
     ≡ Judged 0 40 false false ∷ Judged 0 40 false false ∷ Judged 0 20 true false ∷ [])
-unfolding every table examples tried refusedTexts readingOf seen wanted afterCall runFrom answersThen answersOf same bit withBit withoutBit either count here first standingOf levelNamed all onto pieces indexOf made numeral numberOf nameOf typeOf isAbsolute limitsOf limitOf kindOf timeOf letterOf malformed otherFirm outOfRange levelClash unitClash faultOf scopeOf ruleOf lineOf withRoot rootsWith numbered joined howMany isFirmRule onUnit crowded tooMany afterLine readOn outcomeOf levelOf covers isRate counts countedOf executions added ceiling share zeroing lifting largest allowance trips unflagged flagOf entryShare sumOf keep recent hasRate unitsOf isUnitOf placeIn scopeFor ofUnit cellsBy cellsOf rulesIn noLocks fresh armed effectOf clockAfter isTripped isByUser isLocked verdictOf lifted trippedBy lockedOut wiped unflaggedLog counted coversOffer grantOf anyOf sameLevel levelTrips credited windowOf longest entryOf joinedLog used logFull firstOf badTime isRoot refusalOf leftOf ruleAt isCell cellAt accountAt accountFor noAccount standing accountsAfter locksAfter logAfter partAfter after grantedSo offered ordered judged unless judge stepIn step amountNumber amountIn numbers
+unfolding every table examples tried refusedTexts readingOf seen wanted afterCall runFrom answersThen answersOf same bit withBit withoutBit either count here first standingOf levelNamed all onto pieces indexOf made numeral numberOf nameOf typeOf isAbsolute limitsOf limitOf kindOf timeOf letterOf malformed otherFirm outOfRange levelClash unitClash faultOf scopeOf ruleOf lineOf withRoot rootsWith numbered joined howMany isFirmRule onUnit crowded tooMany afterLine readOn outcomeOf levelOf covers isRate counts countedOf executions added ceiling share zeroing lifting largest allowance trips unflagged isFlagged flagOf entryShare sumOf keep recent hasRate unitsOf isUnitOf placeIn scopeFor ofUnit cellsBy cellsOf rulesIn noLocks fresh armed resets effectOf clockAfter isTripped isByUser isLocked verdictOf lifted trippedBy lockedOut wiped unflaggedLog counted coversOffer grantOf anyOf sameLevel levelTrips credited windowOf longest entryOf joinedLog used logFull firstOf badTime isRoot refusalOf leftOf ruleAt isCell cellAt accountAt accountFor noAccount standing accountsAfter locksAfter logAfter partAfter after grantedSo offered ordered judged unless judge stepIn step amountNumber amountIn numbers
 computed = (refl, refl, refl, refl, refl, refl, refl)
 
 pub rows-fit : every fits (table ++ (examples ++ tried)) ≡ true

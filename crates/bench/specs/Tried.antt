@@ -1,4 +1,4 @@
--- Rows beyond document 01's table: rules of one unit, units that count for themselves, FIRM and BOTH, lockouts at both levels, Status, verdict 1, the refusals 12 to 14, a profile
+-- Rows beyond document 01's table: rules of one unit, units that count for themselves, FIRM and BOTH, T and E, lockouts at both levels, Status, verdict 1, the refusals 12 to 14, a profile
 -- of firm rules alone; and texts that Arm refuses. Assumes nothing.
 use Prim.Native.Nat.{ℕ, _≤_}
 use Prim.Native.String.{String}
@@ -92,6 +92,46 @@ tried =
           ∷ leaves 9 1 15
           ∷ [];
     }
+    -- T unlocks the root and forgets nothing: what remains is the same, the next offer on the unit at its limit gets 0 and trips again, and an offer
+    -- on another unit is neither cut nor trips; T lifts a lockout too
+    ∷ record {
+      text = "ABCD,abs_vol,XYZ,10";
+      windows = 0 ∷ [];
+      day =
+          at 0 1 10 (grants 10 1 0)
+          ∷ ordered 1 0 2
+          ∷ leaves 1 0 0
+          ∷ ordered 2 4 0
+          ∷ leaves 2 0 0
+          ∷ fill 3 0 1 1 3 (grants 3 0 0)
+          ∷ at 4 1 1 (grants 0 1 0)
+          ∷ ordered 5 0 2
+          ∷ locksOut 6 0
+          ∷ ordered 7 5 2
+          ∷ ordered 8 4 0
+          ∷ stands 0 0 0 64
+          ∷ [];
+    }
+    -- E does so for the firm, and leaves the root locked; 6 is both
+    ∷ record {
+      text = "ABCD,abs_vol,XYZ,20\nABCD,abs_vol,,15,,T";
+      windows = 0 ∷ 0 ∷ [];
+      day =
+          at 0 1 15 (grants 15 0 1)
+          ∷ ordered 1 4 1
+          ∷ leaves 1 1 0
+          ∷ ordered 2 5 0
+          ∷ leaves 2 1 0
+          ∷ at 3 1 1 (grants 0 0 1)
+          ∷ locksOut 4 0
+          ∷ locksOut 4 1
+          ∷ ordered 5 5 2
+          ∷ locksOut 6 1
+          ∷ ordered 7 6 0
+          ∷ leaves 7 0 5
+          ∷ leaves 7 1 0
+          ∷ [];
+    }
     -- lockouts at both levels, and how two roots stand
     ∷ record {
       text = "ABCD,abs_vol,XYZ,10\nABCD,abs_vol,QRS,10";
@@ -119,7 +159,7 @@ tried =
           ∷ refused (order 4 0 0) 12
           ∷ refused (order 86_400_000 9 9) 12
           ∷ refused (order 5 1 0) 13
-          ∷ refused (order 5 0 4) 13
+          ∷ refused (order 5 0 7) 13
           ∷ refused (lockout 5 2 0) 13
           ∷ refused (lockout 5 1 1) 13
           ∷ refused (lockout 5 0 1) 13

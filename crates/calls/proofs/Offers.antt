@@ -22,7 +22,6 @@ use Rattle.machine.specs.Locks.{verdictOf}
 use Rattle.machine.specs.Offers.{grantOf, levelTrips, longest}
 use Rattle.laws.specs.Folds.{keep}
 use Rattle.machine.specs.Judge.{logPlaces, grantedSo, offered, judged, isRefusal}
-use Rattle.log.proofs.Turns.{keep-most}
 use Rattle.state.specs.State.{decode, stored}
 use Rattle.state.specs.Laid.{Laid, withClock}
 use Rattle.state.specs.Tests.{logPart}
@@ -32,7 +31,7 @@ use Rattle.machine.specs.declared.Offer.{Offer}
 use Rattle.machine.specs.declared.Answer.the-variants.{Judged}
 use Rattle.machine.specs.Deeds.{granted, filling, clockAfter}
 use Rattle.machine.specs.Step.{after, partAfter, accountsAfter, locksAfter, logAfter}
-use Rattle.machine.proofs.Lists.{ordered-wider}
+use Rattle.machine.proofs.Lists.{ordered-wider, keep-le}
 use Rattle.grant.specs.Grant.{Asked, AreCuts, Ready, HasRoom}
 use Rattle.grant.specs.declared.Cuts.{Cuts}
 use Rattle.grant.proofs.Trip.{grant-cuts}
@@ -55,7 +54,7 @@ module _ (xs : List ℕ) (h : Laid xs) (o : Offer) (n : ℕ) (e : n ≡ longest 
   full-few k many few =
       let es = decode xs .log in
       let inside = keep (isRecent (longest (rulesIn (decode xs))) (o .time)) es in
-      let less : length inside < 512 = omega (arith, keep-most (isRecent (longest (rulesIn (decode xs))) (o .time)) es, many) in
+      let less : length inside < 512 = omega (arith, keep-le (isRecent (longest (rulesIn (decode xs))) (o .time)) es, many) in
       rw (lt-leb 512 (length inside) less, and-false)
 
   pub full-none : n ≡ 0 → false ≡ isFull (decode xs) o

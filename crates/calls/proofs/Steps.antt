@@ -11,6 +11,7 @@ use borrow.Author.Tests.{ne-eqb, ltb-true, eqb-true}
 use Rattle.laws.specs.Folds.{every}
 use Rattle.rules.specs.Valid.{isRule}
 use Rattle.machine.specs.State.{Profile, State, rootsIn}
+use Rattle.machine.specs.Entries.{isFlagged}
 use Rattle.machine.specs.Calls.{Call, order, lockout, remaining, status}
 use Rattle.machine.specs.Deeds.{resetting}
 use Rattle.machine.specs.Effects.{effectOf}
@@ -36,6 +37,9 @@ done xs call = after (judged (decode xs) call .deed) (decode xs)
 module _ (xs : List ℕ) (ready : memoryRefusal xs ≡ 0) where
   pub laid : Laid xs
   laid = sound-is-laid xs (sound-memory xs ready)
+
+  pub flagged : every isFlagged (decode xs .log) ≡ true
+  flagged = sound-decode xs (sound-memory xs ready) .flagged
 
   -- the machine refuses, and nothing changes; or it acts
   module _ (call : Call) where

@@ -128,7 +128,7 @@ fn order_refusal(m: &[u64], time: u64, root: u64, reset: u64) -> u64
     if refusal != 0 {
         return refusal;
     }
-    if !((root < state::roots_in(m)) & (reset <= 3)) {
+    if !((root < state::roots_in(m)) & (reset <= 6)) {
         return 13;
     }
     0

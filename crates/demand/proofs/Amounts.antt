@@ -21,7 +21,7 @@ use Rattle.machine.specs.Order.{wiped}
 use Rattle.machine.specs.Offers.{counted, coversOffer, grantOf, credited, longest}
 use Rattle.machine.specs.Step.{accountsAfter, logAfter, partAfter, after}
 use Rattle.machine.proofs.Grants.{grant-fits}
-use Rattle.machine.proofs.Sound.{Meets}
+use Rattle.machine.proofs.Meets.{Meets}
 use Rattle.demand.specs.History.{timeOf, amountOf, zeroes}
 use Rattle.demand.specs.Locked.{countedIn}
 use Rattle.demand.proofs.Lists.{none-either, all-imp, all-imp₂, all-map, all-unmap}

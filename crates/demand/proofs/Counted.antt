@@ -29,7 +29,9 @@ use Rattle.machine.specs.Order.{wiped, unflagged, unflaggedLog}
 use Rattle.machine.specs.Entries.{flagOf, entryShare, recent}
 use Rattle.machine.specs.Offers.{counted, coversOffer, credited, windowOf, longest, entryOf, joinedLog}
 use Rattle.machine.specs.declared.Offer.{Offer}
-use Rattle.demand.proofs.Lists.{none-either, sum-append, sum-one, sum-map, sum-ext, sum-cond, sum-keep}
+use Rattle.machine.proofs.Lists.{sum-keep}
+use Rattle.machine.proofs.Flags.{sum-flagged}
+use Rattle.demand.proofs.Lists.{none-either, sum-append, sum-one, sum-map, sum-ext, sum-cond}
 
 -- what a cleared flag counts: nothing where the reset clears it, else what it did
 gone : (z f : Bool) (n : ℕ) → cond (not z && f) n 0 ≡ cond z 0 (cond f n 0)
@@ -79,13 +81,14 @@ counted-reset zeroes log t a = go (a .rule .kind)
     off : Bool
     off = zeroes (levelOf (a .rule .scope))
 
-    logged : sumOf (entryShare (a .rule) t) (map (unflagged zeroes) log) ≡ cond off 0 (sumOf (entryShare (a .rule) t) log)
+    logged : sumOf (entryShare (a .rule) t) (unflaggedLog zeroes log) ≡ cond off 0 (sumOf (entryShare (a .rule) t) log)
     logged =
-        sum-map (unflagged zeroes) (entryShare (a .rule) t) log
-        ∙ (sum-ext (share-unflagged zeroes (a .rule) t) log ∙ sum-cond off (entryShare (a .rule) t) log)
+        sum-flagged (a .rule) t (map (unflagged zeroes) log)
+        ∙ (sum-map (unflagged zeroes) (entryShare (a .rule) t) log
+        ∙ (sum-ext (share-unflagged zeroes (a .rule) t) log ∙ sum-cond off (entryShare (a .rule) t) log))
 
     go : (kind : Kind)
-        → countedOf kind (numberOf (cond off (amountIn (a .rule .limit) 0) (a .total))) (sumOf (entryShare (a .rule) t) (map (unflagged zeroes) log))
+        → countedOf kind (numberOf (cond off (amountIn (a .rule .limit) 0) (a .total))) (sumOf (entryShare (a .rule) t) (unflaggedLog zeroes log))
         ≡ cond off 0 (countedOf kind (numberOf (a .total)) (sumOf (entryShare (a .rule) t) log))
     go (Rate w) = logged
     go Absolute = number-wiped off (a .rule .limit) (a .total)

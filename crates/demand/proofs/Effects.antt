@@ -9,6 +9,7 @@ use native.Mathlib.Nat.{pow-suc}
 use native.Mathlib.Omega.{arith}
 use Rattle.bits.specs.Locks.{withoutBit}
 use Rattle.bits.proofs.Words.{without-sets, again, exchange}
+use Rattle.laws.specs.Folds.{keep}
 use Rattle.rules.specs.Rules.{levelOf}
 use Rattle.rules.specs.declared.Level.{Level}
 use Rattle.rules.specs.declared.Level.the-variants.{Firm, Root}
@@ -21,8 +22,11 @@ use Rattle.machine.specs.declared.Effect.{Effect}
 use Rattle.machine.specs.Effects.{zeroing, lifting}
 use Rattle.machine.specs.Deeds.{resetting, clockAfter}
 use Rattle.machine.specs.Locks.{lifted}
+use Rattle.machine.specs.Entries.{isFlagged}
 use Rattle.machine.specs.Order.{wiped, unflagged, unflaggedLog}
 use Rattle.machine.specs.Step.{accountsAfter, locksAfter, logAfter, partAfter, after}
+use Rattle.machine.proofs.Lists.{keep-map}
+use Rattle.machine.proofs.Flags.{still-gone}
 
 -- levels of either sort
 abbrev ofEither : (Level → Bool) → (Level → Bool) → Level → Bool
@@ -61,7 +65,9 @@ map-both f g h same xs = map-map f g xs ∙ map-congr-left {l = xs} (λ a m. sam
 
 log-both : (z′ z : Level → Bool) (log : List Entry) → unflaggedLog z′ (unflaggedLog z log) ≡ unflaggedLog (ofEither z′ z) log
 unfolding unflaggedLog
-log-both z′ z log = map-both (unflagged z′) (unflagged z) (unflagged (ofEither z′ z)) (unflagged-unflagged z′ z) log
+log-both z′ z log =
+    keep-map isFlagged (unflagged z′) (still-gone z′) (map (unflagged z) log)
+    ∙ ap (keep isFlagged) (map-both (unflagged z′) (unflagged z) (unflagged (ofEither z′ z)) (unflagged-unflagged z′ z) log)
 
 -- a reset that zeroes the counters of the levels z, lifts the firm's marks if y, and changes both words by f
 abbrev resetBy : State → ℕ → (Level → Bool) → Bool → (ℕ → ℕ) → State

@@ -13,7 +13,7 @@ use Rattle.machine.specs.Refusals.{refusalOf}
 use Rattle.machine.specs.Step.{locksAfter, partAfter, after}
 use Rattle.machine.specs.Judge.{ordered, judged}
 use Rattle.machine.proofs.Refusals.{orderable, accepted, askable}
-use Rattle.machine.proofs.Sound.{Meets}
+use Rattle.machine.proofs.Meets.{Meets}
 use Rattle.demand.specs.Answers.{verdictIn, offerAnswer, answerIn}
 use Rattle.demand.proofs.Keeps.{deed-keeps}
 use Rattle.demand.proofs.Invariant.{Inv}

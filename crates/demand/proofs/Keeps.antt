@@ -7,7 +7,7 @@ use Rattle.machine.specs.State.{Profile, State}
 use Rattle.machine.specs.Deeds.{Deed, nothing, passing, filling, resetting, lockingOut, clockAfter}
 use Rattle.machine.specs.Step.{partAfter, after}
 use Rattle.machine.proofs.Keeps.{same-rules}
-use Rattle.machine.proofs.Sound.{Meets}
+use Rattle.machine.proofs.Meets.{Meets}
 use Rattle.demand.specs.Answers.{since}
 use Rattle.demand.proofs.Invariant.{clockIn, Inv}
 use Rattle.demand.proofs.Amounts.{right-after, kept-after}

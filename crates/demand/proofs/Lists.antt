@@ -1,6 +1,6 @@
 -- Lists: a property of every element, sums, and tests. Assumes nothing.
 use Prim.Native.Nat.{ℕ, zero, suc, _+_, _<_}
-use mathlib.Core.Path.{_≡_, refl, sym, ap, ap₂, _∙_, subst⁻¹}
+use mathlib.Core.Path.{_≡_, refl, sym, ap, ap₂, subst⁻¹}
 use mathlib.Core.Logic.{_↔_}
 use mathlib.Core.Bool.{Bool, true, false, cond, _&&_, _||_, false≢true, and-false, or-true}
 use mathlib.Core.List.{List, [], _∷_, _++_, map, List·Memᴰ, List·Memᴰ·head, List·Memᴰ·tail}
@@ -65,16 +65,6 @@ module _ {A : Type 0} where
       go : (b : Bool) → cond b 0 (f x) + cond b 0 (sumOf f xs) ≡ cond b 0 (f x + sumOf f xs)
       go true = refl
       go false = refl
-
-  -- what adds nothing may go
-  pub sum-keep : (p : A → Bool) (f : A → ℕ) → ((a : A) → p a ≡ false → f a ≡ 0) → (xs : List A) → sumOf f (keep p xs) ≡ sumOf f xs
-  unfolding sumOf keep
-  sum-keep p f h [] = refl
-  sum-keep p f h (x ∷ xs) = go (p x) refl (sum-keep p f h xs)
-    where
-      go : (b : Bool) → p x ≡ b → sumOf f (keep p xs) ≡ sumOf f xs → sumOf f (keep p (x ∷ xs)) ≡ sumOf f (x ∷ xs)
-      go true e ih = rw e (ap (λ n. f x + n) ih)
-      go false e ih = rw (e, h x e) (ih ∙ omega arith)
 
   pub any-none : (p : A → Bool) → ((a : A) → p a ≡ false) → (xs : List A) → anyOf p xs ≡ false
   unfolding anyOf

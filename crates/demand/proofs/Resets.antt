@@ -1,4 +1,4 @@
--- Orders at one time: any two may be exchanged, and SYMBOL and FIRM of one root leave what BOTH leaves. Assumes nothing.
+-- Orders at one time: any two may be exchanged, SYMBOL and FIRM of one root leave what BOTH leaves, and T and E what 6 leaves. Assumes nothing.
 use Prim.Native.Nat.{ℕ}
 use mathlib.Core.Path.{_≡_, refl, sym, ap, _∙_}
 use mathlib.Core.Bool.{Bool, true, false, not, cond, _&&_}
@@ -10,7 +10,7 @@ use Rattle.laws.specs.Tests.{and-l}
 use Rattle.measures.specs.Ranges.{isIn, times}
 use Rattle.machine.specs.State.{State}
 use Rattle.machine.specs.declared.Effect.{Effect}
-use Rattle.machine.specs.Effects.{effectOf, lastReset}
+use Rattle.machine.specs.Effects.{resets, effectOf, lastReset}
 use Rattle.machine.specs.Deeds.{resetting, clockAfter}
 use Rattle.machine.specs.Calls.{order}
 use Rattle.machine.specs.Refusals.{firstOf, badTime, isRoot, refusalOf}
@@ -80,15 +80,24 @@ module _ (s : State) (t root : ℕ) where
       ∙ (joined s t root (effectOf first) (effectOf second)
       ∙ (ap (λ (x : Effect). after (resetting t root x) s) e ∙ sym (accepted-left s t root third h)))
 
-  -- the same reset twice leaves what it afterOrder once
+  -- the same reset twice leaves what it left once
   pub once-more : (reset : ℕ) → leb reset lastReset ≡ true → NotRefused s t root reset → afterOrder (afterOrder s t root reset) t root reset ≡ afterOrder s t root reset
   once-more reset k h = orders-joined reset reset reset (both-self (effectOf reset)) k k h
 
   -- SYMBOL and then FIRM leaves what BOTH leaves, and so does FIRM and then SYMBOL
   pub symbol-firm : NotRefused s t root 3 → afterOrder (afterOrder s t root 1) t root 2 ≡ afterOrder s t root 3
-  unfolding both effectOf
+  unfolding both effectOf resets
   symbol-firm h = orders-joined 1 2 3 refl refl refl h
 
   pub firm-symbol : NotRefused s t root 3 → afterOrder (afterOrder s t root 2) t root 1 ≡ afterOrder s t root 3
-  unfolding both effectOf
+  unfolding both effectOf resets
   firm-symbol h = orders-joined 2 1 3 refl refl refl h
+
+  -- T and then E leaves what 6 leaves, and so does E and then T
+  pub t-e : NotRefused s t root 6 → afterOrder (afterOrder s t root 4) t root 5 ≡ afterOrder s t root 6
+  unfolding both effectOf resets
+  t-e h = orders-joined 4 5 6 refl refl refl h
+
+  pub e-t : NotRefused s t root 6 → afterOrder (afterOrder s t root 5) t root 4 ≡ afterOrder s t root 6
+  unfolding both effectOf resets
+  e-t h = orders-joined 5 4 6 refl refl refl h

@@ -12,7 +12,7 @@ use Rattle.machine.specs.Calls.{Call, order, lockout, offer, remaining, status}
 use Rattle.machine.specs.Refusals.{refusalOf}
 use Rattle.machine.specs.Step.{after}
 use Rattle.machine.specs.Judge.{Judgement, grantedSo, offered, ordered, judged, unless, judge, logPlaces, isRefusal}
-use Rattle.machine.proofs.Sound.{judge-meets}
+use Rattle.machine.proofs.Meets.{judge-meets}
 use Rattle.demand.specs.History.{ifAccepted, ifGranted, deedOf, contractsOf}
 use Rattle.demand.specs.Answers.{setsTo, grantedBy, Told}
 use Rattle.demand.proofs.Keeps.{deed-keeps}

@@ -20,7 +20,7 @@ use Rattle.machine.specs.Deeds.{Deed, nothing, passing, filling, resetting, loc
 use Rattle.machine.specs.Locks.{isTripped, isByUser}
 use Rattle.machine.specs.Offers.{coversOffer, sameLevel, levelTrips}
 use Rattle.machine.specs.Step.{locksAfter}
-use Rattle.machine.proofs.Sound.{Meets}
+use Rattle.machine.proofs.Meets.{Meets}
 use Rattle.demand.specs.History.{lifts}
 use Rattle.demand.specs.Locked.{tripsOn, locksOut, ruleTrips}
 use Rattle.demand.proofs.Lists.{any-none}

@@ -52,6 +52,6 @@ Since lift sets deeds =
     (later : List Deed) × (deed : Deed) × (earlier : List Deed) × (deeds ≡ later ++ (deed ∷ earlier)) × NoneOf lift later
     × (sets deed earlier ≡ true)
 
--- a level is locked: some deed locked it, and no reset since has lifted that
+-- a level is locked: some deed locked it, and no reset since, whether it zeroes or only unlocks, has lifted that
 abbrev pub LockedBy : List Rule → Level → List Deed → Type 0
 LockedBy rules level deeds = Since (lifts level) (locks rules level) deeds

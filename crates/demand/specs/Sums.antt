@@ -1,4 +1,4 @@
--- The fills of any stretch of time between resets stay within each limit; demand 3 asks it of each rule as it counts for each of its units.
+-- The fills of any stretch of time between resets that zero stay within each limit; demand 3 asks it of each rule as it counts for each of its units.
 -- Assumes nothing.
 use Prim.Native.Nat.{ℕ, _+_, _≤_}
 use mathlib.Core.Path.{_≡_}
@@ -22,7 +22,8 @@ unfoldable pub sumIn : Rule → ℕ → List Deed → ℕ
 sumIn rule start [] = 0
 sumIn rule start (deed ∷ earlier) = cond (inStretch (rule .kind) start (timeOf deed)) (amountOf rule deed) 0 + sumIn rule start earlier
 
--- in every part of the history without a reset that zeroes the rule's level, in every stretch, the fills stay at or below the rule's limit
+-- in every part of the history without a reset that zeroes the rule's level (one that only unlocks may stand in it), in every stretch, the fills stay
+-- at or below the rule's limit
 unfoldable pub Within : Rule → List Deed → Type 0
 Within rule deeds =
     (later part earlier : List Deed) → deeds ≡ later ++ (part ++ earlier) → NoneOf (zeroes (levelOf (rule .scope))) part

@@ -16,6 +16,7 @@ use Rattle.rules.specs.declared.Kind.{Kind}
 use Rattle.rules.specs.declared.Kind.the-variants.{Rate}
 use Rattle.machine.specs.Entries.{isEntry, areOrdered, recent}
 use Rattle.laws.specs.Folds.{every, keep}
+use Rattle.machine.proofs.Lists.{keep-le}
 use Rattle.tables.proofs.Tables.{length-flat, length-places}
 use Rattle.tables.proofs.EntryPlace.{entry-ranged}
 use Rattle.log.specs.Log.{Held, entriesOf, Last, Kept}
@@ -24,7 +25,7 @@ use Rattle.log.specs.Sieve.{firstTime}
 use Rattle.log.proofs.Logs.{codec, held-valid, held-table}
 use Rattle.log.proofs.Newest.{newest-many, newest-kept, few-looked-at}
 use Rattle.log.proofs.Sifting.{still-counts}
-use Rattle.log.proofs.Turns.{flat-append, keep-most, all-kept, more}
+use Rattle.log.proofs.Turns.{flat-append, all-kept, more}
 
 -- the entries that still count for a kind at a time are those that are not before the first time that does
 counts-since : (kind : Kind) (time : ℕ) (es : List Entry) → every (isEntry 64) es ≡ true → keep (λ e. counts kind (e .time) time) es ≡ keep (isSince (firstTime kind time)) es
@@ -56,7 +57,7 @@ module _ (window time k : ℕ) (xs : List ℕ) (held : Held k xs) (ordered : are
       let many = newest-many first 0 time es ordered in
       record {
         count = is ∙ many ∙ ap length (sym recent-since);
-        most = omega (arith, is, many, keep-most (isSince first) es, long);
+        most = omega (arith, is, many, keep-le (isSince first) es, long);
         last = recent-since ∙ newest-kept first 0 time es ordered ∙ (λ j. drop (long j - sym is j) es);
       }
 

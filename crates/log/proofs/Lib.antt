@@ -4,6 +4,7 @@ pub mod Sums
 pub mod Sifting
 pub mod Flags
 pub mod Turns
+pub mod Unflagging
 pub mod Memos
 pub mod Newest
 pub mod Leaving

@@ -1,26 +1,24 @@
 -- A log that holds entries: each is in range, and its numbers are the table of them. Assumes nothing.
-use Prim.Native.Nat.{ℕ, _+_, _*_, _≤_, _<_}
-use mathlib.Core.Path.{_≡_, sym, ap, _∙_, subst}
+use Prim.Native.Nat.{ℕ, zero, suc, _+_, _*_, _≤_, _<_}
+use mathlib.Core.Path.{_≡_, refl, sym, ap, _∙_, subst}
 use mathlib.Core.Bool.{Bool, true, false, _&&_}
-use mathlib.Core.List.{List, [], _∷_, _++_, map, append-nil}
+use mathlib.Core.List.{List, [], _∷_, _++_, append-nil}
 use native.Mathlib.Omega.{arith}
-use lib.ListN.{length, getD, take, drop, set, length-map, drop-of-length-le}
+use lib.ListN.{length, getD, take, drop, set, drop-of-length-le}
 use lib.Seq.{take-all}
 use borrow.Author.Tests.{lt-leb, le-leb}
 use Rattle.laws.specs.Tests.{and-l, and-r, and-i}
 use Rattle.laws.specs.Lists.{same, same-eq}
 use Rattle.tables.specs.Tables.{allZero, places, isPlace, placesPass}
 use Rattle.laws.specs.Folds.{every}
-use Rattle.machine.specs.Entries.{isEntry, areOrdered}
+use Rattle.machine.specs.Entries.{isEntry, areOrdered, isFlagged}
 use Rattle.machine.specs.declared.Entry.{Entry}
-use Rattle.machine.specs.Order.{unflagged, unflaggedLog}
-use Rattle.rules.specs.declared.Level.{Level}
 use Rattle.tables.specs.EntryPlace.{entryAt, entryNumbers, isEntryPlace, logTable}
 use Rattle.tables.proofs.Parts.{two}
 use Rattle.tables.proofs.Tables.{Codec, is-table, valid-places, length-table, length-places, place-table, places-table, rest-table}
 use Rattle.tables.proofs.Passing.{pass-each, each-pass}
 use Rattle.tables.proofs.EntryPlace.{entry-codec, entry-wider}
-use Rattle.log.specs.Log.{entriesHold, logHolds, Held, HeldIn, entriesOf, placesIn, entriesIn, logNumbers}
+use Rattle.log.specs.Log.{isLogPlace, entriesHold, logHolds, Held, HeldIn, entriesOf, placesIn, entriesIn, logNumbers}
 
 -- an entry of at most 64 roots in its place
 pub codec : Codec 2 (isEntry 64) entryAt entryNumbers
@@ -55,18 +53,50 @@ module _ {k : ℕ} {xs : List ℕ} (h : Held k xs) where
   pub held-table : xs ≡ logTable (entriesOf k xs)
   held-table = is-table codec 512 k xs (h .size) (pass-each 2 (isEntryPlace 64) k xs (h .entries)) (h .rest)
 
+-- entries in order of time, none later than the clock, each with a flag
+abbrev pub areLogged : ℕ → List Entry → Bool
+areLogged clock es = areOrdered 0 clock es && every isFlagged es
+
+-- the test by its parts: the first places are those of entries, these are so, and the other places are 0
+pass-flagged : (n k : ℕ) (xs : List ℕ) → placesPass 2 (isLogPlace n) k xs ≡ (placesPass 2 (isEntryPlace n) k xs && every isFlagged (places 2 entryAt k xs))
+unfolding placesPass places every isLogPlace
+pass-flagged n zero xs = refl
+pass-flagged n (suc k) xs = rw (pass-flagged n k (drop 2 xs)) (swap (isEntryPlace n xs) (isFlagged (entryAt xs)) _ _)
+  where
+    swap : (a b c d : Bool) → ((a && b) && (c && d)) ≡ ((a && c) && (b && d))
+    swap true true c d = refl
+    swap true false true d = refl
+    swap true false false d = refl
+    swap false b c d = refl
+
+pub holds-parts : (n clock k : ℕ) (xs : List ℕ)
+    → entriesHold n clock k xs
+    ≡ (placesPass 2 (isEntryPlace n) k xs && areLogged clock (entriesOf k xs) && allZero (drop (k * 2) xs))
+unfolding entriesHold
+holds-parts n clock k xs =
+    let es = entriesOf k xs in
+    ap (λ (b : Bool). b && areOrdered 0 clock es && allZero (drop (k * 2) xs)) (pass-flagged n k xs)
+    ∙ ap (λ (b : Bool). b && allZero (drop (k * 2) xs)) (turn (placesPass 2 (isEntryPlace n) k xs) (every isFlagged es) (areOrdered 0 clock es))
+  where
+    turn : (a b c : Bool) → ((a && b) && c) ≡ (a && (c && b))
+    turn true true true = refl
+    turn true true false = refl
+    turn true false true = refl
+    turn true false false = refl
+    turn false b c = refl
+
 -- a log that passes the test holds entries, and so does the table of entries in range
 pub log-held : (n clock k : ℕ) (xs : List ℕ) → n ≤ 64 → length xs ≡ 1024 → k ≤ 512 → entriesHold n clock k xs ≡ true → Held k xs
-unfolding entriesHold
+unfolding entriesHold isLogPlace
 log-held n clock k xs few size fits h =
-    let pass = placesPass 2 (isEntryPlace n) k xs in
+    let pass = placesPass 2 (isLogPlace n) k xs in
     let ordered = areOrdered 0 clock (places 2 entryAt k xs) in
     let rest = allZero (drop (k * 2) xs) in
-    let each = pass-each 2 (isEntryPlace n) k xs (and-l pass ordered (and-l (pass && ordered) rest h)) in
+    let each = pass-each 2 (isLogPlace n) k xs (and-l pass ordered (and-l (pass && ordered) rest h)) in
     record {
       size = size;
       fits = fits;
-      entries = each-pass 2 (isEntryPlace 64) k xs (λ i l. place-wider n (drop (i * 2) xs) few (each i l));
+      entries = each-pass 2 (isEntryPlace 64) k xs (λ i l. place-wider n (drop (i * 2) xs) few (and-l (isEntryPlace n (drop (i * 2) xs)) (isFlagged (entryAt (drop (i * 2) xs))) (each i l)));
       rest = and-r (pass && ordered) rest h;
     }
 
@@ -78,14 +108,9 @@ table-held es fits v = record {
   rest = rest-table codec 512 es;
 }
 
--- a table of the log with its count in front: the places that take the place of others, and a count with them
+-- a table of the log with its count in front: places that take the place of others, and a count with them
 nothing-after : (xs : List ℕ) → length xs ≡ 1024 → drop 1024 xs ≡ []
 nothing-after xs l = drop-of-length-le xs {i = 1024} (omega arith)
-
-pub put-table : (xs ys : List ℕ) (es : List Entry) → length xs ≡ 1025 → getD xs 0 0 ≡ length es → ys ≡ logTable es
-    → take 1 xs ++ (ys ++ drop 1024 (drop 1 xs)) ≡ logNumbers es
-put-table [] ys es l k e = absurd (omega arith)
-put-table (x ∷ xs) ys es l k e = (λ i. k i ∷ (e i ++ nothing-after xs (omega arith) i)) ∙ ap (λ (q : List ℕ). length es ∷ q) (append-nil (logTable es))
 
 pub set-table : (xs ys : List ℕ) (n : ℕ) (es : List Entry) → length xs ≡ 1025 → n ≡ length es → ys ≡ logTable es
     → set (take 1 xs ++ (ys ++ drop 1024 (drop 1 xs))) 0 n ≡ logNumbers es
@@ -116,10 +141,3 @@ pub numbers-entries : (es : List Entry) → length es ≤ 512 → every (isEntry
 numbers-entries es fits v =
     let h = table-held es fits v in
     ap (entriesOf (length es)) (take-all 1024 (logTable es) (omega (arith, h .size))) ∙ places-table codec 512 es v
-
--- the table without the flags of some levels, its count as it was
-pub put-unflagged : (zeroes : Level → Bool) (xs ys : List ℕ) → length xs ≡ 1025 → ys ≡ logTable (unflaggedLog zeroes (entriesIn xs))
-    → take 1 xs ++ (ys ++ drop 1024 (drop 1 xs)) ≡ logNumbers (unflaggedLog zeroes (entriesIn xs))
-unfolding unflaggedLog
-put-unflagged zeroes xs ys l e =
-    put-table xs ys (map (unflagged zeroes) (entriesIn xs)) l (sym (length-map (entriesIn xs) (unflagged zeroes) ∙ entries-many xs)) e

@@ -11,15 +11,15 @@ use borrow.Author.Tests.{leb-true, le-leb}
 use Rattle.laws.specs.Tests.{and-l, and-r, and-i, same-test, tests}
 use Rattle.measures.specs.Ranges.{isIn, times}
 use Rattle.tables.specs.Tables.{allZero, places, placesPass}
-use Rattle.tables.specs.EntryPlace.{entryAt, isEntryPlace}
+use Rattle.tables.specs.EntryPlace.{entryAt}
 use Rattle.tables.proofs.Passing.{pass-on, places-on}
-use Rattle.log.specs.Log.{entriesHold}
+use Rattle.log.specs.Log.{isLogPlace, entriesHold}
 use Rattle.machine.specs.Entries.{areOrdered}
 
 -- the places from i on hold entries in order, none earlier than `from`
 unfoldable pub leftHolds : ℕ → ℕ → ℕ → List ℕ → ℕ → ℕ → Bool
 leftHolds n clock k xs from i =
-    placesPass 2 (isEntryPlace n) (k - i) (drop (i * 2) xs) && areOrdered from clock (places 2 entryAt (k - i) (drop (i * 2) xs))
+    placesPass 2 (isLogPlace n) (k - i) (drop (i * 2) xs) && areOrdered from clock (places 2 entryAt (k - i) (drop (i * 2) xs))
 
 -- the same, and `from` itself is in range and not later than the clock
 abbrev pub fromHolds : ℕ → ℕ → ℕ → List ℕ → ℕ → ℕ → Bool
@@ -37,10 +37,10 @@ none true false = refl
 none false b = refl
 
 module _ (n clock k : ℕ) (xs : List ℕ) (from i time : ℕ) (rest : Bool) (is : entryAt (drop (i * 2) xs) .time ≡ time % 134_217_728)
-    (test : isEntryPlace n (drop (i * 2) xs) ≡ (isIn times time && rest)) (more : i < k) where
+    (test : isLogPlace n (drop (i * 2) xs) ≡ (isIn times time && rest)) (more : i < k) where
   -- the places after this one hold entries, in order from a time on
   abbrev passed : Bool
-  passed = placesPass 2 (isEntryPlace n) (k - (i + 1)) (drop ((i + 1) * 2) xs)
+  passed = placesPass 2 (isLogPlace n) (k - (i + 1)) (drop ((i + 1) * 2) xs)
 
   abbrev ordered : ℕ → Bool
   ordered t = areOrdered t clock (places 2 entryAt (k - (i + 1)) (drop ((i + 1) * 2) xs))

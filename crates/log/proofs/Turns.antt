@@ -1,28 +1,23 @@
 -- The log's entries rewritten in their places, one after the other, and the places after them set to 0. Assumes nothing.
 use Prim.Native.Nat.{ℕ, suc, _+_, _*_, _-_, _≤_, _<_, zero-le}
 use mathlib.Core.Path.{_≡_, refl, sym, ap, _∙_}
-use mathlib.Core.Logic.{_≢_}
-use mathlib.Core.Bool.{Bool, true, false, cond}
-use mathlib.Core.List.{List, [], _∷_, _++_, append-assoc, append-nil, map}
+use mathlib.Core.Bool.{true}
+use mathlib.Core.List.{List, [], _∷_, _++_, append-assoc, append-nil}
 use native.Mathlib.Numerals.{add-one}
 use native.Mathlib.Omega.{arith}
 use lib.ListN.{length, getD, take, drop, set, length-append, length-drop, drop-of-length-le}
-use lib.Seq.{sets, drop-cons, getD-append-add, getD-drop, set-at, set-comm, set-getD, append-snoc, take-at, drop-at, length-take-le}
-use Rattle.rules.specs.declared.Level.{Level}
+use lib.Seq.{sets, drop-cons, getD-append-add, getD-drop, set-at, append-snoc, take-at, drop-at, length-take-le}
 use Rattle.tables.specs.Tables.{zeros, flat, table}
-use Rattle.laws.specs.Folds.{every, keep}
+use Rattle.laws.specs.Folds.{every}
 use Rattle.laws.specs.Every.{every-first, every-drop, every-append, every-join}
 use Rattle.machine.specs.Entries.{isEntry, recent}
 use Rattle.machine.specs.declared.Entry.{Entry}
-use Rattle.machine.specs.Order.{unflagged}
-use Rattle.tables.specs.EntryPlace.{amountValues, entryAt, entryNumbers, isEntryPlace, logTable}
+use Rattle.tables.specs.EntryPlace.{entryAt, entryNumbers, isEntryPlace, logTable}
 use Rattle.shapes.proofs.Tables.{length-zeros}
 use Rattle.tables.proofs.Tables.{length-flat, length-places, length-table, place-table, read-table, put-at, put-next}
 use Rattle.tables.proofs.AllZero.{zeros-add}
 use Rattle.log.specs.Log.{Held, entriesOf, joined, Kept}
-use Rattle.log.specs.Sieve.{fillNumber, withoutFlags}
-use Rattle.log.proofs.Logs.{codec, place-numbers, held-valid, held-table}
-use Rattle.log.proofs.Flags.{unflagged-entry, unflagged-fill}
+use Rattle.log.proofs.Logs.{codec, held-valid, held-table}
 
 -- a list p and then another from p's length on: what stands past p, one more at p's end, and how long they are
 module _ {A : Type 0} (d : A) (p q : List A) (j : ℕ) (l : length p ≡ j) where
@@ -69,7 +64,7 @@ module _ {out : List Entry → List Entry} {k : ℕ} {xs : List ℕ} {i j : ℕ}
   pub turned-place : i < k → isEntryPlace 64 (drop (i * 2) ys) ≡ true
   turned-place l = ap (λ (l : List ℕ). isEntryPlace 64 (drop (i * 2) l)) (t .log) ∙ place-table codec 512 stands i (entryAt []) stands-valid (stands-long l)
 
-  turned-next : {e : Entry} → i < k → e ≡ entryAt (drop (i * 2) ys) → drop i (entriesOf k xs) ≡ e ∷ drop (i + 1) (entriesOf k xs)
+  pub turned-next : {e : Entry} → i < k → e ≡ entryAt (drop (i * 2) ys) → drop i (entriesOf k xs) ≡ e ∷ drop (i + 1) (entriesOf k xs)
   turned-next {e = e} l is =
       let d = entryAt [] in
       let es = entriesOf k xs in
@@ -85,7 +80,7 @@ module _ {out : List Entry → List Entry} {k : ℕ} {xs : List ℕ} {i j : ℕ}
       every-first (isEntry 64) e (drop (i + 1) es) (rw (turned-next l is) at (every-drop (isEntry 64) es i (held-valid h)))
 
   -- it leads to one entry, or to none
-  turned-put : {a : Entry} {zs : List ℕ} → i < k → isEntry 64 a ≡ true → out (drop i (entriesOf k xs)) ≡ a ∷ out (drop (i + 1) (entriesOf k xs))
+  pub turned-put : {a : Entry} {zs : List ℕ} → i < k → isEntry 64 a ≡ true → out (drop i (entriesOf k xs)) ≡ a ∷ out (drop (i + 1) (entriesOf k xs))
       → zs ≡ sets ys (j * 2) (entryNumbers a) → Turned out k xs (i + 1) (j + 1) zs
   unfolding every
   turned-put {a = a} {zs = zs} l ok gives is =
@@ -105,7 +100,7 @@ module _ {out : List Entry → List Entry} {k : ℕ} {xs : List ℕ} {i j : ℕ}
             ∙ put-at codec 512 rs j a long ∙ ap logTable (more d (t .made) es j (t .count) a inside);
       }
 
-  turned-skip : out (drop i (entriesOf k xs)) ≡ out (drop (i + 1) (entriesOf k xs)) → Turned out k xs (i + 1) j ys
+  pub turned-skip : out (drop i (entriesOf k xs)) ≡ out (drop (i + 1) (entriesOf k xs)) → Turned out k xs (i + 1) j ys
   turned-skip gives = record {
     made = t .made;
     count = t .count;
@@ -121,44 +116,8 @@ module _ {out : List Entry → List Entry} {k : ℕ} {xs : List ℕ} {i j : ℕ}
       let end : length (entriesOf k xs) ≤ i = rw (length-places codec k xs) l in
       drop-of-length-le (entriesOf k xs) end
 
-  turned-made : k ≤ i → out [] ≡ [] → t .made ≡ out (entriesOf k xs)
+  pub turned-made : k ≤ i → out [] ≡ [] → t .made ≡ out (entriesOf k xs)
   turned-made l none = sym (append-nil (t .made)) ∙ ap (λ (l : List Entry). t .made ++ l) (sym (ap out (over l) ∙ none)) ∙ t .whole
-
--- a number put first in a place is the whole place put, if the second is as it was
-first-put : (ys : List ℕ) (at f s : ℕ) → s ≡ getD ys (at + 1) 0 → set ys at f ≡ sets ys at (f ∷ s ∷ [])
-first-put ys at f s is =
-    let other : at ≢ suc at = λ e. omega arith in
-    sym (set-comm ys at (suc at) f s other ∙ ap (λ (l : List ℕ). set l at f) (ap (set ys (suc at)) (is ∙ rw (add-one at)) ∙ set-getD ys (suc at) 0))
-
-module _ (zeroes : Level → Bool) {k : ℕ} {xs : List ℕ} {i : ℕ} {ys : List ℕ} (h : Held k xs) (t : Turned (map (unflagged zeroes)) k xs i i ys) where
-  pub unflag-turn : {zs : List ℕ} → i < k → length ys ≡ 1024 → zs ≡ set ys (i * 2) (withoutFlags zeroes (getD ys (i * 2) 0))
-      → Turned (map (unflagged zeroes)) k xs (i + 1) (i + 1) zs
-  unfolding entryNumbers amountValues unflagged fillNumber
-  unflag-turn l size put =
-      let e = entryAt (drop (i * 2) ys) in
-      let valid = turned-entry h t l refl in
-      let numbers = place-numbers ys (i * 2) (omega (arith, h .fits)) (turned-place h t l) in
-      let fill : getD ys (i * 2) 0 ≡ fillNumber e = ap (λ (ns : List ℕ). getD ns 0 0) numbers in
-      let amount = ap (λ (ns : List ℕ). getD ns 1 0) numbers in
-      let cleared : withoutFlags zeroes (getD ys (i * 2) 0) ≡ fillNumber (unflagged zeroes e) = ap (withoutFlags zeroes) fill ∙ sym (unflagged-fill zeroes e valid) in
-      turned-put h t l (unflagged-entry zeroes e valid) (ap (map (unflagged zeroes)) (turned-next h t l refl))
-      (put ∙ ap (set ys (i * 2)) cleared ∙ first-put ys (i * 2) _ _ (sym amount))
-
-  pub unflag-done : k ≤ i → ys ≡ logTable (map (unflagged zeroes) (entriesOf k xs))
-  unflag-done l =
-      t .log ∙ ap (λ (es : List Entry). logTable (t .made ++ es)) (over h t l)
-      ∙ ap logTable (append-nil (t .made) ∙ turned-made h t l refl)
-
--- what passes a test is no more than all, and it is all where it is as many
-module _ {A : Type 0} (test : A → Bool) where
-  pub keep-most : (xs : List A) → length (keep test xs) ≤ length xs
-  unfolding keep
-  keep-most [] = zero-le
-  keep-most (x ∷ xs) = go (test x) (keep-most xs)
-    where
-      go : (b : Bool) → length (keep test xs) ≤ length xs → length (cond b (x ∷ keep test xs) (keep test xs)) ≤ suc (length xs)
-      go true l = omega arith
-      go false l = omega arith
 
 -- where all entries are inside the window nothing moves
 pub all-kept : {window time k : ℕ} {xs : List ℕ} → Held k xs → recent window time (entriesOf k xs) ≡ entriesOf k xs → Kept window time k xs xs k
@@ -193,22 +152,27 @@ blanked p q from n h a b =
     let left : n + m ≡ 512 * 2 - length p * 2 = omega (arith, length-append p q) in
     rw (split, take-at fp (fq ++ zeros m) from la, drop-at fp (fq ++ zeros m) from la, drop-at fq (zeros m) n lb, zeros-add n m, left)
 
+-- the entries p, which stand in front of the k in xs from place r on, are all that is left once the places up to the last used are set to 0
+pub rest-blanked : {k r : ℕ} {xs ys bs : List ℕ} → Held k xs → (p : List Entry) → length p ≡ r → r ≤ k → ys ≡ logTable (p ++ drop r (entriesOf k xs))
+    → bs ≡ zeros (length (take (k * 2 - r * 2) (drop (r * 2) ys)))
+    → take (r * 2) ys ++ (bs ++ drop (k * 2 - r * 2) (drop (r * 2) ys)) ≡ logTable p
+rest-blanked {k = k} {r = r} {xs = xs} {ys = ys} h p count most log is =
+    let es = entriesOf k xs in
+    let n = k * 2 - r * 2 in
+    let all = length-places codec k xs in
+    let long : length (p ++ drop r es) ≡ k = overlaid (entryAt []) p es r count (omega (arith, all)) ∙ all in
+    let size : length ys ≡ 1024 = ap length log ∙ length-table codec 512 (p ++ drop r es) (omega (arith, h .fits)) in
+    let many : length (take n (drop (r * 2) ys)) ≡ n = length-take-le n (drop (r * 2) ys) (omega (arith, length-drop (r * 2) ys, h .fits)) in
+    let rest : length (drop r es) * 2 ≡ n = omega (arith, length-drop r es) in
+    rw (is, many, log) (blanked p (drop r es) (r * 2) n (omega (arith, h .fits)) (ap (λ (m : ℕ). m * 2) count) rest)
+
 -- an entry put after those that stay, once the places after these are set to 0
 pub joined-log : {window time k r : ℕ} {xs ys bs : List ℕ} → Held k xs → Kept window time k xs ys r → (e : Entry) → r < 512
     → bs ≡ zeros (length (take (k * 2 - r * 2) (drop (r * 2) ys)))
     → sets (take (r * 2) ys ++ (bs ++ drop (k * 2 - r * 2) (drop (r * 2) ys))) (r * 2) (entryNumbers e) ≡ logTable (joined window time e (entriesOf k xs))
-joined-log {window = window} {time = time} {k = k} {r = r} {xs = xs} {ys = ys} h s e room is =
-    let es = entriesOf k xs in
-    let rs = recent window time es in
-    let n = k * 2 - r * 2 in
-    let all = length-places codec k xs in
-    let long : length (rs ++ drop r es) ≡ k = overlaid (entryAt []) rs es r (sym (s .count)) (omega (arith, s .most)) ∙ all in
-    let size : length ys ≡ 1024 = ap length (s .log) ∙ length-table codec 512 (rs ++ drop r es) (omega (arith, h .fits)) in
-    let many : length (take n (drop (r * 2) ys)) ≡ n = length-take-le n (drop (r * 2) ys) (omega (arith, length-drop (r * 2) ys, h .fits)) in
-    let rest : length (drop r es) * 2 ≡ n = omega (arith, length-drop r es) in
-    let blank : take (r * 2) ys ++ (zeros n ++ drop n (drop (r * 2) ys)) ≡ logTable rs =
-    rw (s .log) (blanked rs (drop r es) (r * 2) n (omega (arith, h .fits)) (ap (λ (m : ℕ). m * 2) (sym (s .count))) rest) in
-    rw (is, many, blank, s .count) (put-next codec 512 rs e (omega (arith, s .count)))
+joined-log {window = window} {time = time} {k = k} {xs = xs} h s e room is =
+    let rs = recent window time (entriesOf k xs) in
+    rw (rest-blanked h rs (sym (s .count)) (s .most) (s .log) is, s .count) (put-next codec 512 rs e (omega (arith, s .count)))
 
 -- numbers set to 0, one after the other
 pub zeros-more : (s : List ℕ) (i : ℕ) → i < length s → set (zeros i ++ drop i s) i 0 ≡ zeros (i + 1) ++ drop (i + 1) s

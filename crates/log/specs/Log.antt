@@ -8,11 +8,15 @@ use lib.Dec.{leb}
 use Rattle.tables.specs.Tables.{allZero, places, placesPass}
 use Rattle.tables.specs.EntryPlace.{entryAt, isEntryPlace, logTable}
 use Rattle.machine.specs.declared.Entry.{Entry}
-use Rattle.machine.specs.Entries.{areOrdered, recent}
+use Rattle.machine.specs.Entries.{areOrdered, isFlagged, recent}
 
--- the first k of the log's places hold entries of n roots, in order of time, none later than the clock, and the others 0
+-- a place of the log holds an entry of n roots that counts for its root or for the firm
+unfoldable pub isLogPlace : ℕ → List ℕ → Bool
+isLogPlace n xs = isEntryPlace n xs && isFlagged (entryAt xs)
+
+-- the first k of the log's places hold such entries, in order of time, none later than the clock, and the others 0
 unfoldable pub entriesHold : ℕ → ℕ → ℕ → List ℕ → Bool
-entriesHold n clock k xs = placesPass 2 (isEntryPlace n) k xs && areOrdered 0 clock (places 2 entryAt k xs) && allZero (drop (k * 2) xs)
+entriesHold n clock k xs = placesPass 2 (isLogPlace n) k xs && areOrdered 0 clock (places 2 entryAt k xs) && allZero (drop (k * 2) xs)
 
 -- the numbers of the log's 512 places: the first k places hold entries, of at most 64 roots, and the others 0
 pub record Held (k : ℕ) (xs : List ℕ) : Type 0 where
@@ -62,7 +66,7 @@ pub record Kept (window time k : ℕ) (xs ys : List ℕ) (r : ℕ) : Type 0 wher
   pub most : r ≤ k
   pub log : ys ≡ logTable (recent window time (entriesOf k xs) ++ drop r (entriesOf k xs))
 
--- ys holds those of the k entries in xs that are inside a window, and then e; r is how many these are
-pub record Joined (window time k : ℕ) (e : Entry) (xs ys : List ℕ) (r : ℕ) : Type 0 where
-  pub count : r ≡ length (joined window time e (entriesOf k xs))
-  pub log : ys ≡ logTable (joined window time e (entriesOf k xs))
+-- ys holds just these entries, and r is how many they are
+pub record Left (es : List Entry) (ys : List ℕ) (r : ℕ) : Type 0 where
+  pub count : r ≡ length es
+  pub log : ys ≡ logTable es

@@ -2,7 +2,7 @@
 use Prim.Native.Nat.{ℕ, _+_, _*_, _-_, _/_, _%_, min}
 use mathlib.Core.Bool.{Bool, cond, _&&_}
 use lib.Bits.{bitAnd}
-use lib.Dec.{eqb}
+use lib.Dec.{eqb, ltb}
 use Rattle.bits.specs.Fields.{packed}
 use Rattle.rules.specs.Rules.{added}
 use Rattle.rules.specs.declared.Level.{Level}
@@ -47,6 +47,10 @@ passes s e = isWanted s (fillNumber e) && isSince (s .from) e
 -- what an entry counts in a limit's measure, if it passes
 unfoldable pub sifted : Limit → Sieve → Entry → ℕ
 sifted limit s e = cond (passes s e) (added limit (e .premium .0) (e .contracts .0)) 0
+
+-- a first number has a flag: its two lowest digits are not both 0
+abbrev pub hasFlag : ℕ → Bool
+hasFlag fill = ltb 0 (fill % 4)
 
 -- the digits of the flags of these levels in the first number of a root's entry
 unfoldable pub flagDigits : (Level → Bool) → ℕ → ℕ

@@ -35,7 +35,7 @@ pub const PLACES: usize = 512;
 
 pub const SIZE: usize = 1 + 2 * PLACES;
 
-// Whether the first k places hold entries with so many roots, in order of time, none later than the clock, and the others 0.
+// Whether the first k places hold entries with so many roots, each with a flag, in order of time, none later than the clock, and the others 0.
 fn are_entries(log: &[u64], k: usize, roots: u64, clock: u64) -> bool
     requires { ⌜ (length (now log) ≡ 1024) × (k ≤ 512) ⌝ }
     ensures { λ r. ⌜ r ≡ entriesHold roots clock k (now (log .entry)) ⌝ }
@@ -49,7 +49,8 @@ fn are_entries(log: &[u64], k: usize, roots: u64, clock: u64) -> bool
         let second = log[at + 1];
         let time = first / 1024;
         // No way out of the loop before its end, so that the entries can be tested side by side.
-        good = good & (tables::is_entry_but_time(first, second, roots) & (from <= time));
+        good = good
+            & (tables::is_entry_but_time(first, second, roots) & (0 < first % 4) & (from <= time));
         from = time;
         i += 1;
     }
@@ -153,13 +154,14 @@ pub fn recalled(log: &[u64], rule: Rule, time: u64, before: Two) -> Two
     }
 }
 
-// Clears the flags of the log's entries that an effect for a root clears.
+// Clears the flags of the log's entries that an effect for a root clears: the entries that keep none leave the log.
 pub fn unflag(log: &mut [u64], root: u64, effect: Effect)
     requires { ⌜ HeldIn (now log) ⌝ }
     ensures { λ _. ⌜ now (log .exit) ≡ logNumbers (unflaggedLog (zeroing effect root) (entriesIn (now (log .entry)))) ⌝ }
 {
     let k = log[0] as usize;
-    clearing::unflag_places(&mut log[1..SIZE], k, root, effect);
+    let left = clearing::unflag_places(&mut log[1..SIZE], k, root, effect);
+    log[0] = left as u64;
 }
 
 // How many of the log's entries are inside a window at a time.

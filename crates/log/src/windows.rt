@@ -8,7 +8,7 @@ ghost use Prim.Native.Nat.{_+_, _*_, _≤_, _<_};
 ghost use lib.ListN.{length, take, drop};
 ghost use lib.Seq.{sets};
 ghost use Rattle.tables.specs.EntryPlace.{entryNumbers};
-ghost use Rattle.log.specs.Log.{Held, entriesOf, Last, Kept, Joined};
+ghost use Rattle.log.specs.Log.{Held, entriesOf, joined, Last, Kept, Left};
 ghost use Rattle.log.specs.Newest.{newest};
 use crate::blank;
 use crate::sieves::first_time;
@@ -81,7 +81,7 @@ fn put_entry(log: &mut [u64], i: usize, e: Entry)
 // The entries that are no longer inside a window at a time leave, and e joins. Returns how many there are then.
 pub(crate) fn join_places(log: &mut [u64], k: usize, window: u64, time: u64, e: Entry) -> usize
     requires { ⌜ Held k (now log) × (areOrdered 0 time (entriesOf k (now log)) ≡ true) × (isEntry 64 e ≡ true) × (length (recent window time (entriesOf k (now log))) < 512) ⌝ }
-    ensures { λ r. ⌜ Joined window time k e (now (log .entry)) (now (log .exit)) r ⌝ }
+    ensures { λ r. ⌜ Left (joined window time e (entriesOf k (now (log .entry)))) (now (log .exit)) r ⌝ }
 {
     let kept = keep(log, k, window, time);
     let from = kept * 2;

@@ -6,4 +6,9 @@ pub mod Units
 pub mod Walk
 pub mod Keeps
 pub mod Totals
+pub mod Effects
+pub mod Meets
+pub mod Logged
 pub mod Sound
+pub mod Flags
+pub mod Dropped

@@ -1,6 +1,6 @@
 -- Laws of lists: what every element passes, entries in order of time, what is kept of a list and what joins it. Assumes nothing.
-use Prim.Native.Nat.{ℕ, zero, suc, _*_, _≤_, _<_}
-use mathlib.Core.Path.{_≡_, refl, ap}
+use Prim.Native.Nat.{ℕ, zero, suc, _+_, _*_, _≤_, _<_}
+use mathlib.Core.Path.{_≡_, refl, ap, _∙_}
 use mathlib.Core.Bool.{Bool, true, false, cond, _&&_}
 use mathlib.Core.List.{List, [], _∷_, _++_, map}
 use lib.ListN.{length, getD}
@@ -15,6 +15,31 @@ use Rattle.machine.specs.declared.Entry.{Entry}
 use Rattle.machine.specs.Entries.{areOrdered}
 
 module _ {A : Type 0} where
+  -- what every kept element passes
+  pub keep-every : (test : A → Bool) (xs : List A) → every test (keep test xs) ≡ true
+  unfolding every keep
+  keep-every test [] = refl
+  keep-every test (x ∷ xs) = go (test x) refl (keep-every test xs)
+    where
+      go : (b : Bool) → test x ≡ b → every test (keep test xs) ≡ true → every test (cond b (x ∷ keep test xs) (keep test xs)) ≡ true
+      go true e h = rw e h
+      go false e h = h
+
+  -- a list whose elements all pass is kept whole
+  pub keep-all : (test : A → Bool) (xs : List A) → every test xs ≡ true → keep test xs ≡ xs
+  unfolding every keep
+  keep-all test [] h = refl
+  keep-all test (x ∷ xs) h = rw (and-l (test x) (every test xs) h) (ap (λ (l : List A). x ∷ l) (keep-all test xs (and-r (test x) (every test xs) h)))
+
+  pub keep-le : (test : A → Bool) (xs : List A) → length (keep test xs) ≤ length xs
+  unfolding keep
+  keep-le test [] = omega arith
+  keep-le test (x ∷ xs) = go (test x) (keep-le test xs)
+    where
+      go : (b : Bool) → length (keep test xs) ≤ length xs → length (cond b (x ∷ keep test xs) (keep test xs)) ≤ length (x ∷ xs)
+      go true h = omega arith
+      go false h = omega arith
+
   -- the test of every element, and the property of each
   pub every-all : (ok : A → Bool) (xs : List A) → every ok xs ≡ true → All (λ x. ok x ≡ true) xs
   unfolding every
@@ -32,6 +57,11 @@ module _ {A : Type 0} where
   map-at f (x ∷ xs) zero none d h = refl
   map-at f (x ∷ xs) (suc i) none d h = map-at f xs i none d (omega arith)
 
+  -- a function that leaves each element leaves the list
+  pub map-same : (f : A → A) → ((x : A) → f x ≡ x) → (xs : List A) → map f xs ≡ xs
+  map-same f same [] = refl
+  map-same f same (x ∷ xs) = λ i. same x i ∷ map-same f same xs i
+
   pub keep-append : (test : A → Bool) (xs ys : List A) → keep test (xs ++ ys) ≡ keep test xs ++ keep test ys
   unfolding keep
   keep-append test [] ys = refl
@@ -41,6 +71,31 @@ module _ {A : Type 0} where
       go true = refl
       go false = refl
 
+  -- two tests in either order
+  pub keep-swap : (test other : A → Bool) (xs : List A) → keep test (keep other xs) ≡ keep other (keep test xs)
+  unfolding keep
+  keep-swap test other [] = refl
+  keep-swap test other (x ∷ xs) = go (test x) refl (other x) refl (keep-swap test other xs)
+    where
+      go : (b : Bool) → test x ≡ b → (c : Bool) → other x ≡ c → keep test (keep other xs) ≡ keep other (keep test xs)
+          → keep test (cond c (x ∷ keep other xs) (keep other xs)) ≡ keep other (cond b (x ∷ keep test xs) (keep test xs))
+      go true eb true ec h = rw (eb, ec) (ap (λ (l : List A). x ∷ l) h)
+      go true eb false ec h = rw ec h
+      go false eb true ec h = rw eb h
+      go false eb false ec h = h
+
+  -- what leaves would leave later too
+  pub keep-map : (test : A → Bool) (f : A → A) → ((x : A) → test x ≡ false → test (f x) ≡ false) → (xs : List A)
+      → keep test (map f (keep test xs)) ≡ keep test (map f xs)
+  unfolding keep
+  keep-map test f gone [] = refl
+  keep-map test f gone (x ∷ xs) = go (test x) refl (keep-map test f gone xs)
+    where
+      go : (b : Bool) → test x ≡ b → keep test (map f (keep test xs)) ≡ keep test (map f xs)
+          → keep test (map f (cond b (x ∷ keep test xs) (keep test xs))) ≡ keep test (map f (x ∷ xs))
+      go true e h = rw h
+      go false e h = rw (gone x e) h
+
   -- a sum of numbers that are each at most k
   pub sum-most : (ok : A → Bool) (f : A → ℕ) (k : ℕ) → ((x : A) → ok x ≡ true → f x ≤ k) → (xs : List A) → every ok xs ≡ true
       → sumOf f xs ≤ length xs * k
@@ -48,6 +103,16 @@ module _ {A : Type 0} where
   sum-most ok f k most [] h = omega arith
   sum-most ok f k most (x ∷ xs) h =
       omega (arith, most x (and-l (ok x) (every ok xs) h), sum-most ok f k most xs (and-r (ok x) (every ok xs) h))
+
+  -- what adds nothing may go
+  pub sum-keep : (p : A → Bool) (f : A → ℕ) → ((a : A) → p a ≡ false → f a ≡ 0) → (xs : List A) → sumOf f (keep p xs) ≡ sumOf f xs
+  unfolding sumOf keep
+  sum-keep p f h [] = refl
+  sum-keep p f h (x ∷ xs) = go (p x) refl (sum-keep p f h xs)
+    where
+      go : (b : Bool) → p x ≡ b → sumOf f (keep p xs) ≡ sumOf f xs → sumOf f (keep p (x ∷ xs)) ≡ sumOf f (x ∷ xs)
+      go true e ih = rw e (ap (λ n. f x + n) ih)
+      go false e ih = rw (e, h x e) (ih ∙ omega arith)
 
 -- what order means for the first of several entries and for the rest
 record First (from clock : ℕ) (e : Entry) (es : List Entry) : Type 0 where

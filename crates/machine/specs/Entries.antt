@@ -1,6 +1,6 @@
 -- The entries of the log: which are valid, their order, what they count for a rule, and which are inside a window. Assumes nothing.
 use Prim.Native.Nat.{ℕ, _+_}
-use mathlib.Core.Bool.{Bool, true, cond, _&&_}
+use mathlib.Core.Bool.{Bool, true, cond, _&&_, _||_}
 use mathlib.Core.List.{List, [], _∷_}
 use lib.Dec.{leb, ltb}
 use Rattle.laws.specs.Folds.{keep}
@@ -24,6 +24,10 @@ areOrdered from clock (e ∷ es) = leb from (e .time) && leb (e .time) clock && 
 unfoldable pub flagOf : Level → Entry → Bool
 flagOf Firm e = e .forfirm
 flagOf (Root root) e = e .forroot
+
+-- an entry counts for its root or for the firm
+unfoldable pub isFlagged : Entry → Bool
+isFlagged e = e .forroot || e .forfirm
 
 -- what a log entry counts for a rule at a time: its flag of the rule's level must be set
 unfoldable pub entryShare : Rule → ℕ → Entry → ℕ

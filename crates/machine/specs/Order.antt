@@ -2,12 +2,14 @@
 use Prim.Native.Nat.{ℕ, zero, suc}
 use mathlib.Core.Bool.{Bool, not, cond, _&&_}
 use mathlib.Core.List.{List, map}
+use Rattle.laws.specs.Folds.{keep}
 use Rattle.rules.specs.Amounts.{amountIn}
 use Rattle.rules.specs.Rules.{levelOf}
 use Rattle.rules.specs.declared.Level.{Level}
 use Rattle.rules.specs.declared.Level.the-variants.{Firm, Root}
 use Rattle.rules.specs.declared.Account.{Account}
 use Rattle.machine.specs.declared.Entry.{Entry}
+use Rattle.machine.specs.Entries.{isFlagged}
 
 -- a total is zeroed where its rule is of one of these levels
 unfoldable pub wiped : (Level → Bool) → Account → Account
@@ -25,9 +27,9 @@ unflagged zeroes e = record {
   forfirm = not (zeroes Firm) && e .forfirm;
 }
 
--- the log without the flags of these levels
+-- the log without the flags of these levels, and without the entries that then count for neither root nor firm
 unfoldable pub unflaggedLog : (Level → Bool) → List Entry → List Entry
-unflaggedLog zeroes log = map (unflagged zeroes) log
+unflaggedLog zeroes log = keep isFlagged (map (unflagged zeroes) log)
 
 -- the level that a lockout names: 0 a root, 1 the firm
 unfoldable pub levelNamed : ℕ → ℕ → Level

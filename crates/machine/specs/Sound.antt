@@ -7,7 +7,7 @@ use Rattle.laws.specs.Folds.{every}
 use Rattle.measures.specs.Ranges.{In, times}
 use Rattle.rules.specs.Valid.{hasRate, isTotal}
 use Rattle.machine.specs.State.{Profile, State, rulesIn, rootsIn, Fitting}
-use Rattle.machine.specs.Entries.{isEntry, areOrdered}
+use Rattle.machine.specs.Entries.{isEntry, areOrdered, isFlagged}
 use Rattle.machine.specs.Judge.{logPlaces}
 
 -- a sound state, where `Given` tells which profiles some accepted text gives
@@ -28,3 +28,5 @@ pub record SoundIn (Given : Profile → Type 0) (s : State) : Type 0 where
   -- in order of time, none later than the clock, all fields in range
   pub ordered : areOrdered 0 (s .part .clock) (s .log) ≡ true
   pub entries : every (isEntry (rootsIn s)) (s .log) ≡ true
+  -- each with at least one flag at 1
+  pub flagged : every isFlagged (s .log) ≡ true

@@ -38,6 +38,7 @@ fresh-sound p h = record {
   none = λ e. refl;
   ordered = refl;
   entries = refl;
+  flagged = refl;
 }
 
 -- a text that is accepted gives a profile that passes the test of profiles

@@ -1,55 +1,32 @@
--- Without a reset the clock alone moves. Assumes nothing.
+-- Without a reset the clock alone moves, where no entry of the log is without a flag. Assumes nothing.
 use Prim.Native.Nat.{ℕ}
 use mathlib.Core.Path.{_≡_, refl, sym, ap, _∙_}
-use mathlib.Core.Bool.{false, not, cond, _&&_, and-false}
-use mathlib.Core.List.{List, [], _∷_, map}
+use mathlib.Core.Bool.{true, false, not, cond, _&&_, and-false}
 use lib.Dec.{eqb}
+use Rattle.laws.specs.Folds.{every}
 use Rattle.bits.specs.Locks.{withoutBit}
-use Rattle.rules.specs.Amounts.{amountIn}
-use Rattle.rules.specs.Rules.{levelOf}
 use Rattle.rules.specs.declared.Level.{Level}
 use Rattle.rules.specs.declared.Level.the-variants.{Firm, Root}
-use Rattle.rules.specs.declared.Account.{Account}
-use Rattle.machine.specs.declared.Entry.{Entry}
 use Rattle.machine.specs.State.{State, Locks}
-use Rattle.machine.specs.Effects.{effectOf, zeroing, lifting}
+use Rattle.machine.specs.Entries.{isFlagged}
+use Rattle.machine.specs.Effects.{resets, effectOf, lifting}
 use Rattle.machine.specs.Deeds.{resetting, clockAfter}
 use Rattle.machine.specs.Locks.{lifted}
-use Rattle.machine.specs.Order.{unflagged, unflaggedLog, wiped}
-use Rattle.machine.specs.Step.{accountsAfter, locksAfter, logAfter, partAfter, after}
+use Rattle.machine.specs.Step.{locksAfter, logAfter, partAfter, after}
+use Rattle.machine.proofs.Effects.{ZeroesNone, totals-stay, log-stays}
 use Rattle.state.specs.Laid.{withClock}
 
-map-same : {A : Type 0} (f : A → A) → ((x : A) → f x ≡ x) → (xs : List A) → map f xs ≡ xs
-map-same f same [] = refl
-map-same f same (x ∷ xs) = λ i. same x i ∷ map-same f same xs i
+-- it zeroes no counter
+none-zeroed : ZeroesNone (effectOf 0)
+unfolding effectOf resets
+none-zeroed = (refl, refl)
 
 module _ (root : ℕ) where
-  -- it concerns no level
-  zeroes-none : (level : Level) → zeroing (effectOf 0) root level ≡ false
-  unfolding zeroing effectOf
-  zeroes-none Firm = refl
-  zeroes-none (Root r) = and-false (eqb r root)
-
+  -- it lifts no level's trip and lockout
   lifts-none : (level : Level) → lifting (effectOf 0) root level ≡ false
-  unfolding lifting effectOf
+  unfolding lifting effectOf resets
   lifts-none Firm = refl
   lifts-none (Root r) = and-false (eqb r root)
-
-  total-stays : (a : Account) → wiped (zeroing (effectOf 0) root) a ≡ a
-  unfolding wiped
-  total-stays a = λ i. record { rule = a .rule; total = cond (zeroes-none (levelOf (a .rule .scope)) i) (amountIn (a .rule .limit) 0) (a .total) }
-
-  flags-stay : (e : Entry) → unflagged (zeroing (effectOf 0) root) e ≡ e
-  unfolding unflagged
-  flags-stay e = λ i. record {
-    time = e .time;
-    root = e .root;
-    unit = e .unit;
-    premium = e .premium;
-    contracts = e .contracts;
-    forroot = not (zeroes-none (Root (e .root)) i) && e .forroot;
-    forfirm = not (zeroes-none Firm i) && e .forfirm;
-  }
 
   locks-stay : (l : Locks) → lifted (lifting (effectOf 0) root) root l ≡ l
   unfolding lifted
@@ -60,17 +37,18 @@ module _ (root : ℕ) where
     byUser = cond (lifts-none (Root root) i) (withoutBit (l .byUser) root) (l .byUser);
   }
 
-  none-ticks : (s : State) (time : ℕ) → withClock s time ≡ after (resetting time root (effectOf 0)) s
-  unfolding after partAfter clockAfter accountsAfter locksAfter logAfter unflaggedLog
-  none-ticks s time = sym (λ i. record {
+  none-ticks : (s : State) (time : ℕ) → every isFlagged (s .log) ≡ true → withClock s time ≡ after (resetting time root (effectOf 0)) s
+  unfolding after partAfter clockAfter locksAfter logAfter
+  none-ticks s time flagged = sym (λ i. record {
     part = record {
       clock = time;
       profile = s .part .profile;
-      accounts = map-same (wiped (zeroing (effectOf 0) root)) total-stays (s .part .accounts) i;
+      accounts = totals-stay (effectOf 0) none-zeroed root time (s .part .accounts) i;
       locks = locks-stay (s .part .locks) i;
     };
-    log = map-same (unflagged (zeroing (effectOf 0) root)) flags-stay (s .log) i;
+    log = log-stays (effectOf 0) none-zeroed root (s .log) flagged i;
   })
 
-  pub clock-moved : (s : State) (time : ℕ) {reset : ℕ} → reset ≡ 0 → withClock s time ≡ after (resetting time root (effectOf reset)) s
-  clock-moved s time none = none-ticks s time ∙ ap (λ (n : ℕ). after (resetting time root (effectOf n)) s) (sym none)
+  pub clock-moved : (s : State) (time : ℕ) {reset : ℕ} → every isFlagged (s .log) ≡ true → reset ≡ 0
+      → withClock s time ≡ after (resetting time root (effectOf reset)) s
+  clock-moved s time flagged none = none-ticks s time flagged ∙ ap (λ (n : ℕ). after (resetting time root (effectOf n)) s) (sym none)

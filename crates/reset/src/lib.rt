@@ -1,10 +1,13 @@
 // What an order's reset and a lockout do to lent memory.
 ghost use mathlib.Core.Path.{_≡_};
+ghost use mathlib.Core.Bool.{true};
 ghost use mathlib.Core.List.{map};
 ghost use Prim.Native.Nat.{_+_, _<_};
 ghost use lib.ListN.{length};
+ghost use Rattle.laws.specs.Folds.{every};
 ghost use Rattle.rules.specs.Rules.{levelOf};
 ghost use Rattle.machine.specs.Deeds.{Deed};
+ghost use Rattle.machine.specs.Entries.{isFlagged};
 ghost use Rattle.machine.specs.Effects.{effectOf, zeroing};
 ghost use Rattle.machine.specs.Order.{wiped, levelNamed};
 ghost use Rattle.machine.specs.Step.{after};
@@ -25,17 +28,19 @@ pub fn lock_out(m: &mut [u64], time: u64, level: u64, root: u64)
     locks::lock(&mut m[state::LOCKS..state::LOG], level, root);
 }
 
-// What a reset does, by its number: 1 is SYMBOL, 2 FIRM, 3 BOTH.
+// What a reset does, by its number: 1 is SYMBOL, 2 FIRM, 3 BOTH; 4 is T, 5 E and 6 both of these, which lift and zero nothing.
 pub fn effect_of(reset: u64) -> Effect
     ensures { λ r. ⌜ r ≡ effectOf reset ⌝ }
 {
-    let root = (reset == 1) | (reset == 3);
-    let firm = (reset == 2) | (reset == 3);
+    let zeroroot = (reset == 1) | (reset == 3);
+    let zerofirm = (reset == 2) | (reset == 3);
+    let liftroot = zeroroot | (reset == 4) | (reset == 6);
+    let liftfirm = zerofirm | (reset == 5) | (reset == 6);
     Effect {
-        zeroroot: root,
-        zerofirm: firm,
-        liftroot: root,
-        liftfirm: firm,
+        zeroroot,
+        zerofirm,
+        liftroot,
+        liftfirm,
     }
 }
 
@@ -85,7 +90,7 @@ fn wipe(m: &mut [u64], root: u64, effect: Effect)
     }
 }
 
-// Carries out the effect of an order for a root: clock, locks, totals, then the log's flags.
+// Carries out the effect of an order for a root: clock, locks, totals, then the log's flags and the entries without any.
 fn carry_out(m: &mut [u64], time: u64, root: u64, effect: Effect)
     requires { ⌜ Laid (now m) × (root < 64) ⌝ }
     ensures { λ _. ⌜ now (m .exit) ≡ stored (after (Deed.resetting time root effect) (decode (now (m .entry)))) (now (m .entry)) ⌝ }
@@ -96,9 +101,9 @@ fn carry_out(m: &mut [u64], time: u64, root: u64, effect: Effect)
     log::unflag(&mut m[state::LOG..state::SIZE], root, effect);
 }
 
-// What an order's reset leaves: without one the clock alone moves.
+// What an order's reset leaves: without one the clock alone moves, as no entry of the log is without a flag.
 pub fn reset_state(m: &mut [u64], time: u64, root: u64, reset: u64)
-    requires { ⌜ Laid (now m) × (root < 64) ⌝ }
+    requires { ⌜ Laid (now m) × (root < 64) × (every isFlagged (decode (now m) .log) ≡ true) ⌝ }
     ensures { λ _. ⌜ now (m .exit) ≡ stored (after (Deed.resetting time root (effectOf reset)) (decode (now (m .entry)))) (now (m .entry)) ⌝ }
 {
     if reset == 0 {

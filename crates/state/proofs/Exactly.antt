@@ -83,7 +83,7 @@ sound-passes s k =
     let clock = and-i (le-leb _ _ (k .clock .0)) (le-leb _ _ (k .clock .1)) in
     let made = given-is-made (s .part .profile) (k .given) in
     let words = and-i (and-i (and-i (and-i clock made) (k .totals)) (lt-ltb _ _ (k .tripped))) (lt-ltb _ _ (k .byUser)) in
-    and-i (and-i words (none-or (hasRate (rulesIn s)) (length (s .log)) (k .none))) (k .ordered)
+    and-i (and-i words (none-or (hasRate (rulesIn s)) (length (s .log)) (k .none))) (and-i (k .ordered) (k .flagged))
 
 pub passes-sound : (s : State) → Fits s → isSoundState s ≡ true → SoundState s
 unfolding isSoundState
@@ -98,6 +98,7 @@ passes-sound s f h = record {
   none = λ e. or-none (hasRate (rulesIn s)) (length (s .log)) (search tests depth 20) e;
   ordered = search tests depth 20;
   entries = f .entries;
+  flagged = search tests depth 20;
 }
 
 -- what the test says

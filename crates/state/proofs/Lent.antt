@@ -21,11 +21,11 @@ use Rattle.tables.specs.Tables.{allZero, places, placesPass}
 use Rattle.tables.specs.RulePlace.{ruleAt, isRulePlace, rulesShape}
 use Rattle.tables.specs.EntryPlace.{entryAt, isEntryPlace, logShape}
 use Rattle.tables.proofs.Shapes.{rules-read, rules-tested, log-read, log-tested}
-use Rattle.machine.specs.Entries.{areOrdered}
 use Rattle.admission.specs.Admission.{areInOrder}
 use Rattle.made.specs.Made.{areRoots}
 use Rattle.made.specs.Parts.{namesHold, placesHold, rootsHold, rulesHold, totalsHold}
-use Rattle.log.specs.Log.{entriesHold, logHolds}
+use Rattle.log.specs.Log.{logHolds}
+use Rattle.log.proofs.Logs.{areLogged, holds-parts}
 use Rattle.state.specs.State.{number, locksOf, locksShape, totalsShape, accountsOf, totalsSize}
 use Rattle.state.specs.Tests.{locksHold}
 use Rattle.machine.proofs.Cells.{cells-bound}
@@ -40,14 +40,15 @@ shuffle true false o z = refl
 shuffle false p o z = refl
 
 -- the log's table, lent alone
-pub log-lent : (n clock : ℕ) (zs : List ℕ) → length zs ≡ 1025 → logHolds n clock zs ≡ (logShape n .test zs && areOrdered 0 clock (logShape n .read zs))
-unfolding logHolds entriesHold
+pub log-lent : (n clock : ℕ) (zs : List ℕ) → length zs ≡ 1025 → logHolds n clock zs ≡ (logShape n .test zs && areLogged clock (logShape n .read zs))
+unfolding logHolds
 log-lent n clock zs l =
     let k = getD zs 0 0 in
     let all : take 1024 (drop 1 zs) ≡ drop 1 zs = take-all 1024 (drop 1 zs) (omega (arith, length-drop 1 zs)) in
-    ap (λ (ws : List ℕ). leb k 512 && (placesPass 2 (isEntryPlace n) k ws && areOrdered 0 clock (places 2 entryAt k ws) && allZero (drop (k * 2) (take 1024 (drop 1 zs))))) all
-    ∙ shuffle (leb k 512) (placesPass 2 (isEntryPlace n) k (drop 1 zs)) (areOrdered 0 clock (places 2 entryAt k (drop 1 zs))) (allZero (drop (k * 2) (take 1024 (drop 1 zs))))
-    ∙ ap₂ (λ (a b : Bool). a && b) (sym (log-tested n zs)) (sym (ap (areOrdered 0 clock) (log-read n zs)))
+    ap (λ (b : Bool). leb k 512 && b) (holds-parts n clock k (take 1024 (drop 1 zs)))
+    ∙ ap (λ (ws : List ℕ). leb k 512 && (placesPass 2 (isEntryPlace n) k ws && areLogged clock (places 2 entryAt k ws) && allZero (drop (k * 2) (take 1024 (drop 1 zs))))) all
+    ∙ shuffle (leb k 512) (placesPass 2 (isEntryPlace n) k (drop 1 zs)) (areLogged clock (places 2 entryAt k (drop 1 zs))) (allZero (drop (k * 2) (take 1024 (drop 1 zs))))
+    ∙ ap₂ (λ (a b : Bool). a && b) (sym (log-tested n zs)) (sym (ap (areLogged clock) (log-read n zs)))
 
 off : (x : Bool) → false ≡ (x && false)
 off true = refl

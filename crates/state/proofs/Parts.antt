@@ -16,12 +16,12 @@ use Rattle.tables.specs.RulePlace.{ruleAt, rulesShape}
 use Rattle.tables.specs.EntryPlace.{logShape}
 use Rattle.tables.proofs.Shapes.{rules-exact, rules-read, log-exact}
 use Rattle.machine.specs.State.{cellsOf, Locks}
-use Rattle.machine.specs.Entries.{areOrdered}
 use Rattle.machine.proofs.Totals.{isPaid}
 use Rattle.admission.specs.Admission.{areInOrder}
 use Rattle.made.specs.Made.{areRoots}
 use Rattle.made.specs.Parts.{rootsHold, rulesOf, rulesHold, totalsHold}
 use Rattle.log.specs.Log.{logHolds}
+use Rattle.log.proofs.Logs.{areLogged}
 use Rattle.state.specs.State.{size, number, locksShape, totalsShape, accountsOf, locksAt, logAt, totalsAt, totalsSize}
 use Rattle.state.specs.Tests.{rootsPart, rulesPart, totalsPart, locksPart, logPart, locksHold}
 use Rattle.state.proofs.Exact.{number-exact, totals-exact, locks-exact}
@@ -71,10 +71,10 @@ module _ (xs : List ℕ) (long : size ≤ length xs) where
         ∙ sym (rules-read n (rulesPart xs))
         ∙ read-part (rulesShape n) (rules-exact n few) (drop 68 xs) (room 68 513 (omega arith)) t
 
-    pub log-held : (clock : ℕ) → logHolds n clock (logPart xs) ≡ (logShape n .test (drop logAt xs) && areOrdered 0 clock (logShape n .read (drop logAt xs)))
+    pub log-held : (clock : ℕ) → logHolds n clock (logPart xs) ≡ (logShape n .test (drop logAt xs) && areLogged clock (logShape n .read (drop logAt xs)))
     log-held clock =
         log-lent n clock (logPart xs) (part-long logAt 1025 (omega arith))
-        ∙ first-decide (logShape n) (log-exact n few) (areOrdered 0 clock) (drop logAt xs) (room logAt 1025 (omega arith))
+        ∙ first-decide (logShape n) (log-exact n few) (areLogged clock) (drop logAt xs) (room logAt 1025 (omega arith))
 
 -- how many entries the log says that it has
 pub log-many : (n : ℕ) (xs : List ℕ) → length (logShape n .read (drop logAt xs)) ≡ getD xs logAt 0

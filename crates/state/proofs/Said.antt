@@ -18,7 +18,7 @@ use Rattle.tables.specs.RulePlace.{ruleShape, rulesShape}
 use Rattle.tables.specs.EntryPlace.{logShape}
 use Rattle.tables.proofs.Shapes.{rules-exact}
 use Rattle.machine.specs.State.{State, cellsOf, rulesIn, rootsIn}
-use Rattle.machine.specs.Entries.{areOrdered}
+use Rattle.machine.specs.Entries.{areOrdered, isFlagged}
 use Rattle.machine.proofs.Totals.{isPaid}
 use Rattle.made.specs.Names.{isNameNumber}
 use Rattle.admission.specs.Admission.{areInOrder}
@@ -47,6 +47,7 @@ pub record Said (xs : List ℕ) : Type 0 where
   pub rate : (hasRate (rulesTold xs) || eqb (length (logShape (length (rootsTold xs)) .read (drop logAt xs))) 0) ≡ true
   pub log : logShape (length (rootsTold xs)) .test (drop logAt xs) ≡ true
   pub ordered : areOrdered 0 (getD xs 1 0) (logShape (length (rootsTold xs)) .read (drop logAt xs)) ≡ true
+  pub flagged : every isFlagged (logShape (length (rootsTold xs)) .read (drop logAt xs)) ≡ true
 
 -- the state that is told
 told : List ℕ → State
@@ -86,6 +87,7 @@ both-said xs m s = record {
   rate = search tests depth 40;
   log = search tests depth 40;
   ordered = search tests depth 40;
+  flagged = search tests depth 40;
 }
 
 pub sound-said : (xs : List ℕ) → isSound xs ≡ true → Said xs
@@ -117,7 +119,7 @@ module _ (xs : List ℕ) (long : size ≤ length xs) where
         let made =
         and-i (and-i (and-i (and-i (and-i (s .firm) (and-i (le-leb 0 (length (rootsTold xs)) zero-le) (le-leb _ _ (few-told (s .roots))))) (s .names))
         (and-i (le-leb _ _ (s .some)) (le-leb _ _ (rules-few (s .roots) (s .rules))))) (rules-valid (s .roots) (s .rules))) (s .order) in
-        and-i (and-i (and-i (and-i (and-i (and-i (s .clock) made) (s .paid)) (s .tripped)) (s .byUser)) (s .rate)) (s .ordered)
+        and-i (and-i (and-i (and-i (and-i (and-i (s .clock) made) (s .paid)) (s .tripped)) (s .byUser)) (s .rate)) (and-i (s .ordered) (s .flagged))
 
     pub said-sound : isSound xs ≡ true
     said-sound = put-together xs (record {

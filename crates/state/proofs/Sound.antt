@@ -15,13 +15,13 @@ use Rattle.rules.specs.Valid.{hasRate}
 use Rattle.tables.specs.RulePlace.{rulesShape}
 use Rattle.tables.specs.EntryPlace.{logShape}
 use Rattle.machine.specs.State.{cellsOf}
-use Rattle.machine.specs.Entries.{areOrdered}
 use Rattle.machine.proofs.Totals.{isPaid}
 use Rattle.made.specs.Names.{isNameNumber}
 use Rattle.admission.specs.Admission.{areInOrder}
 use Rattle.made.specs.Made.{areRoots}
 use Rattle.made.specs.Parts.{rulesHold, totalsHold}
 use Rattle.log.specs.Log.{logHolds}
+use Rattle.log.proofs.Logs.{areLogged}
 use Rattle.state.specs.State.{size, number, locksShape, totalsShape, accountsOf, locksAt, logAt, totalsAt}
 use Rattle.state.specs.Sound.{isSound}
 use Rattle.state.specs.Tests.{rulesPart, totalsPart, locksPart, logPart, frontHolds, locksHold, partsHold, soundParts}
@@ -44,7 +44,7 @@ toldRest xs =
     && (locksShape .test (drop locksAt xs)
     && (ltb (locksShape .read (drop locksAt xs) .tripped) (2 ^ length (rootsTold xs)) && ltb (locksShape .read (drop locksAt xs) .byUser) (2 ^ length (rootsTold xs))))
     && (hasRate (rulesTold xs) || eqb (length (logShape (length (rootsTold xs)) .read (drop logAt xs))) 0)
-    && (logShape (length (rootsTold xs)) .test (drop logAt xs) && areOrdered 0 (getD xs 1 0) (logShape (length (rootsTold xs)) .read (drop logAt xs)))
+    && (logShape (length (rootsTold xs)) .test (drop logAt xs) && areLogged (getD xs 1 0) (logShape (length (rootsTold xs)) .read (drop logAt xs)))
 
 parts-said : (xs : List ℕ) → (toldFront xs && toldRules xs && toldRest xs) ≡ true → Said xs
 parts-said xs h = record {
@@ -64,6 +64,7 @@ parts-said xs h = record {
   rate = search tests depth 40;
   log = search tests depth 40;
   ordered = search tests depth 40;
+  flagged = search tests depth 40;
 }
 
 said-parts : (xs : List ℕ) → Said xs → (toldFront xs && toldRules xs && toldRest xs) ≡ true
@@ -71,7 +72,7 @@ said-parts xs s =
     let front = and-i (and-i (and-i (s .mark) (s .clock)) (s .firm)) (and-i (s .roots) (s .names)) in
     let rules = and-i (s .rules) (and-i (le-leb _ _ (s .some)) (s .order)) in
     let locks = and-i (s .locks) (and-i (s .tripped) (s .byUser)) in
-    and-i (and-i front rules) (and-i (and-i (and-i (and-i (s .totals) (s .paid)) locks) (s .rate)) (and-i (s .log) (s .ordered)))
+    and-i (and-i front rules) (and-i (and-i (and-i (and-i (s .totals) (s .paid)) locks) (s .rate)) (and-i (s .log) (and-i (s .ordered) (s .flagged))))
 
 -- the tests that the code runs over the parts are these
 module _ (xs : List ℕ) (long : size ≤ length xs) where

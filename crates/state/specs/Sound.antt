@@ -9,7 +9,7 @@ use Rattle.laws.specs.Folds.{every}
 use Rattle.measures.specs.Ranges.{isIn, times}
 use Rattle.rules.specs.Valid.{hasRate, isTotal}
 use Rattle.machine.specs.State.{Profile, State, rulesIn, rootsIn}
-use Rattle.machine.specs.Entries.{areOrdered}
+use Rattle.machine.specs.Entries.{areOrdered, isFlagged}
 use Rattle.machine.specs.Sound.{SoundIn}
 use Rattle.profile.specs.Profile.{outcomeOf}
 use Rattle.made.specs.Made.{isMade}
@@ -34,7 +34,7 @@ isSoundState s =
     && ltb (s .part .locks .tripped) (2 ^ rootsIn s)
     && ltb (s .part .locks .byUser) (2 ^ rootsIn s)
     && (hasRate (rulesIn s) || eqb (length (s .log)) 0)
-    && areOrdered 0 (s .part .clock) (s .log)
+    && (areOrdered 0 (s .part .clock) (s .log) && every isFlagged (s .log))
 
 -- the test that the code runs: the memory is as the map says, and the state is sound
 unfoldable pub isSound : List ℕ → Bool

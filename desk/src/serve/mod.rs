@@ -3,6 +3,7 @@
 mod bench;
 mod guard;
 mod http;
+mod keeping;
 mod log;
 mod routes;
 mod state;

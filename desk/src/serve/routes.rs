@@ -41,6 +41,10 @@ fn shown(bench: &mut Bench, request: &Request) -> Reply {
             Ok(bytes) => with(Reply::of("application/octet-stream", bytes), "Content-Disposition: attachment; filename=\"day.records\""),
             Err(advice) => Reply::text(409, &advice),
         },
+        "day.txt" => match bench.save_words() {
+            Ok(words) => with(Reply::of("text/plain; charset=utf-8", words), "Content-Disposition: attachment; filename=\"day.txt\""),
+            Err(advice) => Reply::text(409, &advice),
+        },
         "active-profile" => match bench.active() {
             Ok(text) => with(Reply::of("text/plain; charset=utf-8", text), "Content-Disposition: attachment; filename=\"active-profile\""),
             Err(advice) => Reply::text(409, &advice),

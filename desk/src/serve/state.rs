@@ -7,6 +7,7 @@ use crate::check::meaning;
 use crate::counts::Count;
 use crate::json::{list, maybe, object, text};
 use crate::profile::Rule;
+use crate::resets;
 use crate::sitting::Sitting;
 use crate::standing::level_name;
 use crate::table::share;
@@ -29,6 +30,8 @@ pub fn of(bench: &Bench, at: &str) -> Result<String, String> {
         ("place", bench.place().to_string()),
         ("undone", bench.undone.len().to_string()),
         ("unsaved", bench.is_unsaved().to_string()),
+        ("wordsAlone", bench.is_words_alone().to_string()),
+        ("resets", list(resets::rows().map(of_reset))),
         ("canBringBack", bench.has_before().to_string()),
         ("log", log(bench, bench.log.len())),
     ]))
@@ -62,6 +65,10 @@ fn armed(sitting: &Sitting, at: &str) -> Result<String, String> {
         ("levels", list(levels)),
         ("rules", list(rules)),
     ]))
+}
+
+fn of_reset(row: resets::Row) -> String {
+    object(&[("word", text(&row.word)), ("zeroes", text(&row.zeroes)), ("lifts", text(&row.lifts))])
 }
 
 fn of_level(sitting: &Sitting, level: usize) -> String {

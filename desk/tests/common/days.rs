@@ -1,4 +1,5 @@
 //! Days on fresh units for the desk's tests.
+#![allow(dead_code)]
 use desk::day::Day;
 use desk::progress::Progress;
 use desk::sitting::Sitting;
@@ -12,5 +13,5 @@ pub fn sitting(text: &str) -> Sitting {
 
 /// The day that a sitting has passed, or a stretch of it.
 pub fn day(sitting: &Sitting, stretch: Option<(u64, u64)>) -> Day {
-    Day::replayed(&sitting.profile, sitting.day.reader().expect("a reader"), stretch, &mut Progress::of(None)).expect("a day")
+    Day::replayed(&sitting.profile, &mut sitting.day.pieces().expect("a reader"), stretch, &mut Progress::of(None)).expect("a day")
 }

@@ -75,3 +75,13 @@ pub fn event(dice: &mut Dice, clock: u64, roots: u64) -> Event {
         }),
     }
 }
+
+/// The same, but one that a record of 12 bytes holds.
+pub fn recorded(dice: &mut Dice, clock: u64, roots: u64) -> ([u8; 12], Event) {
+    loop {
+        let event = event(dice, clock, roots);
+        if let Ok(record) = event.to_record() {
+            return (record, event);
+        }
+    }
+}

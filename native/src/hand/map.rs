@@ -26,8 +26,11 @@ pub const ABSOLUTE: u64 = 1 << 10;
 pub const SCOPE: u64 = 3 << 8;
 /// The scope of a whole root, each unit counted for itself.
 pub const WHOLE: u64 = 1 << 8;
-/// The root of an entry's first number, the contracts of its second.
+/// The root of an entry's first number.
 pub const ENTRY_ROOT: u64 = 63 << 4;
+/// What an entry counts for: its root, the firm.
+pub const FLAGS: u64 = 3;
+/// The contracts of its second number.
 pub const CONTRACTS: u64 = (1 << 20) - 1;
 
 /// The time of an entry, by its first number.

@@ -191,7 +191,7 @@ fn longest_of_rules(m: &State) -> Option<Longest> {
     is_good.then_some(tally.longest)
 }
 
-/// Do the first places hold entries in order of time, none later than the clock, and the others 0?
+/// Do the first places hold entries that count for something, in order of time, none later than the clock, and the others 0?
 /// A number out of its range leaves the top bit 1 in a difference, and all differences are or-ed together.
 #[inline(never)]
 fn is_log(log: &[u64], entries: usize, roots: u64, clock: u64) -> bool {
@@ -200,6 +200,7 @@ fn is_log(log: &[u64], entries: usize, roots: u64, clock: u64) -> bool {
     let (mut bad, mut before) = (0u64, 0u64);
     for entry in used.chunks_exact(2) {
         let (time, premium, contracts) = (entry_time(entry[0]), entry[1] >> 20, entry[1] & CONTRACTS);
+        bad |= (entry[0] & FLAGS).wrapping_sub(1);
         bad |= time.wrapping_sub(before) | last_root.wrapping_sub(entry[0] & ENTRY_ROOT);
         bad |= premium.wrapping_sub(1) | MOST_PREMIUM.wrapping_sub(premium);
         bad |= contracts.wrapping_sub(1) | MOST_CONTRACTS.wrapping_sub(contracts);

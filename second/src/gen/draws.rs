@@ -46,24 +46,26 @@ impl Maker {
     }
 
     pub(super) fn order(&mut self) -> Call {
-        Call::Order { time: self.time(), root: self.root(), reset: self.random.pick(&[0, 0, 1, 2, 3]) }
+        let resets: &[u64] = if self.forgets { &[0, 0, 0, 1, 2, 3, 4, 5, 6] } else { &[0, 0, 4, 5, 6] };
+        Call::Order { time: self.time(), root: self.root(), reset: self.random.pick(resets) }
     }
 
-    /// An offer, or a reset if the offer's root or the firm is locked.
+    /// An offer, or what opens the root if it or the firm is locked.
     pub(super) fn offer(&mut self) -> Call {
         let time = self.time();
         let root = self.root();
         let unit = self.random.below(4);
         if let Some(reset) = self.wanted_reset(root) {
             if self.random.once_in(3) {
-                return Call::Order { time, root, reset };
+                let lifts_only = !self.forgets || self.random.once_in(3);
+                return Call::Order { time, root, reset: reset + 3 * u64::from(lifts_only) };
             }
         }
         let (premium, contracts) = self.amounts(time, root, unit);
         Call::Offer { time, root, unit, premium, contracts }
     }
 
-    /// The reset that opens the root, if something is locked.
+    /// The reset with counts that opens the root, if something is locked; the one without counts is 3 above it.
     fn wanted_reset(&self, root: u64) -> Option<u64> {
         let armed = self.state()?;
         let root_locked = armed.roots.get(root as usize).is_some_and(|marks| marks.locked());

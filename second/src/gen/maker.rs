@@ -21,6 +21,8 @@ pub struct Maker {
     pub(super) clock: u64,
     pub(super) roots: u64,
     pub(super) pace: Pace,
+    /// Do its orders zero counts? Without that a day can fill the log.
+    pub(super) forgets: bool,
     /// Calls still to be made.
     pub(super) left: u64,
     /// The unit that the calls run on too, if they follow one.
@@ -33,7 +35,8 @@ impl Maker {
     pub(super) fn new(seed: u64, n: usize, roots: u64) -> Maker {
         let mut random = Random::new(seed ^ 0x45_7665_6E74);
         let pace = random.pick(&[Pace::Slow, Pace::Window, Pace::Even]);
-        Maker { random, clock: 0, roots, pace, left: n as u64, follows: None, cleared: false }
+        let forgets = !random.once_in(4);
+        Maker { random, clock: 0, roots, pace, forgets, left: n as u64, follows: None, cleared: false }
     }
 
     pub(super) fn following(seed: u64, n: usize, text: &[u8]) -> Maker {
@@ -66,9 +69,12 @@ impl Maker {
         call
     }
 
-    /// The next order, offer or lockout.
+    /// The next order, offer or lockout; a reset that no record of 12 bytes can have becomes the one that unlocks the same.
     pub(super) fn event(&mut self) -> Call {
-        let call = self.choose_event();
+        let mut call = self.choose_event();
+        if let Call::Order { reset: reset @ 4..=6, .. } = &mut call {
+            *reset -= 3;
+        }
         self.follow(call);
         call
     }

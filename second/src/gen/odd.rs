@@ -20,7 +20,7 @@ impl Maker {
             Call::Order { time, root, reset } => match self.random.below(3) {
                 0 => Call::Order { time: odd_time, root, reset },
                 1 => Call::Order { time, root: odd_root, reset },
-                _ => Call::Order { time, root, reset: self.random.pick(&[4, u64::MAX]) },
+                _ => Call::Order { time, root, reset: self.random.pick(&[7, u64::MAX]) },
             },
             Call::Lockout { time, level, root } => match self.random.below(4) {
                 0 => Call::Lockout { time: odd_time, level, root },

@@ -9,7 +9,7 @@ use Rattle.machine.specs.Step.{after, partAfter}
 use Rattle.machine.specs.declared.Answer.the-variants.{Judged}
 use Rattle.machine.specs.State.{State}
 use Rattle.locks.proofs.Laid.{locks-held, locks-are}
-use Rattle.calls.proofs.Steps.{laid, refused-by, ready-by, accepted-by, order-low, order-laid, order-decoded, acts}
+use Rattle.calls.proofs.Steps.{laid, flagged, refused-by, ready-by, accepted-by, order-low, order-laid, order-decoded, acts}
 use borrow.Author.Needs.{needs}
 use Rattle.calls.proofs.order.Statement.{statement}
 use Rattle.calls.proofs.order.Tie as tie
@@ -24,7 +24,10 @@ returns : tie.Need-returns
 returns c = refused-by _ (Call.order _ _ _) _ (c .before .order-refusal .ensures) (c .if1 .taken)
 
 reset-state-requires : tie.Need-reset-state-requires
-reset-state-requires c κs = (laid _ (ready-by _ (Call.order _ _ _) (sym (c .before .before .order-refusal .ensures) ∙ c .before .if1 .left)), order-low _ _ _ _ (sym (c .before .before .order-refusal .ensures) ∙ c .before .if1 .left))
+reset-state-requires c κs =
+    let e = sym (c .before .before .order-refusal .ensures) ∙ c .before .if1 .left in
+    let ready = ready-by _ (Call.order _ _ _) e in
+    (laid _ ready, order-low _ _ _ _ e, flagged _ ready)
 
 sub-verdict : tie.Need-sub-verdict
 sub-verdict c = search needs

@@ -1,6 +1,6 @@
 -- `log::are_entries` meets its contract: what is left from place i on decides as the whole does. Assumes nothing.
 use Prim.Native.Nat.{ℕ, _+_, _-_, _*_, _/_, _%_, _≤_, _<_}
-use mathlib.Core.Path.{_≡_, sym, ap, _∙_}
+use mathlib.Core.Path.{_≡_, sym, ap, ap₂, _∙_}
 use mathlib.Core.Bool.{Bool, _&&_, and-assoc}
 use mathlib.Core.List.{List}
 use lib.ListN.{length, getD, take, drop, length-drop}
@@ -10,8 +10,11 @@ use borrow.Author.Needs.{needs}
 use native.Mathlib.Omega.{arith}
 use Rattle.measures.specs.Ranges.{isIn, times}
 use Rattle.tables.specs.Tables.{allZero}
-use Rattle.tables.specs.EntryPlace.{entryAt, isEntryPlace}
+use Rattle.tables.specs.EntryPlace.{entryAt}
 use Rattle.tables.proofs.EntryPlace.{time-here, is-entry-here}
+use Rattle.log.specs.Log.{isLogPlace}
+use Rattle.log.specs.Sieve.{hasFlag}
+use Rattle.log.proofs.Flags.{flag-here}
 use Rattle.log.proofs.Order.{leftHolds, fromHolds, left-start, left-step, left-end, holds-is}
 use Rattle.log.proofs.are_entries.Statement.{statement}
 use Rattle.log.proofs.are_entries.Tie as tie
@@ -60,8 +63,13 @@ module _ (c : tie.After-is-entry-but-time Inv-loop μ-loop) where
   there : at + 1 < length numbers
   there = omega (arith, at-test .before .before .before .pre, at-test .loop-test .taken)
 
-  tested : isEntryPlace (at-test .before .before .before .args .roots) (drop at numbers) ≡ (isIn times (getD numbers at 0 / 1024) && c .is-entry-but-time .result)
-  tested = is-entry-here numbers at there _ ∙ ap (λ (b : Bool). isIn times (getD numbers at 0 / 1024) && b) (sym (c .is-entry-but-time .ensures))
+  tested : isLogPlace (at-test .before .before .before .args .roots) (drop at numbers)
+      ≡ (isIn times (getD numbers at 0 / 1024) && (c .is-entry-but-time .result && hasFlag (getD numbers at 0)))
+  unfolding isLogPlace
+  tested =
+      let timed = isIn times (getD numbers at 0 / 1024) in
+      ap₂ (λ (a b : Bool). a && b) (is-entry-here numbers at there _ ∙ ap (λ (b : Bool). timed && b) (sym (c .is-entry-but-time .ensures))) (flag-here numbers at there)
+      ∙ and-assoc timed (c .is-entry-but-time .result) (hasFlag (getD numbers at 0))
 
   timed : entryAt (drop at numbers) .time ≡ getD numbers at 0 / 1024 % 134_217_728
   timed = time-here numbers at there

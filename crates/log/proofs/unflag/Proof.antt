@@ -1,5 +1,5 @@
--- `log::unflag` meets its contract: the places without the flags, and the count as it was. Assumes nothing.
-use Rattle.log.proofs.Logs.{put-unflagged}
+-- `log::unflag` meets its contract: the places of the entries that stay, and their count. Assumes nothing.
+use Rattle.log.proofs.Logs.{set-table}
 use borrow.Author.Needs.{needs}
 use Rattle.log.proofs.unflag.Statement.{statement}
 use Rattle.log.proofs.unflag.Tie as tie
@@ -19,22 +19,16 @@ part-unflag-places-end c = search needs
 unflag-places-requires : tie.Need-unflag-places-requires
 unflag-places-requires c κs = search needs
 
+slice-write-log : tie.Need-slice-write-log
+slice-write-log c = search needs
+
 same-length : tie.Need-same-length
 same-length c = search needs
 
 returns : tie.Need-returns
 returns c =
     let s = c .before .before .before .before .before .before in
-    put-unflagged _ (s .args .log .now) _ (s .pre .long) (c .before .before .unflag-places .ensures)
+    set-table (s .args .log .now) _ _ _ (s .pre .long) (c .before .before .unflag-places .ensures .count) (c .before .before .unflag-places .ensures .log)
 
 pub unflag-spec : {M : Type 1} → statement M
-unflag-spec =
-    tie.close
-    (tie.spec
-    slice-read-k
-    sub-unflag-places
-    part-unflag-places-start
-    part-unflag-places-end
-    unflag-places-requires
-    same-length
-    returns)
+unflag-spec = tie.close (tie.spec slice-read-k sub-unflag-places part-unflag-places-start part-unflag-places-end unflag-places-requires slice-write-log same-length returns)

@@ -18,9 +18,10 @@ same-length c = search needs
 
 returns : tie.Need-returns
 returns c =
-    let a = c .before .before .before .before .before .before .args in
+    let start = c .before .before .before .before .before .before in
+    let a = start .args in
     c .before .before .put-clock .ensures
-    ∙ ap (λ (s : State). stored s (a .m .now)) (clock-moved (a .root) (decode (a .m .now)) (a .time) (c .before .before .before .before .if1 .taken))
+    ∙ ap (λ (s : State). stored s (a .m .now)) (clock-moved (a .root) (decode (a .m .now)) (a .time) (start .pre .2) (c .before .before .before .before .if1 .taken))
 
 effect-of-requires : tie.Need-effect-of-requires
 effect-of-requires c κs = search needs

@@ -33,6 +33,7 @@ export function draw(state, sort) {
   able("save", state.place > 0);
   able("report", state.place > 0);
   $("save").classList.toggle("main", state.unsaved);
+  saving(state.wordsAlone);
   levels(armed ? armed.levels : []);
   if (!armed) return;
   roots(armed.roots);
@@ -41,7 +42,26 @@ export function draw(state, sort) {
   $("drawn").textContent = `at ${armed.at}`;
   $("armed-from").textContent = `The profile, ${state.profile.name}`;
   $("armed-text").textContent = state.profile.text;
+  resets(state.resets);
   lines(state);
+}
+
+// A day with events that no record holds is saved in words.
+function saving(wordsAlone) {
+  const file = wordsAlone ? "day.txt" : "day.records";
+  $("save").setAttribute("href", file);
+  $("save").setAttribute("download", file);
+  $("save").title = wordsAlone ? "In words, since 12-byte records cannot hold all of its events" : "As 12-byte records";
+}
+
+// What each reset does, as the desk says it.
+function resets(all) {
+  const row = ({ word, zeroes, lifts }) => {
+    const own = element("tr");
+    own.append(element("td", word), element("td", zeroes), element("td", lifts));
+    return own;
+  };
+  $("resets").replaceChildren(...all.map(row));
 }
 
 function able(id, is) {

@@ -41,6 +41,7 @@ const follow = (id) => () => $(id).getAttribute("aria-disabled") !== "true" && $
 
 const KEYS = {
   o: offer, r: () => order(""), 1: () => order("symbol"), 2: () => order("firm"), 3: () => order("both"),
+  4: () => order("t"), 5: () => order("e"), 6: () => order("te"),
   l: () => lock("root"), f: () => lock("firm"), u: () => back(), y: () => forth(),
   t: focus("time"), c: focus("contracts"), "/": focus("line"), s: follow("save"), g: follow("report"),
 };

@@ -1,0 +1,101 @@
+//! A day in words, for events that no record holds: after a line that says so each event as it would be typed, and the bytes of records that hold none.
+
+use crate::answer;
+use crate::asked::Names;
+use crate::command::{self, Command};
+use crate::piece::{Piece, Record};
+use crate::profile::Profile;
+use crate::source::Source;
+use mbrumzheg::{Event, Time, RECORD_SIZE};
+use std::io::{self, BufRead, Read, Write};
+
+/// The first line of a day in words. No record's bytes begin so: as an order's they would have contracts.
+pub const HEAD: &str = "# a day at the desk, in words\n";
+
+/// A longer line is no event.
+const LONGEST: u64 = 1_024;
+
+/// Writes a day in words.
+pub fn write(profile: &Profile, day: &mut dyn Source, to: &mut dyn Write) -> io::Result<()> {
+    to.write_all(HEAD.as_bytes())?;
+    while let Some(piece) = day.next(Time::START).map_err(io::Error::other)? {
+        writeln!(to, "{}", line(profile, &piece))?;
+    }
+    Ok(())
+}
+
+/// A piece as a line. A record whose event cannot be typed, since it holds none or the profile does not name its root, is written by its bytes.
+fn line(profile: &Profile, piece: &Piece) -> String {
+    let is_named = |event: &Event| event.root().is_none_or(|root| (root.number() as usize) < profile.roots.len());
+    match (piece.event().filter(is_named), piece) {
+        (Some(event), _) => answer::typed(profile, &event),
+        (None, Piece::Record(record)) => {
+            let digits: String = record.bytes().iter().map(|byte| format!("{byte:02x}")).collect();
+            format!("record {digits}")
+        }
+        // such an event was typed, and with a name
+        (None, Piece::Apart(event)) => answer::typed(profile, event),
+    }
+}
+
+/// A day in words, read line by line.
+pub struct InWords<'a, R> {
+    from: R,
+    profile: &'a Profile,
+    number: usize,
+}
+
+impl<'a, R: BufRead> InWords<'a, R> {
+    /// Reads from this, with the names of a profile.
+    pub fn new(from: R, profile: &'a Profile) -> InWords<'a, R> {
+        InWords { from, profile, number: 0 }
+    }
+
+    /// The next line without its end; none at the end.
+    fn line(&mut self) -> Result<Option<String>, String> {
+        let mut bytes = Vec::new();
+        let read = self.from.by_ref().take(LONGEST).read_until(b'\n', &mut bytes);
+        self.number += 1;
+        match read {
+            Ok(0) => Ok(None),
+            Ok(_) if bytes.len() as u64 == LONGEST => Err(format!("line {} is longer than any event", self.number)),
+            Ok(_) => Ok(Some(String::from_utf8_lossy(&bytes).trim().to_string())),
+            Err(error) => Err(format!("the day cannot be read to its end: {error}")),
+        }
+    }
+}
+
+impl<R: BufRead> Source for InWords<'_, R> {
+    fn next(&mut self, clock: Time) -> Result<Option<Piece>, String> {
+        while let Some(line) = self.line()? {
+            let names = Names { profile: self.profile, clock };
+            if let Some(piece) = piece(names, &line).map_err(|why| format!("line {}: {why}", self.number))? {
+                return Ok(Some(piece));
+            }
+        }
+        Ok(None)
+    }
+}
+
+/// The piece of a line; none of an empty line or a comment.
+fn piece(names: Names, line: &str) -> Result<Option<Piece>, String> {
+    if let Some(digits) = line.strip_prefix("record ") {
+        return record(digits).map(|record| Some(Piece::Record(record))).ok_or_else(|| format!("'{digits}' are not the bytes of a record"));
+    }
+    match command::read(line)? {
+        Command::Nothing => Ok(None),
+        command => match names.event(&command) {
+            Some(event) => event.map(|event| Some(Piece::of(event))),
+            None => Err("that is no event".to_string()),
+        },
+    }
+}
+
+/// The bytes of digits in base 16, two a byte, of one to twelve bytes.
+fn record(digits: &str) -> Option<Record> {
+    let is_whole =
+        digits.len() % 2 == 0 && (1..=RECORD_SIZE).contains(&(digits.len() / 2)) && digits.bytes().all(|digit| digit.is_ascii_hexdigit());
+    let byte = |at: usize| digits.get(2 * at..2 * at + 2).and_then(|two| u8::from_str_radix(two, 16).ok());
+    let bytes: Option<Vec<u8>> = if is_whole { (0..digits.len() / 2).map(byte).collect() } else { None };
+    bytes.map(|bytes| Record::of(&bytes))
+}

@@ -1,0 +1,115 @@
+//! What the page's desk keeps of a day: it can be replayed from a file, gone back and forth in, saved and reported.
+
+use super::bench::{Bench, Typed};
+use crate::day::Day;
+use crate::piece::Piece;
+use crate::progress::Progress;
+use crate::report::{self, Made};
+use crate::sitting::Sitting;
+use crate::source::{self, Source};
+use crate::table::counted;
+use mbrumzheg::{Adopted, Time, Unit};
+use std::io::Read;
+
+impl Bench {
+    /// Passes every record of a file, or every event of a day in words; nothing where one of its lines cannot be read.
+    pub fn replay(&mut self, name: &str, bytes: &[u8]) -> Result<String, String> {
+        let pieces = read(self.armed()?, bytes)?;
+        self.has_room(pieces.len())?;
+        self.give_up_undone();
+        self.files.push((self.place() + 1, name.to_string()));
+        pieces.iter().for_each(|piece| drop(self.pass(piece, false)));
+        self.name_files();
+        Ok(format!("replayed {} of {name}", counted(pieces.len(), "record")))
+    }
+
+    /// Goes to the day as it was after so many events, back or forth, by a replay on a fresh unit.
+    pub fn go(&mut self, place: usize) -> Result<String, String> {
+        let all = self.pieces()?;
+        if place > all.len() {
+            return Err(format!("there are {}, so there is no place {place} to go to", counted(all.len(), "event")));
+        }
+        let (name, text) = self.profile.clone();
+        let unit = Unit::new().arm(&text).map_err(|refused| refused.to_string())?;
+        self.sitting = Some(Sitting::new(unit, &name, &text));
+        self.log.clear();
+        self.typed.clear();
+        all[..place].iter().for_each(|(piece, typed)| drop(self.pass(piece, *typed)));
+        self.undone = all[place..].to_vec();
+        self.name_files();
+        Ok(format!("the day as it was after {}", counted(place, "event")))
+    }
+
+    /// Notes the files that the day's records came from.
+    fn name_files(&mut self) {
+        let place = self.place();
+        let names = self.files.iter().filter(|(first, _)| *first <= place).map(|(_, name)| name.clone()).collect();
+        if let Some(sitting) = self.sitting.as_mut() {
+            sitting.sources.replayed = names;
+        }
+    }
+
+    /// Every piece, those that were undone at the end.
+    fn pieces(&self) -> Result<Vec<Typed>, String> {
+        let mut from = self.armed()?.day.pieces()?;
+        let mut all = Vec::new();
+        while let Some(piece) = from.next(Time::START)? {
+            all.push((piece, self.typed.get(all.len()).copied().unwrap_or_default()));
+        }
+        all.extend_from_slice(&self.undone);
+        Ok(all)
+    }
+
+    /// The day's records as a file has them, which then counts as saved; not where an event has none.
+    pub fn save(&mut self) -> Result<Vec<u8>, String> {
+        let sitting = self.armed()?;
+        sitting.may_be_records()?;
+        let mut bytes = Vec::new();
+        let read = sitting.day.reader().and_then(|mut reader| reader.read_to_end(&mut bytes));
+        read.map_err(|error| format!("the day's records cannot be read again: {error}"))?;
+        self.saved = Some(sitting.day.sum());
+        Ok(bytes)
+    }
+
+    /// The day in words, which then counts as saved.
+    pub fn save_words(&mut self) -> Result<Vec<u8>, String> {
+        let sitting = self.armed()?;
+        let words = sitting.words()?;
+        self.saved = Some(sitting.day.sum());
+        Ok(words)
+    }
+
+    /// Whether the day can be saved in words alone.
+    pub fn is_words_alone(&self) -> bool {
+        self.sitting.as_ref().is_some_and(|sitting| sitting.may_be_records().is_err())
+    }
+
+    /// Whether there are events that no saved file has.
+    pub fn is_unsaved(&self) -> bool {
+        self.sitting.as_ref().is_some_and(|sitting| sitting.place > 0 && self.saved.as_ref() != Some(&sitting.day.sum()))
+    }
+
+    /// The report that a file of this name gets.
+    pub fn report(&self, file: &str) -> Result<String, String> {
+        let sitting = self.armed()?;
+        if sitting.place == 0 {
+            return Err("there is nothing to report yet; pass an event first".to_string());
+        }
+        let day = Day::replayed(&sitting.profile, &mut sitting.day.pieces()?, None, &mut Progress::of(None))?;
+        Ok(report::of_name(file, &sitting.profile, &day, &Made::at_the_desk(sitting)?))
+    }
+}
+
+/// The pieces of a file, each read at the clock that those before it leave, on a copy of the unit.
+fn read(sitting: &Sitting, bytes: &[u8]) -> Result<Vec<Piece>, String> {
+    let (mut from, _) = source::of_file(bytes, &sitting.profile).map_err(|error| error.to_string())?;
+    let copied = Unit::adopt(sitting.unit.memory().to_vec().into_boxed_slice());
+    let Ok(Adopted::Armed(mut unit)) = copied else { return Err("the unit cannot be copied".to_string()) };
+    let mut pieces = Vec::new();
+    while let Some(piece) = from.next(unit.clock())? {
+        // what is refused leaves the clock as it is
+        let _ = piece.event().map(|event| unit.answer(event));
+        pieces.push(piece);
+    }
+    Ok(pieces)
+}

@@ -1,0 +1,46 @@
+/* Events as structs: the call of each, and its record. Included by mbrumzheg.h. */
+#include "mbrumzheg.h"
+
+#ifndef MBRUMZHEG_EVENTS_H
+#define MBRUMZHEG_EVENTS_H
+
+/* The call of an event's kind; a kind that is none of the three is refused with 16, as its record would be. */
+static inline struct mbrumzheg_judged mbrumzheg_try_event(uint64_t *memory, size_t memory_len, struct mbrumzheg_event event) {
+    uint64_t refused[MBRUMZHEG_ROW] = {MBRUMZHEG_FAULTY_RECORD, 0, 0, 0, 0};
+    switch (event.kind) {
+    case MBRUMZHEG_KIND_ORDER: return mbrumzheg_try_order(memory, memory_len, event.time, event.root, event.reset);
+    case MBRUMZHEG_KIND_OFFER:
+        return mbrumzheg_try_offer(memory, memory_len, event.time, event.root, event.unit, event.premium, event.contracts);
+    case MBRUMZHEG_KIND_LOCKOUT: return mbrumzheg_try_lockout(memory, memory_len, event.time, event.level, event.root);
+    default: return mbrumzheg_judged_in(refused);
+    }
+}
+
+/* mbrumzheg_read_record */
+static inline struct mbrumzheg_reading mbrumzheg_try_read_record(const uint8_t *bytes, size_t bytes_len) {
+    uint64_t row[MBRUMZHEG_EVENT_ROW];
+    struct mbrumzheg_reading reading;
+    mbrumzheg_read_record(bytes, bytes_len, row);
+    reading.refusal = mbrumzheg_refusal_in(row);
+    reading.event.kind = row[MBRUMZHEG_ROW_KIND];
+    reading.event.time = row[MBRUMZHEG_ROW_TIME];
+    reading.event.root = row[MBRUMZHEG_ROW_ROOT];
+    reading.event.unit = row[MBRUMZHEG_ROW_UNIT];
+    reading.event.premium = row[MBRUMZHEG_ROW_PREMIUM];
+    reading.event.contracts = row[MBRUMZHEG_ROW_CONTRACTS];
+    reading.event.reset = row[MBRUMZHEG_ROW_RESET];
+    reading.event.level = row[MBRUMZHEG_ROW_LEVEL];
+    return reading;
+}
+
+/* mbrumzheg_write_record, into the answer itself */
+static inline struct mbrumzheg_record mbrumzheg_try_write_record(struct mbrumzheg_event event) {
+    uint64_t row[MBRUMZHEG_ROW];
+    struct mbrumzheg_record record = {MBRUMZHEG_ACCEPTED, {0}};
+    mbrumzheg_write_record(event.kind, event.time, event.root, event.unit, event.premium, event.contracts, event.reset, event.level,
+                           record.bytes, sizeof record.bytes, row);
+    record.refusal = mbrumzheg_refusal_in(row);
+    return record;
+}
+
+#endif

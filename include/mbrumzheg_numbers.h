@@ -1,0 +1,112 @@
+/* What the numbers of mbrumzheg.h stand for: refusals, verdicts, resets and the like, and the places in a row. Included by mbrumzheg.h. */
+#ifndef MBRUMZHEG_NUMBERS_H
+#define MBRUMZHEG_NUMBERS_H
+
+/* Refusals. docs/EMBEDDING.md says what to do at each. */
+enum mbrumzheg_refusal {
+    MBRUMZHEG_ACCEPTED = 0,
+    MBRUMZHEG_NO_ROOM = 1,        /* the memory is short, or the room is */
+    MBRUMZHEG_UNSOUND = 2,        /* the mark is not 0, and the state is not sound */
+    MBRUMZHEG_ARMED_ALREADY = 3,  /* arming with a mark that is not 0 */
+    MBRUMZHEG_NOT_ARMED = 4,      /* the mark is 0 */
+    MBRUMZHEG_PROFILE_LENGTH = 5, /* the profile is empty, or above 65,536 bytes */
+    MBRUMZHEG_MALFORMED = 6,      /* a line's number of fields, a field's length or characters, or an unknown type */
+    MBRUMZHEG_OTHER_FIRM = 7,     /* a line's firm differs from line 1's */
+    MBRUMZHEG_OUT_OF_RANGE = 8,   /* a limit or a window */
+    MBRUMZHEG_LEVEL_CLASH = 9,    /* a root with T, or neither */
+    MBRUMZHEG_UNIT_CLASH = 10,    /* call/put and month do not go together, or stand in a firm rule */
+    MBRUMZHEG_TOO_MANY = 11,      /* one rule or root too many */
+    MBRUMZHEG_BAD_TIME = 12,      /* a time out of range, or below the clock */
+    MBRUMZHEG_UNKNOWN = 13,       /* a root, unit, rule, level, reset or verdict number, a unit that is not the rule's, or a root's name */
+    MBRUMZHEG_BAD_AMOUNT = 14,    /* a premium or contracts out of range */
+    MBRUMZHEG_LOG_FULL = 15,      /* 512 entries stand inside the longest window */
+    MBRUMZHEG_FAULTY_RECORD = 16  /* no record of a valid event, or no valid event */
+};
+
+/* Verdicts: not locked, the firm is locked, the root is locked. */
+enum mbrumzheg_verdict { MBRUMZHEG_FREE = 0, MBRUMZHEG_FIRM_LOCKED = 1, MBRUMZHEG_ROOT_LOCKED = 2 };
+
+/* What an order resets: nothing; the counts and locks of its root, of the firm, of both; the locks alone of its root (T), of the firm (E), of both. */
+enum mbrumzheg_reset {
+    MBRUMZHEG_RESET_NONE = 0,
+    MBRUMZHEG_RESET_SYMBOL = 1,
+    MBRUMZHEG_RESET_FIRM = 2,
+    MBRUMZHEG_RESET_BOTH = 3,
+    MBRUMZHEG_RESET_T = 4,
+    MBRUMZHEG_RESET_E = 5,
+    MBRUMZHEG_RESET_TE = 6
+};
+
+/* What a lockout locks. */
+enum mbrumzheg_level { MBRUMZHEG_LEVEL_ROOT = 0, MBRUMZHEG_LEVEL_FIRM = 1 };
+
+/* The units of a root: calls or puts, of the front month or of the months behind it. */
+enum mbrumzheg_unit {
+    MBRUMZHEG_CALLS_FRONT = 0,
+    MBRUMZHEG_CALLS_TRAILING = 1,
+    MBRUMZHEG_PUTS_FRONT = 2,
+    MBRUMZHEG_PUTS_TRAILING = 3
+};
+
+/* The kinds of event records. */
+enum mbrumzheg_kind { MBRUMZHEG_KIND_ORDER = 0, MBRUMZHEG_KIND_OFFER = 1, MBRUMZHEG_KIND_LOCKOUT = 2 };
+
+/* The types of rules, by what they count: premium times contracts, contracts or executions, in a window of time or over the day. */
+enum mbrumzheg_rule_type {
+    MBRUMZHEG_RATE_NTNL = 0,
+    MBRUMZHEG_RATE_VOL = 1,
+    MBRUMZHEG_RATE_COUNT = 2,
+    MBRUMZHEG_ABS_NTNL = 3,
+    MBRUMZHEG_ABS_VOL = 4,
+    MBRUMZHEG_ABS_COUNT = 5
+};
+
+/* Status' lowest locked root where none is locked, and a firm rule's root; the unit of a rule that covers all four. */
+enum { MBRUMZHEG_NO_ROOT = 64, MBRUMZHEG_ALL_UNITS = 4 };
+
+/* How long a row is, that of a rule, and that of a record that was read. */
+enum { MBRUMZHEG_ROW = 5, MBRUMZHEG_RULE_ROW = 6, MBRUMZHEG_EVENT_ROW = 9 };
+
+/* The places in a row: of every call, of Arm, of Order, Lockout and Offer, of Remaining, of Status, of Text, a root's name and a profile, of a root
+ * by its name, of a rule, of a record that was read. */
+enum mbrumzheg_place {
+    MBRUMZHEG_ROW_REFUSAL = 0,
+
+    MBRUMZHEG_ROW_LINE = 1,
+    MBRUMZHEG_ROW_FIRM = 2,
+    MBRUMZHEG_ROW_RULES = 3,
+    MBRUMZHEG_ROW_ROOTS = 4,
+
+    MBRUMZHEG_ROW_VERDICT = 1,
+    MBRUMZHEG_ROW_GRANT = 2,
+    MBRUMZHEG_ROW_ROOT_TRIP = 3,
+    MBRUMZHEG_ROW_FIRM_TRIP = 4,
+
+    MBRUMZHEG_ROW_REMAINS = 1,
+
+    MBRUMZHEG_ROW_TRIPPED = 1,
+    MBRUMZHEG_ROW_LOCKED_BY_USER = 2,
+    MBRUMZHEG_ROW_LOCKED = 3,
+    MBRUMZHEG_ROW_LOWEST_LOCKED = 4,
+
+    MBRUMZHEG_ROW_BYTES = 1,
+
+    MBRUMZHEG_ROW_ROOT_NAMED = 1,
+
+    MBRUMZHEG_ROW_RULE_TYPE = 1,
+    MBRUMZHEG_ROW_RULE_LIMIT = 2,
+    MBRUMZHEG_ROW_RULE_WINDOW = 3,
+    MBRUMZHEG_ROW_RULE_ROOT = 4,
+    MBRUMZHEG_ROW_RULE_UNIT = 5,
+
+    MBRUMZHEG_ROW_KIND = 1,
+    MBRUMZHEG_ROW_TIME = 2,
+    MBRUMZHEG_ROW_ROOT = 3,
+    MBRUMZHEG_ROW_UNIT = 4,
+    MBRUMZHEG_ROW_PREMIUM = 5,
+    MBRUMZHEG_ROW_CONTRACTS = 6,
+    MBRUMZHEG_ROW_RESET = 7,
+    MBRUMZHEG_ROW_LEVEL = 8
+};
+
+#endif
