@@ -15,17 +15,11 @@ use Rattle.machine.specs.Deeds.{resetting, clockAfter}
 use Rattle.machine.specs.Calls.{order}
 use Rattle.machine.specs.Refusals.{firstOf, badTime, isRoot, refusalOf}
 use Rattle.machine.specs.Step.{partAfter, after}
-use Rattle.machine.specs.Judge.{ordered, judged, unless, judge, logPlaces, stepIn, step}
+use Rattle.machine.specs.Judge.{ordered, judged, unless, judge, stepIn, step}
+use Rattle.demand.specs.Resets.{NotRefused, afterOrder}
 use Rattle.demand.proofs.Effects.{both, both-self, exchanged, joined}
 
--- an order is not refused
-abbrev pub NotRefused : State → ℕ → ℕ → ℕ → Type 0
-NotRefused s t root reset = refusalOf logPlaces s (order t root reset) ≡ 0
-
--- the state that an order leaves
-abbrev pub afterOrder : State → ℕ → ℕ → ℕ → State
-afterOrder s t root reset = step s (order t root reset) .after
-
+-- an accepted order carries out its reset
 accepted-left : (s : State) (t root reset : ℕ) → NotRefused s t root reset → afterOrder s t root reset ≡ after (resetting t root (effectOf reset)) s
 unfolding step stepIn judge unless judged ordered
 accepted-left s t root reset h = ap (λ (n : ℕ). after (unless n (judged s (order t root reset)) .deed) s) h

@@ -21,10 +21,9 @@ use Rattle.machine.specs.declared.Offer.{Offer}
 use Rattle.machine.specs.Deeds.{granted, Deed}
 use Rattle.machine.specs.Locks.{isTripped, isByUser, isLocked, verdictOf}
 use Rattle.machine.specs.Offers.{grantOf}
-use Rattle.machine.specs.Remaining.{noAccount, ruleAt, cellAt, accountAt, accountFor, leftOf, standing}
+use Rattle.machine.specs.Remaining.{noAccount, ruleAt, Asked, cellAt, accountAt, accountFor, leftOf, standing}
 use Rattle.machine.specs.Judge.{grantedSo, offered}
 use Rattle.machine.proofs.Cells.{cell-place}
-use Rattle.machine.proofs.Refusals.{Asked}
 use Rattle.demand.specs.History.{lifts}
 use Rattle.demand.specs.Locked.{countedIn, locks, locksOut, ruleTrips}
 use Rattle.demand.specs.Answers.{trippedIn, byUserIn, lockedIn, verdictIn, one, standingIn, grantedAnswer, offerAnswer, leftIn}

@@ -6,3 +6,4 @@ pub mod Answers
 pub mod Demand
 pub mod Words
 pub mod Moves
+pub mod Resets

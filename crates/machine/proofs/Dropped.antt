@@ -3,19 +3,18 @@
 use Prim.Native.Nat.{ℕ, zero, suc}
 use mathlib.Core.Path.{_≡_, refl, sym, ap, ap₂, _∙_, subst, fun-ext}
 use mathlib.Core.Bool.{Bool, true, false, cond, _&&_}
-use mathlib.Core.List.{List, [], _∷_, _++_, map}
+use mathlib.Core.List.{List, [], _∷_, _++_}
 use lib.Dec.{ltb}
 use Rattle.laws.specs.Folds.{keep, anyOf}
 use Rattle.rules.specs.Amounts.{numberOf}
 use Rattle.rules.specs.Rules.{levelOf, countedOf}
 use Rattle.rules.specs.Valid.{hasRate}
-use Rattle.rules.specs.Allowance.{All, trips}
+use Rattle.rules.specs.Allowance.{trips}
 use Rattle.rules.specs.declared.Level.{Level}
 use Rattle.rules.specs.declared.Rule.{Rule}
 use Rattle.rules.specs.declared.Account.{Account}
 use Rattle.machine.specs.declared.Entry.{Entry}
 use Rattle.machine.specs.declared.Offer.{Offer}
-use Rattle.machine.specs.declared.Answer.{Answer}
 use Rattle.machine.specs.declared.Answer.the-variants.{Refused}
 use Rattle.machine.specs.State.{Profile, State, rulesIn, armed}
 use Rattle.machine.specs.Entries.{isFlagged, isRecent, recent}
@@ -28,16 +27,13 @@ use Rattle.machine.specs.Offers.{counted, coversOffer, grantOf, sameLeve
 use Rattle.machine.specs.Remaining.{leftOf}
 use Rattle.machine.specs.Refusals.{logFull, firstOf, refusalOf}
 use Rattle.machine.specs.Step.{locksAfter, logAfter, partAfter, after}
-use Rattle.machine.specs.Judge.{Judgement, Result, grantedSo, offered, ordered, judged, unless, judge, stepIn}
+use Rattle.machine.specs.Judge.{Judgement, grantedSo, offered, ordered, judged, unless, judge, stepIn}
+use Rattle.machine.specs.Kept.{dropped, keptLog, keptAfter, keptStep, answersOf, Roomy}
 use Rattle.machine.proofs.Lists.{keep-append, keep-swap, keep-map}
 use Rattle.machine.proofs.Flags.{still-gone, sum-flagged}
 
--- the state without such entries
-unfoldable pub dropped : State → State
-dropped s = record { part = s .part; log = keep isFlagged (s .log) }
-
 module _ (log : List Entry) where
-  -- it counts, grants and trips the same
+  -- without such entries a log counts, grants and trips the same
   counted-dropped : (t : ℕ) (a : Account) → counted (keep isFlagged log) t a ≡ counted log t a
   unfolding counted
   counted-dropped t a = ap (countedOf (a .rule .kind) (numberOf (a .total))) (sum-flagged (a .rule) t log)
@@ -71,20 +67,6 @@ module _ (log : List Entry) where
           ap (λ (kept : List Entry). kept ++ (entryOf o n ∷ [])) (keep-swap (isRecent w (o .time)) isFlagged log)
           ∙ sym (keep-append isFlagged (keep (isRecent w (o .time)) log) (entryOf o n ∷ []))
       go false = refl
-
--- the machine that keeps them: a reset clears flags, and no entry leaves
-unfoldable pub keptLog : Deed → List Rule → List Entry → List Entry
-keptLog nothing rules log = log
-keptLog (passing time) rules log = log
-keptLog (filling source o n) rules log = joinedLog rules log o n
-keptLog (resetting time root effect) rules log = map (unflagged (zeroing effect root)) log
-keptLog (lockingOut time level) rules log = log
-
-abbrev pub keptAfter : Deed → State → State
-keptAfter deed s = record { part = partAfter deed s; log = keptLog deed (rulesIn s) (s .log) }
-
-abbrev pub keptStep : ℕ → State → Call → Result
-keptStep room s call = record { answer = judge room s call .answer; after = keptAfter (judge room s call .deed) s }
 
 module _ (s : State) where
   log-dropped : (deed : Deed) → logAfter deed (rulesIn s) (keep isFlagged (s .log)) ≡ keep isFlagged (keptLog deed (rulesIn s) (s .log))
@@ -156,15 +138,6 @@ module _ (room : ℕ) where
   judge-dropped s call f g =
       ap (λ (j : Judgement). unless (refusalOf room (dropped s) call) j) (judged-dropped s call)
       ∙ ap (λ (n : ℕ). unless n (judged s call)) (refusal-dropped s call (full-told (dropped s) call f) (full-told s call g))
-
-  -- the answers to calls, one after the other
-  pub answersOf : (State → Call → Result) → State → List Call → List Answer
-  answersOf next s [] = []
-  answersOf next s (call ∷ calls) = next s call .answer ∷ answersOf next (next s call .after) calls
-
-  -- none of them is that the log is full
-  abbrev pub Roomy : List Answer → Type 0
-  Roomy answers = All (λ answer. answer ≡ Refused 15 → ⊥) answers
 
   -- EVERY ANSWER BUT 15 STAYS: as long as neither is told that the log is full, the machine that drops the entries and the one that keeps them
   -- answer alike

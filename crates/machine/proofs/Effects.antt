@@ -15,7 +15,7 @@ use Rattle.rules.specs.declared.Level.the-variants.{Firm, Root}
 use Rattle.rules.specs.declared.Account.{Account}
 use Rattle.machine.specs.declared.Entry.{Entry}
 use Rattle.machine.specs.Entries.{isFlagged}
-use Rattle.machine.specs.Effects.{Effect, resets, effectOf, lastReset, zeroing, lifting}
+use Rattle.machine.specs.Effects.{Effect, resets, effectOf, lastReset, zeroing, lifting, ZeroesNone}
 use Rattle.machine.specs.Deeds.{resetting}
 use Rattle.machine.specs.Order.{wiped, unflagged, unflaggedLog}
 use Rattle.machine.specs.Step.{accountsAfter}
@@ -47,10 +47,6 @@ effect-tests (suc (suc (suc (suc (suc (suc (suc n))))))) = rw (above 1 (omega ar
   where
     above : (k : ℕ) → k < 7 → eqb (suc (suc (suc (suc (suc (suc (suc n))))))) k ≡ false
     above k low = ne-eqb _ k (λ e. omega arith)
-
--- a reset that zeroes no counter
-abbrev pub ZeroesNone : Effect → Type 0
-ZeroesNone effect = (effect .zeroroot ≡ false) × (effect .zerofirm ≡ false)
 
 -- T, E and both of these zero none, and lift what SYMBOL, FIRM and BOTH lift
 pub unlocking : (ZeroesNone (effectOf 4)) × (ZeroesNone (effectOf 5)) × (ZeroesNone (effectOf 6))

@@ -12,12 +12,11 @@ use Rattle.measures.specs.Ranges.{In, isIn, times, units, premiums, offers}
 use Rattle.rules.specs.Units.{isUnitOf}
 use Rattle.rules.specs.declared.Level.{Level}
 use Rattle.rules.specs.declared.Level.the-variants.{Firm, Root}
-use Rattle.rules.specs.declared.Rule.{Rule}
 use Rattle.machine.specs.State.{Part, State, rulesIn}
 use Rattle.machine.specs.Calls.{order, lockout, offer, remaining}
 use Rattle.machine.specs.Effects.{lastReset}
 use Rattle.machine.specs.Order.{levelNamed}
-use Rattle.machine.specs.Remaining.{ruleAt, isCell}
+use Rattle.machine.specs.Remaining.{ruleAt, isCell, Asked}
 use Rattle.machine.specs.Refusals.{logFull, firstOf, badTime, isRoot, refusalOf}
 use Rattle.machine.specs.declared.Offer.{Offer}
 
@@ -63,12 +62,7 @@ lockable room s time level root e =
     known zero h = ltb-true root (length (s .part .profile .roots)) h
     known (suc n) h = tt
 
--- a rule of the profile, and a unit that it counts for
-pub record Asked (rules : List Rule) (rule unit : ℕ) : Type 0 where
-  pub known : rule < length rules
-  pub unitKnown : isUnitOf (ruleAt rules rule .scope) unit ≡ true
-
--- what Remaining asks for is such
+-- what Remaining asks for is a rule of the profile, and a unit that it counts for
 pub askable : (room : ℕ) (s : State) (time rule unit : ℕ) → refusalOf room s (remaining time rule unit) ≡ 0
     → Timely (s .part) time × Asked (rulesIn s) rule unit
 unfolding refusalOf isCell

@@ -21,11 +21,10 @@ use Rattle.machine.specs.Effects.{zeroing}
 use Rattle.machine.specs.Deeds.{Source, filling, resetting}
 use Rattle.machine.specs.Order.{wiped}
 use Rattle.machine.specs.Offers.{coversOffer, credited}
-use Rattle.machine.specs.Remaining.{noAccount, ruleAt, cellAt, accountAt, accountFor}
+use Rattle.machine.specs.Remaining.{noAccount, ruleAt, Asked, cellAt, accountAt, accountFor}
 use Rattle.machine.specs.Step.{accountsAfter, partAfter}
 use Rattle.machine.proofs.Lists.{map-at}
 use Rattle.machine.proofs.Cells.{cell-place}
-use Rattle.machine.proofs.Refusals.{Asked}
 
 -- an account of a rule whose level is zeroed
 wiped-zero : (zeroes : Level → Bool) (a : Account) (rule : Rule) → a .rule ≡ rule → zeroes (levelOf (rule .scope)) ≡ true → wiped zeroes a ≡ fresh rule

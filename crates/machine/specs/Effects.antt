@@ -1,5 +1,6 @@
 -- What a reset does, by its number. Assumes nothing.
 use Prim.Native.Nat.{ℕ}
+use mathlib.Core.Path.{_≡_}
 use mathlib.Core.Bool.{Bool, true, false, _&&_}
 use mathlib.Core.List.{List, [], _∷_}
 use lib.ListN.{getD}
@@ -47,3 +48,7 @@ zeroing effect root (Root r) = eqb r root && effect .zeroroot
 unfoldable pub lifting : Effect → ℕ → Level → Bool
 lifting effect root Firm = effect .liftfirm
 lifting effect root (Root r) = eqb r root && effect .liftroot
+
+-- a reset that zeroes no counter
+abbrev pub ZeroesNone : Effect → Type 0
+ZeroesNone effect = (effect .zeroroot ≡ false) × (effect .zerofirm ≡ false)

@@ -10,4 +10,5 @@ pub mod Remaining
 pub mod Refusals
 pub mod Step
 pub mod Judge
+pub mod Kept
 pub mod Sound

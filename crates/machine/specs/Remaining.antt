@@ -1,6 +1,7 @@
 -- What remains of a limit, and how the roots stand. Assumes nothing.
-use Prim.Native.Nat.{ℕ, _+_, _-_}
-use mathlib.Core.Bool.{Bool, _&&_}
+use Prim.Native.Nat.{ℕ, _+_, _-_, _<_}
+use mathlib.Core.Path.{_≡_}
+use mathlib.Core.Bool.{Bool, true, _&&_}
 use mathlib.Core.List.{List}
 use lib.ListN.{length, getD, take}
 use lib.Dec.{ltb}
@@ -28,6 +29,11 @@ ruleAt rules rule = getD rules rule (noAccount .rule)
 -- there is such a rule, and it counts for such a unit
 unfoldable pub isCell : List Rule → ℕ → ℕ → Bool
 isCell rules rule unit = ltb rule (length rules) && isUnitOf (ruleAt rules rule .scope) unit
+
+-- a rule of the profile, and a unit that it counts for
+pub record Asked (rules : List Rule) (rule unit : ℕ) : Type 0 where
+  pub known : rule < length rules
+  pub unitKnown : isUnitOf (ruleAt rules rule .scope) unit ≡ true
 
 -- where the accounts of a rule begin: after those of the rules before it
 abbrev pub firstCell : List Rule → ℕ → ℕ

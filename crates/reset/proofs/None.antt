@@ -9,11 +9,11 @@ use Rattle.rules.specs.declared.Level.{Level}
 use Rattle.rules.specs.declared.Level.the-variants.{Firm, Root}
 use Rattle.machine.specs.State.{State, Locks}
 use Rattle.machine.specs.Entries.{isFlagged}
-use Rattle.machine.specs.Effects.{resets, effectOf, lifting}
+use Rattle.machine.specs.Effects.{resets, effectOf, lifting, ZeroesNone}
 use Rattle.machine.specs.Deeds.{resetting, clockAfter}
 use Rattle.machine.specs.Locks.{lifted}
 use Rattle.machine.specs.Step.{locksAfter, logAfter, partAfter, after}
-use Rattle.machine.proofs.Effects.{ZeroesNone, totals-stay, log-stays}
+use Rattle.machine.proofs.Effects.{totals-stay, log-stays}
 use Rattle.state.specs.Laid.{withClock}
 
 -- it zeroes no counter

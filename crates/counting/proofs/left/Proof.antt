@@ -7,8 +7,7 @@ use Rattle.rules.specs.Units.{ofUnit}
 use Rattle.rules.specs.declared.Rule.{Rule}
 use Rattle.rules.specs.declared.Account.{Account}
 use Rattle.machine.specs.State.{rulesIn}
-use Rattle.machine.specs.Remaining.{ruleAt, accountAt, accountFor, leftOf}
-use Rattle.machine.proofs.Refusals.{Asked}
+use Rattle.machine.specs.Remaining.{ruleAt, Asked, accountAt, accountFor, leftOf}
 use Rattle.machine.proofs.Units.{place-low, account-rule}
 use Rattle.state.specs.State.{decode}
 use Rattle.state.specs.Laid.{accountIn}
