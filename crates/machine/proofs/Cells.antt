@@ -1,6 +1,6 @@
 -- The accounts that a profile's rules have: how many there are, which rule and unit each is of, and which of them an offer looks at. Assumes nothing.
 use Prim.Native.Nat.{ℕ, zero, suc, _+_, _*_, _≤_, _<_}
-use mathlib.Core.Path.{_≡_, refl, ap}
+use mathlib.Core.Path.{_≡_, refl, ap, _∙_}
 use mathlib.Core.Bool.{Bool, true, false, cond}
 use mathlib.Core.List.{List, [], _∷_, _++_, map, List·Memᴰ, List·Memᴰ·head, List·Memᴰ·tail, Memᴰ·append-left, Memᴰ·append-right, Memᴰ·map}
 use lib.ListN.{length, getD, length-append, length-map, List·getD-append}
@@ -18,7 +18,7 @@ use Rattle.rules.specs.declared.Scope.the-variants.{EveryFill, WholeRoot, OneUn
 use Rattle.rules.specs.declared.Rule.{Rule}
 use Rattle.rules.proofs.Units.{units-few, units-some, unit-known, unit-place, unit-self, unit-valid, unit-alone}
 use Rattle.machine.specs.State.{cellsBy, cellsOf}
-use Rattle.machine.specs.Remaining.{ruleAt, cellAt}
+use Rattle.machine.specs.Remaining.{ruleAt, firstCell, cellAt}
 use Rattle.machine.specs.Offers.{coversOffer}
 use Rattle.machine.specs.declared.Offer.{Offer}
 use Rattle.machine.proofs.Lists.{every-all, all-every, keep-append, map-at}
@@ -74,22 +74,26 @@ cell-in rule unit known rules (List·Memᴰ·head {x = first} {xs = rest} e) =
 cell-in rule unit known rules (List·Memᴰ·tail {x = first} {xs = rest} m) =
     Memᴰ·append-right (cellsBy first) (cell-in rule unit known rest m)
 
--- and it stands at its place, whatever stands for none
+-- the accounts of rule r stand one after the other, from where its first one is
+pub cells-at : (rules : List Rule) (r j : ℕ) (none : Rule) → r < length rules → j < length (cellsBy (ruleAt rules r))
+    → (firstCell rules r + j < length (cellsOf rules)) × (getD (cellsOf rules) (firstCell rules r + j) none ≡ getD (cellsBy (ruleAt rules r)) j none)
+unfolding ruleAt cellsOf
+cells-at [] r j none low few = absurd (omega arith)
+cells-at (rule ∷ rest) zero j none low few =
+    (rw length-append (omega arith), rw zero-add (List·getD-append (cellsBy rule) (cellsOf rest) none j few))
+cells-at (rule ∷ rest) (suc r) j none low few =
+    let at = cells-at rest r j none (omega arith) few in
+    (simp length-append (omega (arith, at .0)), rw (length-append, add-assoc, getD-append-add) (at .1))
+
+-- and that for a unit at its place among them, whatever stands for none
 pub cell-place : (rules : List Rule) (rule unit : ℕ) (none : Rule) → rule < length rules → isUnitOf (ruleAt rules rule .scope) unit ≡ true
     → (cellAt rules rule unit < length (cellsOf rules)) × (getD (cellsOf rules) (cellAt rules rule unit) none ≡ ofUnit (ruleAt rules rule) unit)
-unfolding cellAt ruleAt cellsOf cellsBy
-cell-place [] rule unit none low known = absurd (omega arith)
-cell-place (first ∷ rest) zero unit none low known =
-    let at = unit-place (first .scope) unit known in
-    let inside : placeIn (first .scope) unit < length (cellsBy first) = rw length-map (at .0) in (
-      rw length-append (omega arith),
-      rw (zero-add, List·getD-append (cellsBy first) (cellsOf rest) none _ inside, map-at (ofUnit first) _ _ none 0 (at .0), at .1),
-    )
-cell-place (first ∷ rest) (suc rule) unit none low known =
-    let at = cell-place rest rule unit none (omega arith) known in (
-      simp length-append (omega (arith, at .0)),
-      rw (length-append, add-assoc, getD-append-add) (at .1),
-    )
+unfolding cellAt cellsBy
+cell-place rules rule unit none low known =
+    let own = ruleAt rules rule in
+    let at = unit-place (own .scope) unit known in
+    let cell = cells-at rules rule (placeIn (own .scope) unit) none low (rw length-map (at .0)) in
+    (cell .0, cell .1 ∙ map-at (ofUnit own) (unitsOf (own .scope)) _ none 0 (at .0) ∙ ap (ofUnit own) (at .1))
 
 module _ (P Q : Rule → Type 0) (each : (rule : Rule) (unit : ℕ) → isUnitOf (rule .scope) unit ≡ true → P rule → Q (ofUnit rule unit)) where
   -- what holds of every rule, and so of it as it counts for each of its units, holds of every account

@@ -2,13 +2,12 @@
 -- Assumes nothing.
 use Prim.Native.Nat.{ℕ, zero, suc, _+_, _≤_, _<_}
 use mathlib.Core.Path.{_≡_, refl, sym, ap, _∙_, subst}
-use mathlib.Core.Bool.{Bool, false, and-false}
+use mathlib.Core.Bool.{false, and-false}
 use mathlib.Core.List.{List, [], _∷_, map}
-use lib.ListN.{length, getD, take, length-append, length-map, List·getD-append, List·getD-map}
-use lib.Seq.{getD-append-add, take-all}
+use lib.ListN.{length, getD, length-append, length-map, List·getD-map}
+use lib.Seq.{take-all}
 use lib.Dec.{eqb}
 use borrow.Author.Tests.{ne-eqb}
-use native.Mathlib.Nat.{zero-add, add-assoc}
 use native.Mathlib.Numerals.{add-one}
 use native.Mathlib.Omega.{arith}
 use Rattle.measures.specs.Ranges.{In, units}
@@ -24,19 +23,9 @@ use Rattle.machine.specs.Offers.{coversOffer}
 use Rattle.machine.specs.declared.Offer.{Offer}
 use Rattle.rules.proofs.Units.{four, facing-low, facing-scope}
 use Rattle.machine.proofs.Lists.{map-at}
+use Rattle.machine.proofs.Cells.{cells-at}
 
--- the accounts of rule r stand one after the other, from where its first one is
-pub cells-at : (rules : List Rule) (r j : ℕ) (none : Rule) → r < length rules → j < length (cellsBy (ruleAt rules r))
-    → (firstCell rules r + j < length (cellsOf rules)) × (getD (cellsOf rules) (firstCell rules r + j) none ≡ getD (cellsBy (ruleAt rules r)) j none)
-unfolding ruleAt cellsOf
-cells-at [] r j none low few = absurd (omega arith)
-cells-at (rule ∷ rest) zero j none low few =
-    (rw length-append (omega arith), rw zero-add (List·getD-append (cellsBy rule) (cellsOf rest) none j few))
-cells-at (rule ∷ rest) (suc r) j none low few =
-    let at = cells-at rest r j none (omega arith) few in
-    (simp length-append (omega (arith, at .0)), rw (length-append, add-assoc, getD-append-add) (at .1))
-
--- the next rule's begin past them
+-- the accounts of the next rule begin past those of rule r
 cells-suc : (rules : List Rule) (r : ℕ) → r < length rules → firstCell rules (suc r) ≡ firstCell rules r + length (unitsOf (ruleAt rules r .scope))
 unfolding ruleAt cellsOf cellsBy
 cells-suc [] r low = absurd (omega arith)
