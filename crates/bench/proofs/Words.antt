@@ -34,7 +34,8 @@ use Rattle.made.specs.Names.{nameBytes, isNameNumber}
 use Rattle.made.specs.Made.{areRoots}
 use Rattle.text.proofs.Bytes.{made-most}
 use Rattle.text.proofs.InBase.{digits-room}
-use Rattle.state.specs.State.{size, number, marksOf, locksShape, linesOf, profileShape, totalsShape, partShape, numbersShape, totalsIn, numbersOf, encode, stored, totalsSize}
+use Rattle.made.specs.Parts.{totalsSize}
+use Rattle.state.specs.State.{size, number, marksOf, locksShape, linesOf, profileShape, totalsShape, partShape, numbersShape, totalsIn, numbersOf, encode, stored}
 use Rattle.state.specs.Sound.{SoundState}
 use Rattle.state.proofs.Exactly.{MadeParts}
 use Rattle.bench.specs.Lent.{Below}

@@ -20,6 +20,10 @@ namesHold n xs = areRoots (take n xs) && allZero (drop n xs)
 unfoldable pub placesHold : ℕ → ℕ → List ℕ → Bool
 placesHold n k xs = placesPass 2 (isRulePlace n) k xs && areInOrder n [] 0 (places 2 ruleAt k xs) && allZero (drop (k * 2) xs)
 
+-- how many places the totals have: one for each of four units of 256 rules
+abbrev pub totalsSize : ℕ
+totalsSize = 1024
+
 -- each of these accounts has a total that its rule may have
 unfoldable pub ownHold : List Rule → List ℕ → Bool
 ownHold [] xs = true

@@ -12,7 +12,7 @@ ghost use Rattle.rules.specs.Valid.{isTotalNumber, hasRate};
 ghost use Rattle.machine.specs.State.{cellsBy, cellsOf};
 ghost use Rattle.made.specs.Names.{isNameNumber};
 ghost use Rattle.made.specs.Made.{isFresh};
-ghost use Rattle.made.specs.Parts.{namesHold, placesHold, rootsHold, rulesOf, rulesHold, ownHold, totalsHold};
+ghost use Rattle.made.specs.Parts.{namesHold, placesHold, rootsHold, rulesOf, rulesHold, ownHold, totalsHold, totalsSize};
 use admission::Admitted;
 use admission::Tally;
 use measures::Contracts;
@@ -24,6 +24,9 @@ use rules::Scope;
 pub const ROOTS_SIZE: usize = 1 + 64;
 
 pub const RULES_SIZE: usize = 1 + 2 * 256;
+
+// How many the totals take: one for each of four units of 256 rules.
+pub const TOTALS_SIZE: usize = 4 * 256;
 
 // Whether a byte is a digit or a capital letter.
 fn is_name_byte(x: u64) -> bool
@@ -195,7 +198,7 @@ fn has_totals(rule: Rule, totals: &[u64], place: usize) -> bool
 
 // Whether the accounts of the rules in the first k places have totals, and the other places of the totals hold 0.
 fn totals_hold(rules: &[u64], totals: &[u64], k: usize) -> bool
-    requires { ⌜ (length (now rules) ≡ 512) × (length (now totals) ≡ 1024) × (k ≤ 256) ⌝ }
+    requires { ⌜ (length (now rules) ≡ 512) × (length (now totals) ≡ totalsSize) × (k ≤ 256) ⌝ }
     ensures { λ r. ⌜ r ≡ totalsHold (cellsOf (places 2 ruleAt k (now (rules .entry)))) (now (totals .entry)) ⌝ }
 {
     let mut place: usize = 0;
@@ -230,7 +233,7 @@ fn any_rate(rules: &[u64], k: usize) -> bool
 
 // Whether the accounts of the rules of a table have totals, and the other places of the totals hold 0.
 pub fn are_totals(rules: &[u64], totals: &[u64]) -> bool
-    requires { ⌜ (length (now rules) ≡ 513) × (length (now totals) ≡ 1024) × (getD (now rules) 0 0 ≤ 256) ⌝ }
+    requires { ⌜ (length (now rules) ≡ 513) × (length (now totals) ≡ totalsSize) × (getD (now rules) 0 0 ≤ 256) ⌝ }
     ensures { λ r. ⌜ r ≡ totalsHold (cellsOf (rulesOf (now (rules .entry)))) (now (totals .entry)) ⌝ }
 {
     let k = rules[0] as usize;

@@ -13,7 +13,8 @@ use Rattle.tables.specs.RulePlace.{rulesTable}
 use Rattle.tables.proofs.AllZero.{zeros-add}
 use Rattle.tables.proofs.Shapes.{rules-written, log-written}
 use Rattle.profile.specs.Profile.{rootsTable}
-use Rattle.state.specs.State.{size, number, locksShape, marksOf, profileShape, linesOf, totalsShape, partShape, numbersShape, totalsIn, numbersOf, encode, stored, restSize, totalsSize}
+use Rattle.made.specs.Parts.{totalsSize}
+use Rattle.state.specs.State.{size, number, locksShape, marksOf, profileShape, linesOf, totalsShape, partShape, numbersShape, totalsIn, numbersOf, encode, stored, restSize}
 use Rattle.state.proofs.Accounts.{map-length}
 use Rattle.machine.proofs.Cells.{cells-bound}
 

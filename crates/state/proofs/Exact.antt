@@ -11,7 +11,8 @@ use Rattle.shapes.proofs.Valid.{table-few}
 use Rattle.rules.specs.declared.Rule.{Rule}
 use Rattle.tables.proofs.Shapes.{rules-exact, log-exact}
 use Rattle.machine.specs.State.{Profile}
-use Rattle.state.specs.State.{number, locksOf, marksOf, locksShape, profileOf, linesOf, profileShape, totalsShape, partShape, PartNumbers, numbersShape, totalsSize}
+use Rattle.made.specs.Parts.{totalsSize}
+use Rattle.state.specs.State.{number, locksOf, marksOf, locksShape, profileOf, linesOf, profileShape, totalsShape, partShape, PartNumbers, numbersShape}
 
 pub number-exact : Exact number
 unfolding number

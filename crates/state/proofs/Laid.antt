@@ -24,7 +24,8 @@ use Rattle.machine.specs.Remaining.{noAccount, ruleAt as ruleIn}
 use Rattle.machine.proofs.Lists.{every-imp}
 use Rattle.log.specs.Log.{HeldIn, entriesIn, logNumbers}
 use Rattle.log.proofs.Logs.{numbers-held, numbers-entries}
-use Rattle.state.specs.State.{number, locksNumbers, stored, decode, logAt, totalsAt, totalsSize}
+use Rattle.made.specs.Parts.{totalsSize}
+use Rattle.state.specs.State.{number, locksNumbers, stored, decode, logAt, totalsAt}
 use Rattle.state.specs.Laid.{Fits, Laid, accountIn, withClock, withTotal}
 use Rattle.state.specs.Tests.{rulesPart, locksPart, logPart}
 use Rattle.state.proofs.Accounts.{map-length}

@@ -23,10 +23,10 @@ use Rattle.tables.specs.EntryPlace.{entryAt, isEntryPlace, logShape}
 use Rattle.tables.proofs.Shapes.{rules-read, rules-tested, log-read, log-tested}
 use Rattle.admission.specs.Admission.{areInOrder}
 use Rattle.made.specs.Made.{areRoots}
-use Rattle.made.specs.Parts.{namesHold, placesHold, rootsHold, rulesHold, totalsHold}
+use Rattle.made.specs.Parts.{namesHold, placesHold, rootsHold, rulesHold, totalsHold, totalsSize}
 use Rattle.log.specs.Log.{logHolds}
 use Rattle.log.proofs.Logs.{areLogged, holds-parts}
-use Rattle.state.specs.State.{number, locksOf, locksShape, totalsShape, accountsOf, totalsSize}
+use Rattle.state.specs.State.{number, locksOf, locksShape, totalsShape, accountsOf}
 use Rattle.state.specs.Tests.{locksHold}
 use Rattle.machine.proofs.Cells.{cells-bound}
 

@@ -19,10 +19,10 @@ use Rattle.machine.specs.State.{cellsOf, Locks}
 use Rattle.machine.proofs.Totals.{isPaid}
 use Rattle.admission.specs.Admission.{areInOrder}
 use Rattle.made.specs.Made.{areRoots}
-use Rattle.made.specs.Parts.{rootsHold, rulesOf, rulesHold, totalsHold}
+use Rattle.made.specs.Parts.{rootsHold, rulesOf, rulesHold, totalsHold, totalsSize}
 use Rattle.log.specs.Log.{logHolds}
 use Rattle.log.proofs.Logs.{areLogged}
-use Rattle.state.specs.State.{size, number, locksShape, totalsShape, accountsOf, locksAt, logAt, totalsAt, totalsSize}
+use Rattle.state.specs.State.{size, number, locksShape, totalsShape, accountsOf, locksAt, logAt, totalsAt}
 use Rattle.state.specs.Tests.{rootsPart, rulesPart, totalsPart, locksPart, logPart, locksHold}
 use Rattle.state.proofs.Exact.{number-exact, totals-exact, locks-exact}
 use Rattle.state.proofs.Lent.{roots-lent, rules-lent, totals-lent, locks-lent, log-lent}

@@ -14,7 +14,8 @@ use Rattle.tables.specs.EntryPlace.{logShape}
 use Rattle.tables.proofs.Shapes.{rules-written, log-written}
 use Rattle.machine.specs.declared.Entry.{Entry}
 use Rattle.machine.specs.State.{Profile, Locks, cellsOf}
-use Rattle.state.specs.State.{number, locksShape, profileOf, linesOf, profileShape, totalsShape, PartNumbers, partShape, Numbers, numbersShape, locksAt, logAt, totalsAt, totalsSize}
+use Rattle.made.specs.Parts.{totalsSize}
+use Rattle.state.specs.State.{number, locksShape, profileOf, linesOf, profileShape, totalsShape, PartNumbers, partShape, Numbers, numbersShape, locksAt, logAt, totalsAt}
 use Rattle.state.proofs.Exact.{number-exact, profile-exact, totals-exact, part-exact}
 
 -- the log of a part

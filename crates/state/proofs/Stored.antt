@@ -15,7 +15,8 @@ use Rattle.shapes.proofs.Valid.{every-any, rows-ok, table-ok, table-few, table-
 use Rattle.machine.specs.State.{Profile, Locks, State, cellsOf, rootsIn, rulesIn, ruleOf, Fitting}
 use Rattle.tables.specs.RulePlace.{ruleShape, rulesShape}
 use Rattle.tables.specs.EntryPlace.{entryShape, logShape}
-use Rattle.state.specs.State.{size, number, marksOf, locksShape, linesOf, profileShape, totalsShape, partShape, Numbers, numbersShape, totalsIn, accountsOf, numbersOf, stateOf, encode, stored, decode, totalsSize}
+use Rattle.made.specs.Parts.{totalsSize}
+use Rattle.state.specs.State.{size, number, marksOf, locksShape, linesOf, profileShape, totalsShape, partShape, Numbers, numbersShape, totalsIn, accountsOf, numbersOf, stateOf, encode, stored, decode}
 use Rattle.state.specs.Laid.{Fits, Laid}
 use Rattle.state.proofs.Accounts.{accounts-rules, accounts-totals, accounts-measured, accounts-again, map-length}
 use Rattle.state.proofs.Exact.{numbers-exact}

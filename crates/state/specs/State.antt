@@ -12,13 +12,11 @@ use Rattle.tables.specs.RulePlace.{rulesShape}
 use Rattle.tables.specs.EntryPlace.{flagNumber, logShape}
 use Rattle.machine.specs.declared.Entry.{Entry}
 use Rattle.machine.specs.State.{Profile, Locks, State, cellsOf}
+use Rattle.made.specs.Parts.{totalsSize}
 
--- how many numbers a profile, the totals, a firm's part and the whole state take
+-- how many numbers a profile, a firm's part and the whole state take
 abbrev pub profileSize : ℕ
 profileSize = 579
-
-abbrev pub totalsSize : ℕ
-totalsSize = 1024
 
 abbrev pub partSize : ℕ
 partSize = 1608

@@ -8,9 +8,9 @@ use Rattle.measures.specs.Ranges.{_to_, isIn, times}
 use Rattle.rules.specs.Valid.{hasRate}
 use Rattle.machine.specs.State.{cellsOf}
 use Rattle.made.specs.Names.{isNameNumber}
-use Rattle.made.specs.Parts.{rootsHold, rulesOf, rulesHold, totalsHold}
+use Rattle.made.specs.Parts.{rootsHold, rulesOf, rulesHold, totalsHold, totalsSize}
 use Rattle.log.specs.Log.{logHolds}
-use Rattle.state.specs.State.{locksAt, logAt, totalsAt, totalsSize}
+use Rattle.state.specs.State.{locksAt, logAt, totalsAt}
 
 -- the parts as they are lent: the tables of the roots and of the rules, the totals, the locks and the log
 abbrev pub rootsPart : List ℕ → List ℕ

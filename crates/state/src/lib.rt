@@ -33,7 +33,7 @@ pub const RULES: usize = ROOTS + made::ROOTS_SIZE;
 
 pub const TOTALS: usize = RULES + made::RULES_SIZE;
 
-pub const LOCKS: usize = TOTALS + 1024;
+pub const LOCKS: usize = TOTALS + made::TOTALS_SIZE;
 
 pub const LOG: usize = LOCKS + 4;
 

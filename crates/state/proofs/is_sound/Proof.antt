@@ -3,13 +3,14 @@
 use mathlib.Core.Path.{sym, _∙_}
 use native.Mathlib.Omega.{arith}
 use borrow.Author.Tests.{not-true, not-false}
+use Rattle.made.specs.Parts.{totalsSize}
 use Rattle.state.specs.Tests.{partsHold}
 use Rattle.state.proofs.Parts.{part-long}
 use Rattle.state.proofs.Sound.{sound-short, sound-front, roots-fit, sound-rules, rules-fit, sound-rest}
 use borrow.Author.Needs.{needs}
 use Rattle.state.proofs.is_sound.Statement.{statement}
 use Rattle.state.proofs.is_sound.Tie as tie
-use Rattle.state.specs.State.{totalsAt, totalsSize}
+use Rattle.state.specs.State.{totalsAt}
 
 returns : tie.Need-returns
 returns c = sound-short _ (c .if1 .taken)
