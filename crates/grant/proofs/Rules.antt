@@ -1,13 +1,13 @@
 -- The rules one after the other: of the accounts of each, an offer looks at the one for its unit. Assumes nothing.
-use Prim.Native.Nat.{ℕ, _+_, _≤_, _<_}
+use Prim.Native.Nat.{ℕ, _+_, _<_}
 use mathlib.Core.Path.{_≡_, refl, sym, ap, ap₂, _∙_, subst}
-use mathlib.Core.Bool.{Bool, true, false, not, _&&_, _||_, and-false, or-false}
+use mathlib.Core.Bool.{Bool, false, not, _&&_, _||_, and-false, or-false}
 use mathlib.Core.List.{List}
 use lib.ListN.{length, getD}
 use native.Mathlib.Omega.{arith}
 use Rattle.measures.specs.Ranges.{In, units}
 use Rattle.rules.specs.Rules.{isRate}
-use Rattle.rules.specs.Units.{unitsOf, placeIn, ofUnit}
+use Rattle.rules.specs.Units.{placeIn, ofUnit}
 use Rattle.rules.specs.declared.Level.{Level}
 use Rattle.rules.specs.declared.Level.the-variants.{Firm, Root}
 use Rattle.rules.specs.declared.Rule.{Rule}
@@ -16,10 +16,9 @@ use Rattle.machine.specs.declared.Offer.{Offer}
 use Rattle.machine.specs.State.{rulesIn, Fitting}
 use Rattle.machine.specs.Remaining.{noAccount, ruleAt, firstCell}
 use Rattle.machine.specs.Offers.{coversOffer, credited}
-use Rattle.machine.proofs.Walk.{cells-next, cells-within, cells-end, facing-account, facing-rule, through}
+use Rattle.machine.proofs.Walk.{facing-account, facing-rule, through}
 use Rattle.state.specs.State.{decode}
 use Rattle.state.specs.Laid.{Laid, accountIn}
-use Rattle.state.proofs.Laid.{many-accounts, laid-few}
 use Rattle.state.proofs.After.{held-laid}
 use Rattle.state.proofs.Done.{change-none, doing-at}
 use Rattle.grant.specs.Grant.{concerns, fills, lowered, Credited}
@@ -35,18 +34,7 @@ module _ {xs : List ℕ} (h : Laid xs) where
   abbrev accounts : List Account
   accounts = decode xs .part .accounts
 
-  -- past the last rule all accounts stand before
-  pub walked : {r place : ℕ} → place ≡ firstCell rules r → length rules ≤ r → length accounts ≤ place
-  walked {r} at all = omega (arith, at, cells-end rules r all, many-accounts (h .fits))
-
   module _ {r : ℕ} (low : r < length rules) {place : ℕ} (at : place ≡ firstCell rules r) {rule : Rule} (is : rule ≡ ruleAt rules r) where
-    -- the place of the next rule's accounts, which an index can hold
-    pub next-place : {n : ℕ} → n ≡ length (unitsOf (rule .scope)) → (place + n ≡ firstCell rules (r + 1)) × (place + n ≤ 1024)
-    next-place {n} many =
-        let on : place + n ≡ firstCell rules (r + 1) =
-        ap₂ (λ (a b : ℕ). a + b) at (many ∙ ap (λ (q : Rule). length (unitsOf (q .scope))) is) ∙ sym (cells-next rules r low) in
-        (on, omega (arith, on, cells-within rules (r + 1), many-accounts (h .fits), laid-few h))
-
     module _ (o : Offer) (known : In units (o .unit)) {n : ℕ} (own : n ≡ placeIn (rule .scope) (o .unit)) where
       facing : place + n ≡ firstCell rules r + placeIn (ruleAt rules r .scope) (o .unit)
       facing = ap₂ (λ (a b : ℕ). a + b) at (own ∙ ap (λ (q : Rule). placeIn (q .scope) (o .unit)) is)

@@ -53,7 +53,7 @@ module _ (accounts : List Account) (rules : List Rule) (fits : map ruleOf accoun
   abbrev cell : ℕ → Account
   cell j = getD accounts (firstCell rules r + j) noAccount
 
-  pub own-low : (j : ℕ) → j < length (cellsBy rule) → firstCell rules r + j < length accounts
+  own-low : (j : ℕ) → j < length (cellsBy rule) → firstCell rules r + j < length accounts
   own-low j few = omega (arith, length-map accounts ruleOf, ap length fits, cells-at rules r j (noAccount .rule) low few .0)
 
   pub own-rule : (j : ℕ) → j < length (unitsOf (rule .scope)) → cell j .rule ≡ ofUnit rule (getD (unitsOf (rule .scope)) j 0)

@@ -4,7 +4,7 @@ use native.Mathlib.Omega.{arith}
 use mathlib.Core.Path.{_≡_, refl, sym, ap, _∙_, subst}
 use mathlib.Core.Bool.{Bool, true, false, cond}
 use mathlib.Core.List.{List}
-use lib.ListN.{length, length-map}
+use lib.ListN.{length}
 use Rattle.rules.specs.Amounts.{amountIn, isOf}
 use Rattle.rules.specs.Rules.{levelOf}
 use Rattle.rules.specs.Units.{unitsOf, ofUnit}
@@ -15,12 +15,13 @@ use Rattle.rules.specs.declared.Rule.{Rule}
 use Rattle.rules.specs.declared.Account.{Account}
 use Rattle.rules.proofs.Amounts.{of-in}
 use Rattle.rules.proofs.Units.{units-some, unit-level}
-use Rattle.machine.specs.State.{rulesIn, cellsBy, Fitting}
+use Rattle.machine.specs.State.{rulesIn, Fitting}
 use Rattle.machine.specs.Remaining.{ruleAt, firstCell}
 use Rattle.machine.specs.Order.{wiped}
-use Rattle.machine.proofs.Walk.{cells-next, own-low, own-rule}
+use Rattle.machine.proofs.Walk.{cells-next, own-rule}
 use Rattle.state.specs.State.{stored, decode}
 use Rattle.state.specs.Laid.{Laid, accountIn, withTotal}
+use Rattle.state.proofs.Walked.{place-within}
 use Rattle.state.proofs.Done.{isMeasured, Fair, change-none}
 use Rattle.state.proofs.Between.{Passing, passing-none, passing-at, passing-more}
 
@@ -48,15 +49,8 @@ module _ {xs : List ℕ} (h : Laid xs) {r place next : ℕ} (low : r < length (r
   past : next ≡ firstCell rules r + many
   past = to ∙ cells-next rules r low
 
-  own-inside : (k : ℕ) → k < many → firstCell rules r + k < length (decode xs .part .accounts)
-  unfolding rulesIn Fitting cellsBy
-  own-inside k few = own-low (decode xs .part .accounts) rules (h .fits .fitting) r low k (rw length-map few)
-
   pub place-next : place < next
   place-next = omega (arith, from, past, units-some (rule .scope))
-
-  pub next-few : next ≤ length (decode xs .part .accounts)
-  next-few = let some = units-some (rule .scope) in omega (arith, past, some, own-inside (many - 1) (omega (arith, some)))
 
   -- each has the level and the limit of the rule
   abbrev Own : Account → Type 0
@@ -82,7 +76,7 @@ module _ {xs : List ℕ} (h : Laid xs) {r place next : ℕ} (low : r < length (r
         let a = accountIn ys j in
         let its : Own a = subst Own (sym (passing-at fair h w)) (own j (w .from) less) in
         let zero = e ∙ ap (λ (l : Limit). amountIn l 0) (sym (its .1)) ∙ ap (λ (b : Bool). cond b (amountIn (a .rule .limit) 0) (a .total)) (sym (ap zeroes (its .0) ∙ on)) in
-        passing-more fair h w (omega (arith, next-few)) (z ∙ ap (λ (t : Amount). stored (withTotal (decode ys) j t) ys) zero)
+        passing-more fair h w (omega (arith, place-within h (r + 1) to)) (z ∙ ap (λ (t : Amount). stored (withTotal (decode ys) j t) ys) zero)
 
     -- any other rule: each stays as it is
     module _ (off : zeroes (levelOf (rule .scope)) ≡ false) where
@@ -99,7 +93,7 @@ module _ {xs : List ℕ} (h : Laid xs) {r place next : ℕ} (low : r < length (r
       passed zero most = subst Passed (omega arith) (passing-none (wiped-fair zeroes) h place)
       passed (suc k) most =
           let more = change-none (wiped zeroes) (place + k) h (stays (place + k) (omega arith) (omega (arith, most))) in
-          subst Passed (omega arith) (passing-more (wiped-fair zeroes) h (passed k (omega (arith, most))) (omega (arith, most, next-few)) more)
+          subst Passed (omega arith) (passing-more (wiped-fair zeroes) h (passed k (omega (arith, most))) (omega (arith, most, place-within h (r + 1) to)) more)
 
       pub wiped-off : Passed next
       wiped-off = subst Passed (omega (arith, place-next)) (passed (next - place) (omega (arith, place-next)))

@@ -1,5 +1,5 @@
 -- `grant::credit` meets its contract: the accounts of the rules before i are credited, and the others stand as they were. Assumes nothing.
-use Prim.Native.Nat.{ℕ, _+_, _-_, _<_}
+use Prim.Native.Nat.{_+_, _-_, _<_}
 use native.Mathlib.Omega.{arith}
 use mathlib.Core.Path.{_≡_, refl, sym, ap, _∙_, subst}
 use mathlib.Core.Bool.{true}
@@ -12,11 +12,12 @@ use Rattle.machine.specs.Remaining.{ruleAt, firstCell}
 use Rattle.machine.proofs.Totals.{isPaid}
 use Rattle.state.specs.State.{decode}
 use Rattle.state.proofs.Laid.{laid-few}
+use Rattle.state.proofs.Walked.{place-within, walked, next-place}
 use Rattle.state.proofs.After.{held-laid, held-length}
 use Rattle.state.proofs.Done.{doing-length, doing-rules, doing-past}
 use Rattle.grant.proofs.Credits.{credit-fair, laid-totals}
 use Rattle.grant.proofs.Accounts.{Crediting, crediting-none, crediting-done}
-use Rattle.grant.proofs.Rules.{walked, next-place, faced-low, faced-rule, crediting-rule}
+use Rattle.grant.proofs.Rules.{faced-low, faced-rule, crediting-rule}
 use borrow.Author.Needs.{needs}
 use Rattle.grant.proofs.credit.Statement.{statement}
 use Rattle.grant.proofs.credit.Tie as tie
@@ -97,7 +98,8 @@ add-place c =
     let same = doing-rules (credit-fair (start .args .o) (start .args .grant)) laid (at-loop .loop .inv .1 .doing) in
     let low : at-loop .loop .i < length (rulesIn (decode (start .args .m .now))) = omega (arith, at-loop .before .rules-in .ensures, at-rule .before .before .loop-test .taken) in
     let is = at-rule .rule-in .ensures ∙ ap (λ (l : List Rule). ruleAt l (at-loop .loop .i)) same in
-    omega (arith, next-place laid low (at-loop .loop .inv .2) is (c .accounts .ensures) .1)
+    let on = next-place laid low (at-loop .loop .inv .2) is (c .accounts .ensures) in
+    omega (arith, place-within laid (at-loop .loop .i + 1) on, laid-few laid)
 
 add-i : tie.Need-add-i Inv-loop μ-loop
 add-i c =
@@ -120,7 +122,7 @@ loop-again c =
     let low : at-loop .loop .i < length (rulesIn (decode (start .args .m .now))) = omega (arith, at-loop .before .rules-in .ensures, at-rule .before .before .loop-test .taken) in
     let is = at-rule .rule-in .ensures ∙ ap (λ (l : List Rule). ruleAt l (at-loop .loop .i)) same in
     let place = at-loop .loop .inv .2 in
-    let on = next-place laid low place is (c .accounts .ensures) .0 in
+    let on = next-place laid low place is (c .accounts .ensures) in
     let one = c .before .before .before .credit-one in
     let next = crediting-rule laid low place is o (start .pre .0 .unit) (c .before .before .before .before .place-of .ensures) on (at-loop .loop .inv .1) (one .ensures) in (
       held-length (next .doing .holds) (laid .long),

@@ -1,5 +1,5 @@
 -- `grant::cuts_of` meets its contract: the lesser of a cut and what the accounts of the rules from i on leave is what all accounts leave. Assumes nothing.
-use Prim.Native.Nat.{_-_, _<_}
+use Prim.Native.Nat.{_+_, _-_, _<_}
 use mathlib.Core.Path.{_≡_, refl}
 use native.Mathlib.Omega.{arith}
 use lib.ListN.{length}
@@ -9,8 +9,9 @@ use Rattle.machine.specs.Remaining.{firstCell}
 use Rattle.state.specs.State.{decode}
 use Rattle.log.specs.Memo.{RightTwo}
 use Rattle.state.proofs.Laid.{laid-few}
+use Rattle.state.proofs.Walked.{place-within, walked, next-place}
 use Rattle.grant.proofs.Cut.{Cut, cut-none, cut-done}
-use Rattle.grant.proofs.Rules.{walked, next-place, faced-low, faced-rule, cut-rule}
+use Rattle.grant.proofs.Rules.{faced-low, faced-rule, cut-rule}
 use borrow.Author.Needs.{needs}
 use Rattle.grant.proofs.cuts_of.Statement.{statement}
 use Rattle.grant.proofs.cuts_of.Tie as tie
@@ -80,7 +81,8 @@ add-place c =
     let at-loop = at-rule .before .before in
     let start = at-loop .before .before .before .before in
     let low : at-loop .loop .i < length (rulesIn (decode (start .args .m .now))) = omega (arith, at-loop .before .before .rules-in .ensures, at-rule .before .loop-test .taken) in
-    omega (arith, next-place (start .pre .laid) low (at-loop .loop .inv .3) (at-rule .rule-in .ensures) (c .accounts .ensures) .1)
+    let on = next-place (start .pre .laid) low (at-loop .loop .inv .3) (at-rule .rule-in .ensures) (c .accounts .ensures) in
+    omega (arith, place-within (start .pre .laid) (at-loop .loop .i + 1) on, laid-few (start .pre .laid))
 
 add-i : tie.Need-add-i Inv-loop μ-loop
 add-i c =
@@ -103,7 +105,7 @@ loop-again c =
     let is = at-rule .rule-in .ensures in
     let own = c .before .before .before .before .place-of .ensures in
     let e = c .before .before .before .lower .ensures in
-    let on = next-place laid low place is (c .accounts .ensures) .0 in (
+    let on = next-place laid low place is (c .accounts .ensures) in (
       cut-rule laid low place is o (start .pre .unit) own on (at-loop .loop .inv .0) (e .0 .root),
       cut-rule laid low place is o (start .pre .unit) own on (at-loop .loop .inv .1) (e .0 .firm),
       e .1,

@@ -1,22 +1,20 @@
 -- `reset::wipe` meets its contract: the accounts of the first i rules are wiped, and the others stand as they were. Assumes nothing.
-use Prim.Native.Nat.{ℕ, _+_, _-_, _<_}
+use Prim.Native.Nat.{_+_, _-_, _<_}
 use mathlib.Core.Path.{_≡_, refl, sym, ap, _∙_}
 use mathlib.Core.List.{List}
 use native.Mathlib.Omega.{arith}
 use lib.ListN.{length}
 use Rattle.rules.specs.declared.Rule.{Rule}
-use Rattle.rules.specs.declared.Account.{Account}
-use Rattle.machine.specs.State.{State, rulesIn, cellsOf}
+use Rattle.machine.specs.State.{rulesIn, cellsOf}
 use Rattle.machine.specs.Remaining.{firstCell}
 use Rattle.machine.specs.Effects.{zeroing}
 use Rattle.machine.specs.Order.{wiped}
-use Rattle.machine.proofs.Walk.{cells-end}
 use Rattle.state.specs.State.{decode}
-use Rattle.state.proofs.Laid.{many-accounts}
-use Rattle.state.proofs.After.{held-laid, held-length, held-state}
-use Rattle.state.proofs.Done.{Doing, doing-none, doing-all}
+use Rattle.state.proofs.Walked.{place-within, walked}
+use Rattle.state.proofs.After.{held-laid, held-length}
+use Rattle.state.proofs.Done.{Doing, doing-none, doing-rules, doing-all}
 use Rattle.state.proofs.Between.{doing-between}
-use Rattle.reset.proofs.Wipes.{wiped-fair, place-next, next-few}
+use Rattle.reset.proofs.Wipes.{wiped-fair, place-next}
 use borrow.Author.Needs.{needs}
 use Rattle.reset.proofs.wipe.Statement.{statement}
 use Rattle.reset.proofs.wipe.Tie as tie
@@ -27,11 +25,6 @@ Inv-loop m₀ root effect rules place₀ i₀ m place i =
 
 abbrev μ-loop : tie.MeasureT-loop
 μ-loop m₀ root effect rules place₀ i₀ m place i = rules - i
-
--- the rules are those of the state at the start
-same-rules : {f : Account → Account} {xs ys : List ℕ} {place : ℕ} → Doing f xs place ys → rulesIn (decode ys) ≡ rulesIn (decode xs)
-unfolding rulesIn
-same-rules d = ap (λ (s : State). s .part .profile .rules) (held-state (d .holds))
 
 rules-in-requires : tie.Need-rules-in-requires Inv-loop μ-loop
 rules-in-requires c κs = search needs
@@ -44,9 +37,11 @@ loop-holds c =
 
 wipe-rule-requires : tie.Need-wipe-rule-requires Inv-loop μ-loop
 wipe-rule-requires c κs =
-    let inv = c .before .before .loop .inv in
-    let same = same-rules (inv .2) in
-    (held-laid (inv .2 .holds), omega (arith, inv .0, ap length same, c .before .loop-test .taken), inv .1 ∙ ap (λ (l : List Rule). firstCell l (c .before .before .loop .i)) (sym same))
+    let at-loop = c .before .before in
+    let inv = at-loop .loop .inv in
+    let start = at-loop .before .before .before .before in
+    let same = doing-rules (wiped-fair (zeroing (start .args .effect) (start .args .root))) (start .pre) (inv .2) in
+    (held-laid (inv .2 .holds), omega (arith, inv .0, ap length same, c .before .loop-test .taken), inv .1 ∙ ap (λ (l : List Rule). firstCell l (at-loop .loop .i)) (sym same))
 
 add-i : tie.Need-add-i Inv-loop μ-loop
 add-i c = search needs
@@ -63,10 +58,10 @@ loop-again c =
     let fair = wiped-fair (zeroing (start .args .effect) (start .args .root)) in
     let low : at-loop .loop .i < length (rulesIn (decode (start .args .m .now))) = omega (arith, inv .0, at-rule .before .before .loop-test .taken) in
     let to : at-rule .wipe-rule .result ≡ firstCell (rulesIn (decode (start .args .m .now))) (at-loop .loop .i + 1) =
-    at-rule .wipe-rule .ensures .0 ∙ ap (λ (l : List Rule). firstCell l (at-loop .loop .i + 1)) (same-rules (inv .2)) in (
+    at-rule .wipe-rule .ensures .0 ∙ ap (λ (l : List Rule). firstCell l (at-loop .loop .i + 1)) (doing-rules fair (start .pre) (inv .2)) in (
       inv .0,
       to,
-      doing-between fair (start .pre) (inv .2) (omega (arith, place-next (start .pre) low (inv .1) to)) (next-few (start .pre) low (inv .1) to) (at-rule .wipe-rule .ensures .1),
+      doing-between fair (start .pre) (inv .2) (omega (arith, place-next (start .pre) low (inv .1) to)) (place-within (start .pre) (at-loop .loop .i + 1) to) (at-rule .wipe-rule .ensures .1),
     )
 
 same-length : tie.Need-same-length Inv-loop μ-loop
@@ -76,9 +71,8 @@ returns : tie.Need-returns Inv-loop μ-loop
 returns c =
     let inv = c .before .loop .inv in
     let start = c .before .before .before .before .before in
-    let rules = rulesIn (decode (start .args .m .now)) in
-    let end = cells-end rules (c .before .loop .i) (omega (arith, inv .0, c .loop-test .left)) in
-    doing-all (wiped-fair (zeroing (start .args .effect) (start .args .root))) (start .pre) (inv .2) (omega (arith, inv .1, end, many-accounts (start .pre .fits)))
+    let all = walked (start .pre) {r = c .before .loop .i} (inv .1) (omega (arith, inv .0, c .loop-test .left)) in
+    doing-all (wiped-fair (zeroing (start .args .effect) (start .args .root))) (start .pre) (inv .2) all
 
 pub wipe-spec : {M : Type 1} → statement M
 wipe-spec = tie.close (tie.spec Inv-loop μ-loop rules-in-requires loop-holds wipe-rule-requires add-i loop-less loop-again same-length returns)

@@ -1,6 +1,6 @@
 -- `reset::wipe_rule` meets its contract: the totals of a rule that is zeroed are so one after the other, and those of any other stand as they were. Assumes nothing.
 use Prim.Native.Nat.{ℕ, _+_, _-_, _≤_}
-use mathlib.Core.Path.{_≡_, sym, ap, ap₂, _∙_}
+use mathlib.Core.Path.{_≡_, sym, ap, _∙_}
 use mathlib.Core.Bool.{Bool, true}
 use mathlib.Core.List.{List}
 use native.Mathlib.Omega.{arith}
@@ -8,20 +8,19 @@ use borrow.Author.Tests.{not-true, not-false}
 use lib.ListN.{length}
 use Rattle.rules.specs.Amounts.{amountIn}
 use Rattle.rules.specs.Rules.{levelOf}
-use Rattle.rules.specs.Units.{unitsOf}
 use Rattle.rules.specs.declared.Level.{Level}
 use Rattle.rules.specs.declared.Rule.{Rule}
 use Rattle.machine.specs.State.{rulesIn}
 use Rattle.machine.specs.Remaining.{ruleAt, firstCell}
 use Rattle.machine.specs.Effects.{zeroing}
-use Rattle.machine.proofs.Walk.{cells-next}
 use Rattle.state.specs.State.{stored, decode}
 use Rattle.state.specs.Laid.{withAccounts, between}
 use Rattle.machine.specs.Order.{wiped}
 use Rattle.state.proofs.Laid.{laid-few}
+use Rattle.state.proofs.Walked.{place-within, next-place}
 use Rattle.state.proofs.After.{held-laid, held-length}
 use Rattle.state.proofs.Between.{Passing, passing-none, passing-length}
-use Rattle.reset.proofs.Wipes.{wiped-fair, place-next, next-few, wiped-on, wiped-off}
+use Rattle.reset.proofs.Wipes.{wiped-fair, place-next, wiped-on, wiped-off}
 use borrow.Author.Needs.{needs}
 use Rattle.reset.proofs.wipe_rule.Statement.{statement}
 use Rattle.reset.proofs.wipe_rule.Tie as tie
@@ -55,12 +54,10 @@ zeroes t = zeroing (start t .args .effect) (start t .args .root)
 
 -- the next rule's accounts begin past those of this one
 next-first : (t : Many) → next t ≡ firstCell (rules t) (start t .args .i + 1)
-next-first t =
-    ap₂ (λ (a b : ℕ). a + b) (start t .pre .2) (t .accounts .ensures ∙ ap (λ (r : Rule). length (unitsOf (r .scope))) (t .before .rule-in .ensures))
-    ∙ sym (cells-next (rules t) (start t .args .i) (start t .pre .1))
+next-first t = next-place (start t .pre .0) (start t .pre .1) (start t .pre .2) (t .before .rule-in .ensures) (t .accounts .ensures)
 
 next-most : (t : Many) → next t ≤ length (decode (start t .args .m .now) .part .accounts)
-next-most t = next-few (start t .pre .0) (start t .pre .1) (start t .pre .2) (next-first t)
+next-most t = place-within (start t .pre .0) (start t .args .i + 1) (next-first t)
 
 -- what is told of the rule is told of its level
 level-told : (e : tie.After-zeroes Inv-loop μ-loop) {answer : Bool} → e .zeroes .result ≡ answer
