@@ -1,5 +1,5 @@
--- Rows beyond document 01's table: rules of one unit, units that count for themselves, FIRM and BOTH, T and E, lockouts at both levels, Status, verdict 1, the refusals 12 to 14, a profile
--- of firm rules alone; and texts that Arm refuses. Assumes nothing.
+-- Rows beyond document 01's table: rules of one unit, units that count for themselves, FIRM and BOTH, T and E, lockouts at both levels, Status,
+-- verdict 1, the refusals 12 to 14, a profile of firm rules alone; and texts that Arm refuses. Assumes nothing.
 use Prim.Native.Nat.{ℕ, _≤_}
 use Prim.Native.String.{String}
 use mathlib.Core.Path.{_≡_}
