@@ -47,6 +47,14 @@ int main(void) {
     EXPECT(is(0, MBRUMZHEG_ROOT_LOCKED, 0, 0, 0));
     mbrumzheg_text(row[1], text, sizeof text, row);
     EXPECT(is(0, 19, 0, 0, 0) && text[0] == 's' && text[18] == 'l');
+    mbrumzheg_order(memory, MBRUMZHEG_SIZE, 20, 0, MBRUMZHEG_RESET_T, row);
+    EXPECT(is(0, MBRUMZHEG_FREE, 0, 0, 0));
+    mbrumzheg_send(memory, MBRUMZHEG_SIZE, 20, 0, MBRUMZHEG_CALLS_FRONT, 70000, 5, 9, 2, row);
+    EXPECT(is(0, MBRUMZHEG_FREE, 0, 0, 0));
+    mbrumzheg_report(memory, MBRUMZHEG_SIZE, 20, 9, 3, row);
+    EXPECT(is(0, MBRUMZHEG_FREE, 3, 1, 0));
+    mbrumzheg_close(memory, MBRUMZHEG_SIZE, 20, 9, row);
+    EXPECT(is(0, MBRUMZHEG_FREE, 0, 0, 0));
     mbrumzheg_lockout(memory, MBRUMZHEG_SIZE, 20, MBRUMZHEG_LEVEL_FIRM, 0, row);
     EXPECT(is(0, 0, 0, 0, 0));
     mbrumzheg_status(memory, MBRUMZHEG_SIZE, row);

@@ -2,8 +2,8 @@
  * with two colours, since a call may write the one. Prints the most that each call took over all its tries, less what an empty call takes, and
  * ends with 1 if Arm took more than MBRUMZHEG_STACK_BYTES, or another call more than MBRUMZHEG_CALL_STACK_BYTES.
  *
- * The tries: memory that is short, unarmed, unsound; armed with one rule, with 256 rules and 64 roots, with 16 covering rules and a log of 512
- * entries; profiles that are refused by their last line, and one of 65,536 bytes; every reset, level and unit; no room for a
+ * The tries: memory that is short, unarmed, unsound; armed with one rule, with 256 rules and 64 roots, with 16 covering rules, 64 orders sent away and a
+ * log of 512 entries; profiles that are refused by their last line, and one of 65,536 bytes; every reset, level and unit; no room for a
  * profile, and room for the longest. */
 #define _XOPEN_SOURCE 700
 #include <inttypes.h>
@@ -15,9 +15,11 @@
 
 #define ROOM (1u << 17)
 
-enum call { EMPTY, ARM, CLEAR, ORDER, LOCKOUT, OFFER, REMAINING, STATUS, ROOT_NAMED, ROOT_NAME, RULE, PROFILE, TEXT, READ_RECORD, WRITE_RECORD, CALLS };
-static const char *const names[CALLS] = {"empty", "arm", "clear", "order", "lockout", "offer", "remaining", "status", "root_named",
-                                         "root_name", "rule", "profile", "text", "read_record", "write_record"};
+enum call {
+    EMPTY, ARM, CLEAR, ORDER, LOCKOUT, OFFER, SEND, REPORT, CLOSE, REMAINING, STATUS, ROOT_NAMED, ROOT_NAME, RULE, PROFILE, TEXT, READ_RECORD, WRITE_RECORD, CALLS
+};
+static const char *const names[CALLS] = {"empty", "arm", "clear", "order", "lockout", "offer", "send", "report", "close", "remaining", "status",
+                                         "root_named", "root_name", "rule", "profile", "text", "read_record", "write_record"};
 
 /* The call that is measured, with what it is given. */
 static enum call what;
@@ -40,6 +42,9 @@ static void run(void) {
     case ORDER: mbrumzheg_order(memory, memory_len, n[0], n[1], n[2], row); break;
     case LOCKOUT: mbrumzheg_lockout(memory, memory_len, n[0], n[1], n[2], row); break;
     case OFFER: mbrumzheg_offer(memory, memory_len, n[0], n[1], n[2], n[3], n[4], row); break;
+    case SEND: mbrumzheg_send(memory, memory_len, n[0], n[1], n[2], n[3], n[4], n[5], n[6], row); break;
+    case REPORT: mbrumzheg_report(memory, memory_len, n[0], n[1], n[2], row); break;
+    case CLOSE: mbrumzheg_close(memory, memory_len, n[0], n[1], row); break;
     case REMAINING: mbrumzheg_remaining(memory, memory_len, n[0], n[1], n[2], row); break;
     case STATUS: mbrumzheg_status(memory, memory_len, row); break;
     case ROOT_NAMED: mbrumzheg_root_named(memory, memory_len, (const uint8_t *)"ROOT63", n[0], row); break;
@@ -89,6 +94,13 @@ static void try_numbers(enum call call, uint64_t *state, uint64_t a, uint64_t b,
     try_call(call, state, MBRUMZHEG_SIZE);
 }
 
+/* Sends an order of ten contracts away. */
+static void try_send(uint64_t *state, uint64_t time, uint64_t root, uint64_t identity, uint64_t reports) {
+    const uint64_t given[7] = {time, root, identity % 4, 70000, 10, identity, reports};
+    memcpy(numbers, given, sizeof given);
+    try_call(SEND, state, MBRUMZHEG_SIZE);
+}
+
 /* Every call but Arm and Clear, with numbers of every kind, on a state as it stands at a time. */
 static void try_calls(uint64_t *state, uint64_t time) {
     for (uint64_t root = 0; root < 65; root += 16) {
@@ -99,6 +111,9 @@ static void try_calls(uint64_t *state, uint64_t time) {
             try_numbers(ORDER, state, time, root, n, 0, 0);
             try_numbers(ORDER, state, time, root, n + MBRUMZHEG_RESET_T, 0, 0);
             try_numbers(REMAINING, state, time, root * 4 + n, n % 4, 0, 0);
+            try_send(state, time, root, root + n, n);
+            try_numbers(REPORT, state, time, root + n, n, 0, 0);
+            if (n % 2 == 1) try_numbers(CLOSE, state, time, root + n, 0, 0, 0);
             try_numbers(STATUS, state, 0, 0, 0, 0, 0);
             try_numbers(ROOT_NAMED, state, n + 2, 0, 0, 0, 0);
             try_numbers(ROOT_NAME, state, root, 0, 0, 0, 0);
@@ -109,6 +124,13 @@ static void try_calls(uint64_t *state, uint64_t time) {
     try_numbers(PROFILE, state, sizeof profile_room, 0, 0, 0, 0);
     try_numbers(OFFER, state, time, 0, 0, 0, 1);
     try_numbers(OFFER, state, 86400000, 0, 0, 1, 1);
+}
+
+/* The same on a copy, so that its resets leave the state as it stands. */
+static void try_calls_beside(const uint64_t *state, uint64_t time) {
+    static uint64_t copy[MBRUMZHEG_SIZE];
+    memcpy(copy, state, sizeof copy);
+    try_calls(copy, time);
 }
 
 /* Adds a line to the profile's text: of a root if it has a number below 64, of the firm otherwise. */
@@ -143,21 +165,24 @@ static bool try_long_profiles(uint64_t *state) {
     return so & arm(state, MBRUMZHEG_PROFILE_LENGTH);
 }
 
-/* 16 rules that cover one offer, and a log that is filled to its last place. */
+/* 16 rules that cover one offer, a register that is full, and a log that is filled to its last place. */
 static bool try_full_log(uint64_t *state) {
     text_len = 0;
     for (uint64_t n = 0; n < 6; n++) add(n % 2 ? "rate_vol" : "abs_count", 0, 1000000000, ",86400000");
     for (uint64_t n = 0; n < 10; n++) add(n % 2 ? "rate_ntnl" : "abs_vol", MBRUMZHEG_MOST_ROOTS, 1000000000, ",86400000,T");
     const bool so = arm(state, MBRUMZHEG_ACCEPTED);
+    for (uint64_t n = 0; n < MBRUMZHEG_REGISTER_PLACES; n++) try_send(state, 0, 0, 1000 + n, 1);
     for (uint64_t n = 0; n < MBRUMZHEG_LOG_PLACES; n++) {
+        if (n % 64 == 0) try_calls_beside(state, n);
         try_numbers(OFFER, state, n, 0, n % 4, 1, 1);
-        if (n % 128 == 0) try_calls(state, n);
-        if (n % 128 == 0) try_numbers(ORDER, state, n, 0, MBRUMZHEG_RESET_BOTH, 0, 0);
+        if (n % 8 == 0) try_numbers(REPORT, state, n, 1000 + n / 8, 1, 0, 0);
     }
     try_numbers(OFFER, state, 1000, 0, 0, 1, 1);
-    try_calls(state, 1000);
-    try_calls(state, 86399999);
-    return so;
+    const bool full = row[0] == MBRUMZHEG_LOG_FULL;
+    if (!full) fprintf(stderr, "the log is not full\n");
+    try_calls_beside(state, 1000);
+    try_calls_beside(state, 86399999);
+    return so & full;
 }
 
 /* Memory that is short, unarmed, unsound; the smallest profile; texts and records. */

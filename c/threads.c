@@ -17,7 +17,7 @@ static uint64_t next(uint64_t *seed) {
     return *seed >> 33;
 }
 
-/* A day of offers, orders with resets and lockouts, over rate and absolute rules. */
+/* A day of offers, orders with resets, lockouts, and orders sent away with their reports, over rate and absolute rules. */
 static void *run_day(void *memory) {
     static const char profile[] = "AB,rate_vol,X,5000,1000\nAB,abs_vol,Y,90000\nAB,rate_ntnl,,900000,200,T\nAB,rate_count,Y,20,500,,P,F\n";
     uint64_t seed = 7, time = 0;
@@ -27,6 +27,9 @@ static void *run_day(void *memory) {
         time += drawn % 30;
         if (drawn % 16 == 3) mbrumzheg_try_order((uint64_t *)memory, MBRUMZHEG_SIZE, time, root, next(&seed) % 7);
         else if (drawn % 256 == 5) mbrumzheg_try_lockout((uint64_t *)memory, MBRUMZHEG_SIZE, time, 0, root);
+        else if (drawn % 16 == 7) mbrumzheg_try_send((uint64_t *)memory, MBRUMZHEG_SIZE, time, root, next(&seed) % 4, 1 + drawn % 90000, 400, next(&seed) % 80, 3);
+        else if (drawn % 16 == 9) mbrumzheg_try_report((uint64_t *)memory, MBRUMZHEG_SIZE, time, next(&seed) % 80, 1 + drawn % 200);
+        else if (drawn % 16 == 11) mbrumzheg_try_close((uint64_t *)memory, MBRUMZHEG_SIZE, time, next(&seed) % 80);
         else mbrumzheg_try_offer((uint64_t *)memory, MBRUMZHEG_SIZE, time, root, next(&seed) % 4, 1 + drawn % 90000, 1 + next(&seed) % 400);
     }
     return NULL;

@@ -62,6 +62,26 @@ static void locks_are_lifted_without_forgetting() {
     for (const Reset reset : {Reset::T, Reset::E, Reset::TE}) EXPECT(write_record(Order{Time{0}, Root{0}, reset}).refusal() == Refusal::FaultyRecord);
 }
 
+static void fills_come_back_from_away_markets() {
+    auto unit = arm("ABCD,abs_vol,XYZ,100\nABCD,rate_vol,,1000,1000,T");
+    const auto sending = [](std::uint64_t identity, std::uint64_t reports) {
+        return Sending{Time{0}, Root{0}, UnitOfRoot::CallsFront, Premium{70000}, Contracts{150}, Identity{identity}, Reports{reports}};
+    };
+    EXPECT(*unit->send(sending(7, 2)) == Verdict::Free && unit->send(sending(7, 2)).refusal() == Refusal::IdentityClash);
+    EXPECT(unit->send(sending(65536, 2)).refusal() == Refusal::Unknown && unit->send(sending(8, 17)).refusal() == Refusal::BadAmount);
+    const auto back = unit->report({Time{0}, Identity{7}, Contracts{120}});
+    EXPECT(back->verdict == Verdict::Free && back->grant == 120 && back->root_trip && !back->firm_trip);
+    EXPECT(*unit->send(sending(8, 1)) == Verdict::RootLocked && unit->report({Time{0}, Identity{8}, Contracts{1}}).refusal() == Refusal::IdentityClash);
+    EXPECT(unit->report({Time{0}, Identity{7}, Contracts{31}}).refusal() == Refusal::OverReported);
+    EXPECT(*unit->order({Time{0}, Root{0}, Reset::Both}) == Verdict::Free && unit->report({Time{0}, Identity{7}, Contracts{30}})->grant == 30);
+    EXPECT(*unit->close({Time{0}, Identity{7}}) == Verdict::Free && unit->close({Time{0}, Identity{7}}).refusal() == Refusal::IdentityClash);
+    for (std::uint64_t identity = 0; identity < MBRUMZHEG_REGISTER_PLACES; identity++) EXPECT(passes(unit->send(sending(identity, 7))));
+    EXPECT(unit->send(sending(64, 1)).refusal() == Refusal::RegisterFull && unit->answer(Closing{Time{0}, Identity{63}}).accepted());
+    EXPECT(unit->send(sending(64, 16)).accepted() && *unit->remaining(Time{0}, 0, UnitOfRoot::CallsFront) == 70);
+    for (const Event& event : {Event{sending(1, 1)}, Event{Report{Time{0}, Identity{0}, Contracts{1}}}, Event{Closing{Time{0}, Identity{0}}}})
+        EXPECT(write_record(event).refusal() == Refusal::FaultyRecord);
+}
+
 static void each_unit_counts_for_itself() {
     auto unit = arm("ABCD,abs_vol,XYZ,100\nABCD,abs_vol,XYZ,90,,,P,T\nABCD,abs_vol,,500,,T");
     const auto offered = [&unit](UnitOfRoot of, std::uint64_t contracts) {
@@ -150,6 +170,7 @@ static void events_have_records() {
 int main() {
     cuts_and_locks();
     locks_are_lifted_without_forgetting();
+    fills_come_back_from_away_markets();
     each_unit_counts_for_itself();
     names_and_rules_are_known();
     the_rules_are_written_back();

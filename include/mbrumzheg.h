@@ -1,6 +1,6 @@
 /* Mbrumzheg: a risk library for order gateways, for C99 and later and for C++17 and later (mbrumzheg.hpp has a class over it).
  *
- * Link libmbrumzheg.a; pkg-config and CMake know it as mbrumzheg. It needs memcpy and memset and nothing else, takes no memory from the
+ * Link libmbrumzheg.a; pkg-config and CMake know it as mbrumzheg. It needs memcpy, memmove and memset and nothing else, takes no memory from the
  * system, and keeps nothing between two calls. Arm takes at most MBRUMZHEG_STACK_BYTES of stack, every other call at most
  * MBRUMZHEG_CALL_STACK_BYTES (measured, not proved: c/stack.c).
  *
@@ -50,7 +50,7 @@ extern "C" {
 
 /* How many 64-bit numbers the state takes, how many bytes a record has, the room for a text and for a root's name that is asked for, and the most
  * bytes that a profile written back has. */
-#define MBRUMZHEG_SIZE 2634
+#define MBRUMZHEG_SIZE 2763
 #define MBRUMZHEG_RECORD_BYTES 12
 #define MBRUMZHEG_TEXT_BYTES 20
 #define MBRUMZHEG_NAME_BYTES 6
@@ -60,7 +60,8 @@ extern "C" {
 #define MBRUMZHEG_STACK_BYTES 16384
 #define MBRUMZHEG_CALL_STACK_BYTES 4096
 
-/* Ranges: the last millisecond of the day, ten-thousandths of a dollar, contracts, a profile's bytes, rules and roots, places of the log. */
+/* Ranges: the last millisecond of the day, ten-thousandths of a dollar, contracts, a profile's bytes, rules and roots, places of the log, the last
+ * identity of an order sent away, reports that it may have, places of the register. */
 #define MBRUMZHEG_LAST_TIME 86399999
 #define MBRUMZHEG_MOST_PREMIUM 100000000
 #define MBRUMZHEG_MOST_CONTRACTS 1000000
@@ -68,6 +69,9 @@ extern "C" {
 #define MBRUMZHEG_MOST_RULES 256
 #define MBRUMZHEG_MOST_ROOTS 64
 #define MBRUMZHEG_LOG_PLACES 512
+#define MBRUMZHEG_LAST_IDENTITY 65535
+#define MBRUMZHEG_MOST_REPORTS 16
+#define MBRUMZHEG_REGISTER_PLACES 64
 
 /* The numbers that calls take. Each is judged by the call; one out of its range is refused by the number in brackets.
  *
@@ -79,6 +83,8 @@ extern "C" {
  *  rule       0 to 255, numbered by line of the profile, and one that the profile has [13]
  *  premium    ten-thousandths of a dollar, 1 to 100,000,000: $7 is 70000 [14]
  *  contracts  1 to 1,000,000 [14]
+ *  identity   0 to 65,535, of an order sent away [13]
+ *  reports    how many an order sent away may have, 1 to 16 [14]
  *
  * An amount counted or left is in ten-thousandths of a dollar for a notional rule, in contracts for a volume rule, in executions for a count
  * rule. Notional is premium times contracts, with no contract multiplier. */
@@ -103,6 +109,22 @@ MBRUMZHEG_NOT_NULL void mbrumzheg_lockout(uint64_t *memory, size_t memory_len, u
  * whether it tripped the firm. */
 MBRUMZHEG_NOT_NULL void mbrumzheg_offer(uint64_t *memory, size_t memory_len, uint64_t time, uint64_t root, uint64_t unit,
                                         uint64_t premium, uint64_t contracts, uint64_t row[MBRUMZHEG_AT_LEAST(5)]);
+
+/* An order that is to go to another market. It gets the verdict of an order without a reset. At verdict 0 the register of 64 [17] takes it up, under an
+ * identity that no open order has [18]; with a rate rule in the profile a place of the log is kept for each report that may come [15]. At verdict 1 or 2
+ * the clock moves and nothing else changes. Row: refusal, verdict. */
+MBRUMZHEG_NOT_NULL void mbrumzheg_send(uint64_t *memory, size_t memory_len, uint64_t time, uint64_t root, uint64_t unit, uint64_t premium,
+                                       uint64_t contracts, uint64_t identity, uint64_t reports, uint64_t row[MBRUMZHEG_AT_LEAST(5)]);
+
+/* A fill of an open [18] order sent away, of 1 up to the contracts that are open, while a report is left [19]. It is counted at the premium of the sending,
+ * past limits and under locks too. Row: refusal; verdict 0; the contracts as grant; whether a rule of the root trips, whether one of the firm does: an
+ * absolute rule at its limit or above, a rate rule above, also where that level had tripped before. */
+MBRUMZHEG_NOT_NULL void mbrumzheg_report(uint64_t *memory, size_t memory_len, uint64_t time, uint64_t identity, uint64_t contracts,
+                                         uint64_t row[MBRUMZHEG_AT_LEAST(5)]);
+
+/* Closes an open [18] order sent away: its identity may be used again, and places kept for reports that did not come are free. Row: refusal, verdict 0. */
+MBRUMZHEG_NOT_NULL void mbrumzheg_close(uint64_t *memory, size_t memory_len, uint64_t time, uint64_t identity,
+                                        uint64_t row[MBRUMZHEG_AT_LEAST(5)]);
 
 /* What remains of a rule's limit on a unit at a time; the clock does not move. A root rule that names no unit counts each of the four for itself; for a
  * rule of one unit the unit must be that one, for a firm rule 0 [13]. Row: refusal, that amount. */

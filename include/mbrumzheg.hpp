@@ -13,9 +13,9 @@
 #include <string>
 #include <string_view>
 #include <utility>
-#include <variant>
 #include <vector>
 
+#include "mbrumzheg_events.hpp"
 #include "mbrumzheg_values.hpp"
 
 namespace mbrumzheg {
@@ -42,9 +42,6 @@ private:
 
 namespace detail {
 
-template <class T>
-Result<T> refused(enum mbrumzheg_refusal refusal, std::uint64_t line = 0) { return {static_cast<Refusal>(refusal), line}; }
-
 inline Result<Answer> answer(const mbrumzheg_judged& judged) {
     if (judged.refusal != MBRUMZHEG_ACCEPTED) return refused<Answer>(judged.refusal);
     return Answer{static_cast<Verdict>(judged.verdict), judged.grant, judged.root_trip, judged.firm_trip};
@@ -62,26 +59,6 @@ inline Rule rule(const mbrumzheg_rule_terms& terms) noexcept {
     if (terms.root != MBRUMZHEG_NO_ROOT) rule.root = Root{terms.root};
     if (terms.unit != MBRUMZHEG_ALL_UNITS) rule.unit = static_cast<UnitOfRoot>(terms.unit);
     return rule;
-}
-
-// An event's numbers, as a record has them.
-inline mbrumzheg_event numbers(const Event& event) noexcept {
-    struct {
-        mbrumzheg_event operator()(const Order& o) const {
-            return {MBRUMZHEG_KIND_ORDER, o.time.ms, o.root.number, 0, 0, 0, static_cast<std::uint64_t>(o.reset), 0};
-        }
-        mbrumzheg_event operator()(const Offer& o) const {
-            const auto unit = static_cast<std::uint64_t>(o.unit);
-            return {MBRUMZHEG_KIND_OFFER, o.time.ms, o.root.number, unit, o.premium.ten_thousandths, o.contracts.count, 0, 0};
-        }
-        mbrumzheg_event operator()(const RootLockout& l) const {
-            return {MBRUMZHEG_KIND_LOCKOUT, l.time.ms, l.root.number, 0, 0, 0, 0, MBRUMZHEG_LEVEL_ROOT};
-        }
-        mbrumzheg_event operator()(const FirmLockout& l) const {
-            return {MBRUMZHEG_KIND_LOCKOUT, l.time.ms, 0, 0, 0, 0, 0, MBRUMZHEG_LEVEL_FIRM};
-        }
-    } of;
-    return std::visit(of, event);
 }
 
 }  // namespace detail
@@ -150,7 +127,13 @@ public:
     }
     // An offered fill, cut to what the rules allow.
     Result<Answer> offer(const Offer& o) { return answer(o); }
-    // Any event, as its record has it.
+    // An order sent away, which gets the verdict of an order without a reset.
+    Result<Verdict> send(const Sending& s) { return detail::verdict(mbrumzheg_try_event(numbers(), size(), detail::numbers(s))); }
+    // A fill of an order sent away, counted as it was filled; the grant is its contracts.
+    Result<Answer> report(const Report& r) { return answer(r); }
+    // Closes an order sent away: its identity is free again, and so are the places kept for reports that did not come.
+    Result<Verdict> close(const Closing& c) { return detail::verdict(mbrumzheg_try_event(numbers(), size(), detail::numbers(c))); }
+    // Any event.
     Result<Answer> answer(const Event& event) { return detail::answer(mbrumzheg_try_event(numbers(), size(), detail::numbers(event))); }
 
     // What remains of the limit of a rule, numbered from 0 by line, on a unit at a time; the clock does not move. Unknown for a unit that is not the
@@ -222,27 +205,6 @@ using LentUnit = UnitOn<Lent>;
 
 // A unit on memory of its own, armed from a profile.
 inline Result<Unit> arm(std::string_view profile) { return Unit::arm(std::vector<std::uint64_t>(MBRUMZHEG_SIZE), profile); }
-
-// The event of a record; FaultyRecord for any bytes that no event has.
-inline Result<Event> read_record(const Record& bytes) {
-    const auto reading = mbrumzheg_try_read_record(bytes.data(), bytes.size());
-    const auto& e = reading.event;
-    if (reading.refusal != MBRUMZHEG_ACCEPTED) return detail::refused<Event>(reading.refusal);
-    switch (e.kind) {
-    case MBRUMZHEG_KIND_ORDER: return Event{Order{{e.time}, {e.root}, static_cast<Reset>(e.reset)}};
-    case MBRUMZHEG_KIND_OFFER: return Event{Offer{{e.time}, {e.root}, static_cast<UnitOfRoot>(e.unit), {e.premium}, {e.contracts}}};
-    default: return e.level == MBRUMZHEG_LEVEL_ROOT ? Event{RootLockout{{e.time}, {e.root}}} : Event{FirmLockout{{e.time}}};
-    }
-}
-
-// The record of an event; FaultyRecord if one of its numbers is out of range, or its reset above Both.
-inline Result<Record> write_record(const Event& event) {
-    const auto written = mbrumzheg_try_write_record(detail::numbers(event));
-    if (written.refusal != MBRUMZHEG_ACCEPTED) return detail::refused<Record>(written.refusal);
-    Record record{};
-    for (std::size_t i = 0; i < record.size(); i++) record[i] = written.bytes[i];
-    return record;
-}
 
 }  // namespace mbrumzheg
 

@@ -18,7 +18,7 @@ static inline enum mbrumzheg_refusal mbrumzheg_refusal_in(const uint64_t *row) {
     return MBRUMZHEG_AS(enum mbrumzheg_refusal, row[MBRUMZHEG_ROW_REFUSAL]);
 }
 
-/* The row of an order, a lockout or an offer by its names. */
+/* The row of an event by its names. */
 static inline struct mbrumzheg_judged mbrumzheg_judged_in(const uint64_t *row) {
     struct mbrumzheg_judged judged;
     judged.refusal = mbrumzheg_refusal_in(row);
@@ -75,6 +75,29 @@ static inline struct mbrumzheg_judged mbrumzheg_try_offer(uint64_t *memory, size
                                                           uint64_t premium, uint64_t contracts) {
     uint64_t row[MBRUMZHEG_ROW];
     mbrumzheg_offer(memory, memory_len, time, root, unit, premium, contracts, row);
+    return mbrumzheg_judged_in(row);
+}
+
+/* mbrumzheg_send */
+static inline struct mbrumzheg_judged mbrumzheg_try_send(uint64_t *memory, size_t memory_len, uint64_t time, uint64_t root, uint64_t unit,
+                                                         uint64_t premium, uint64_t contracts, uint64_t identity, uint64_t reports) {
+    uint64_t row[MBRUMZHEG_ROW];
+    mbrumzheg_send(memory, memory_len, time, root, unit, premium, contracts, identity, reports, row);
+    return mbrumzheg_judged_in(row);
+}
+
+/* mbrumzheg_report */
+static inline struct mbrumzheg_judged mbrumzheg_try_report(uint64_t *memory, size_t memory_len, uint64_t time, uint64_t identity,
+                                                           uint64_t contracts) {
+    uint64_t row[MBRUMZHEG_ROW];
+    mbrumzheg_report(memory, memory_len, time, identity, contracts, row);
+    return mbrumzheg_judged_in(row);
+}
+
+/* mbrumzheg_close */
+static inline struct mbrumzheg_judged mbrumzheg_try_close(uint64_t *memory, size_t memory_len, uint64_t time, uint64_t identity) {
+    uint64_t row[MBRUMZHEG_ROW];
+    mbrumzheg_close(memory, memory_len, time, identity, row);
     return mbrumzheg_judged_in(row);
 }
 

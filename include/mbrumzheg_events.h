@@ -4,7 +4,7 @@
 #ifndef MBRUMZHEG_EVENTS_H
 #define MBRUMZHEG_EVENTS_H
 
-/* The call of an event's kind; a kind that is none of the three is refused with 16, as its record would be. */
+/* The call of an event's kind; a kind that is none of the six is refused with 16, as its record would be. */
 static inline struct mbrumzheg_judged mbrumzheg_try_event(uint64_t *memory, size_t memory_len, struct mbrumzheg_event event) {
     uint64_t refused[MBRUMZHEG_ROW] = {MBRUMZHEG_FAULTY_RECORD, 0, 0, 0, 0};
     switch (event.kind) {
@@ -12,6 +12,11 @@ static inline struct mbrumzheg_judged mbrumzheg_try_event(uint64_t *memory, size
     case MBRUMZHEG_KIND_OFFER:
         return mbrumzheg_try_offer(memory, memory_len, event.time, event.root, event.unit, event.premium, event.contracts);
     case MBRUMZHEG_KIND_LOCKOUT: return mbrumzheg_try_lockout(memory, memory_len, event.time, event.level, event.root);
+    case MBRUMZHEG_KIND_SEND:
+        return mbrumzheg_try_send(memory, memory_len, event.time, event.root, event.unit, event.premium, event.contracts, event.identity,
+                                  event.reports);
+    case MBRUMZHEG_KIND_REPORT: return mbrumzheg_try_report(memory, memory_len, event.time, event.identity, event.contracts);
+    case MBRUMZHEG_KIND_CLOSE: return mbrumzheg_try_close(memory, memory_len, event.time, event.identity);
     default: return mbrumzheg_judged_in(refused);
     }
 }
@@ -30,13 +35,16 @@ static inline struct mbrumzheg_reading mbrumzheg_try_read_record(const uint8_t *
     reading.event.contracts = row[MBRUMZHEG_ROW_CONTRACTS];
     reading.event.reset = row[MBRUMZHEG_ROW_RESET];
     reading.event.level = row[MBRUMZHEG_ROW_LEVEL];
+    reading.event.identity = 0;
+    reading.event.reports = 0;
     return reading;
 }
 
-/* mbrumzheg_write_record, into the answer itself */
+/* mbrumzheg_write_record, into the answer itself; 12 bytes have no place for an identity or reports [16] */
 static inline struct mbrumzheg_record mbrumzheg_try_write_record(struct mbrumzheg_event event) {
     uint64_t row[MBRUMZHEG_ROW];
-    struct mbrumzheg_record record = {MBRUMZHEG_ACCEPTED, {0}};
+    struct mbrumzheg_record record = {MBRUMZHEG_FAULTY_RECORD, {0}};
+    if ((event.identity | event.reports) != 0) return record;
     mbrumzheg_write_record(event.kind, event.time, event.root, event.unit, event.premium, event.contracts, event.reset, event.level,
                            record.bytes, sizeof record.bytes, row);
     record.refusal = mbrumzheg_refusal_in(row);

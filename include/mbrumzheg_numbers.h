@@ -5,22 +5,25 @@
 /* Refusals. docs/EMBEDDING.md says what to do at each. */
 enum mbrumzheg_refusal {
     MBRUMZHEG_ACCEPTED = 0,
-    MBRUMZHEG_NO_ROOM = 1,        /* the memory is short, or the room is */
-    MBRUMZHEG_UNSOUND = 2,        /* the mark is not 0, and the state is not sound */
-    MBRUMZHEG_ARMED_ALREADY = 3,  /* arming with a mark that is not 0 */
-    MBRUMZHEG_NOT_ARMED = 4,      /* the mark is 0 */
-    MBRUMZHEG_PROFILE_LENGTH = 5, /* the profile is empty, or above 65,536 bytes */
-    MBRUMZHEG_MALFORMED = 6,      /* a line's number of fields, a field's length or characters, or an unknown type */
-    MBRUMZHEG_OTHER_FIRM = 7,     /* a line's firm differs from line 1's */
-    MBRUMZHEG_OUT_OF_RANGE = 8,   /* a limit or a window */
-    MBRUMZHEG_LEVEL_CLASH = 9,    /* a root with T, or neither */
-    MBRUMZHEG_UNIT_CLASH = 10,    /* call/put and month do not go together, or stand in a firm rule */
-    MBRUMZHEG_TOO_MANY = 11,      /* one rule or root too many */
-    MBRUMZHEG_BAD_TIME = 12,      /* a time out of range, or below the clock */
-    MBRUMZHEG_UNKNOWN = 13,       /* a root, unit, rule, level, reset or verdict number, a unit that is not the rule's, or a root's name */
-    MBRUMZHEG_BAD_AMOUNT = 14,    /* a premium or contracts out of range */
-    MBRUMZHEG_LOG_FULL = 15,      /* 512 entries stand inside the longest window */
-    MBRUMZHEG_FAULTY_RECORD = 16  /* no record of a valid event, or no valid event */
+    MBRUMZHEG_NO_ROOM = 1,         /* the memory is short, or the room is */
+    MBRUMZHEG_UNSOUND = 2,         /* the mark is not 0, and the state is not sound */
+    MBRUMZHEG_ARMED_ALREADY = 3,   /* arming with a mark that is not 0 */
+    MBRUMZHEG_NOT_ARMED = 4,       /* the mark is 0 */
+    MBRUMZHEG_PROFILE_LENGTH = 5,  /* the profile is empty, or above 65,536 bytes */
+    MBRUMZHEG_MALFORMED = 6,       /* a line's number of fields, a field's length or characters, or an unknown type */
+    MBRUMZHEG_OTHER_FIRM = 7,      /* a line's firm differs from line 1's */
+    MBRUMZHEG_OUT_OF_RANGE = 8,    /* a limit or a window */
+    MBRUMZHEG_LEVEL_CLASH = 9,     /* a root with T, or neither */
+    MBRUMZHEG_UNIT_CLASH = 10,     /* call/put and month do not go together, or stand in a firm rule */
+    MBRUMZHEG_TOO_MANY = 11,       /* one rule or root too many */
+    MBRUMZHEG_BAD_TIME = 12,       /* a time out of range, or below the clock */
+    MBRUMZHEG_UNKNOWN = 13,        /* a root, unit, rule, level, reset, verdict or identity, a unit that is not the rule's, or a root's name */
+    MBRUMZHEG_BAD_AMOUNT = 14,     /* a premium, contracts or reports out of range */
+    MBRUMZHEG_LOG_FULL = 15,       /* entries inside the longest window and kept places would be more than 512 */
+    MBRUMZHEG_FAULTY_RECORD = 16,  /* no record of a valid event, or no valid event */
+    MBRUMZHEG_REGISTER_FULL = 17,  /* 64 orders sent away are open */
+    MBRUMZHEG_IDENTITY_CLASH = 18, /* an order of that identity is open already or, for a report or a closing, is not open */
+    MBRUMZHEG_OVER_REPORTED = 19   /* more contracts than are open, or no report left */
 };
 
 /* Verdicts: not locked, the firm is locked, the root is locked. */
@@ -48,8 +51,15 @@ enum mbrumzheg_unit {
     MBRUMZHEG_PUTS_TRAILING = 3
 };
 
-/* The kinds of event records. */
-enum mbrumzheg_kind { MBRUMZHEG_KIND_ORDER = 0, MBRUMZHEG_KIND_OFFER = 1, MBRUMZHEG_KIND_LOCKOUT = 2 };
+/* The kinds of events; a record of 12 bytes has the first three alone. */
+enum mbrumzheg_kind {
+    MBRUMZHEG_KIND_ORDER = 0,
+    MBRUMZHEG_KIND_OFFER = 1,
+    MBRUMZHEG_KIND_LOCKOUT = 2,
+    MBRUMZHEG_KIND_SEND = 3,
+    MBRUMZHEG_KIND_REPORT = 4,
+    MBRUMZHEG_KIND_CLOSE = 5
+};
 
 /* The types of rules, by what they count: premium times contracts, contracts or executions, in a window of time or over the day. */
 enum mbrumzheg_rule_type {
@@ -67,8 +77,8 @@ enum { MBRUMZHEG_NO_ROOT = 64, MBRUMZHEG_ALL_UNITS = 4 };
 /* How long a row is, that of a rule, and that of a record that was read. */
 enum { MBRUMZHEG_ROW = 5, MBRUMZHEG_RULE_ROW = 6, MBRUMZHEG_EVENT_ROW = 9 };
 
-/* The places in a row: of every call, of Arm, of Order, Lockout and Offer, of Remaining, of Status, of Text, a root's name and a profile, of a root
- * by its name, of a rule, of a record that was read. */
+/* The places in a row: of every call, of Arm, of events (Order, Lockout, Offer, Send, Report, Close), of Remaining, of Status, of Text, a root's name and
+ * a profile, of a root by its name, of a rule, of a record that was read. */
 enum mbrumzheg_place {
     MBRUMZHEG_ROW_REFUSAL = 0,
 

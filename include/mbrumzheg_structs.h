@@ -13,7 +13,7 @@ struct mbrumzheg_armed {
     uint64_t roots;
 };
 
-/* What an order, a lockout or an offer is answered; of an offer also the contracts granted, and what this offer tripped. */
+/* What an event is answered; of an offer or a report also the contracts granted or counted, and what it tripped. */
 struct mbrumzheg_judged {
     enum mbrumzheg_refusal refusal;
     enum mbrumzheg_verdict verdict;
@@ -84,6 +84,8 @@ struct mbrumzheg_event {
     uint64_t contracts;
     uint64_t reset;
     uint64_t level;
+    uint64_t identity;
+    uint64_t reports;
 };
 
 /* What a record was read as. */

@@ -31,6 +31,9 @@ enum class Refusal : std::uint64_t {
     BadAmount = MBRUMZHEG_BAD_AMOUNT,
     LogFull = MBRUMZHEG_LOG_FULL,
     FaultyRecord = MBRUMZHEG_FAULTY_RECORD,
+    RegisterFull = MBRUMZHEG_REGISTER_FULL,
+    IdentityClash = MBRUMZHEG_IDENTITY_CLASH,
+    OverReported = MBRUMZHEG_OVER_REPORTED,
 };
 
 // What a refusal means: a sentence without its first capital and full stop.
@@ -61,15 +64,10 @@ struct Time { std::uint64_t ms; };
 struct Root { std::uint64_t number; };
 struct Premium { std::uint64_t ten_thousandths; };
 struct Contracts { std::uint64_t count; };
+struct Identity { std::uint64_t number; };
+struct Reports { std::uint64_t count; };
 
-// The events of a day.
-struct Order { Time time; Root root; Reset reset; };
-struct Offer { Time time; Root root; UnitOfRoot unit; Premium premium; Contracts contracts; };
-struct RootLockout { Time time; Root root; };
-struct FirmLockout { Time time; };
-using Event = std::variant<Order, Offer, RootLockout, FirmLockout>;
-
-// What an event is answered; for orders and lockouts the grant is 0 and nothing trips.
+// What an event is answered; the grant is above 0, and something trips, for offers and reports alone.
 struct Answer { Verdict verdict; std::uint64_t grant; bool root_trip; bool firm_trip; };
 
 // How many roots are tripped, locked by the user, locked at all; the lowest locked one, MBRUMZHEG_NO_ROOT if none.
@@ -94,8 +92,6 @@ struct Rule {
     std::optional<Root> root;
     std::optional<UnitOfRoot> unit;
 };
-
-using Record = std::array<std::uint8_t, MBRUMZHEG_RECORD_BYTES>;
 
 // Room that every profile written back fits into.
 using ProfileRoom = std::array<char, MBRUMZHEG_PROFILE_MOST>;
@@ -132,6 +128,13 @@ private:
     std::variant<Refusal, T> kept_;
     std::uint64_t line_ = 0;
 };
+
+namespace detail {
+
+template <class T>
+Result<T> refused(enum mbrumzheg_refusal refusal, std::uint64_t line = 0) { return {static_cast<Refusal>(refusal), line}; }
+
+}  // namespace detail
 
 // Whether an order or an offer may pass: it was not refused, and nothing is locked.
 inline bool passes(const Result<Verdict>& result) noexcept { return result.accepted() && *result == Verdict::Free; }

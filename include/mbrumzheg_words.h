@@ -8,7 +8,7 @@
 static inline const char *mbrumzheg_refusal_text(uint64_t refusal) {
     switch (refusal) {
     case MBRUMZHEG_ACCEPTED: return "not refused";
-    case MBRUMZHEG_NO_ROOM: return "the lent memory has fewer than 2,634 numbers, or the room is shorter than the call asks for";
+    case MBRUMZHEG_NO_ROOM: return "the lent memory has fewer than 2,763 numbers, or the room is shorter than the call asks for";
     case MBRUMZHEG_UNSOUND: return "the memory is marked, but what stands in it is no sound state";
     case MBRUMZHEG_ARMED_ALREADY: return "the memory's armed mark is not 0, so clear it before arming";
     case MBRUMZHEG_NOT_ARMED: return "the memory is not armed, so no rule stands behind this call";
@@ -20,10 +20,13 @@ static inline const char *mbrumzheg_refusal_text(uint64_t refusal) {
     case MBRUMZHEG_UNIT_CLASH: return "the line sets one of call/put and month without the other, or sets them in a firm rule";
     case MBRUMZHEG_TOO_MANY: return "the line is one rule or one root more than a profile may have";
     case MBRUMZHEG_BAD_TIME: return "the time is no time of the day, or earlier than the unit's clock";
-    case MBRUMZHEG_UNKNOWN: return "the root, unit, rule, level, reset or verdict is not known here";
-    case MBRUMZHEG_BAD_AMOUNT: return "the premium is not within $0.0001 to $10,000, or the contracts are not within 1 to 1,000,000";
-    case MBRUMZHEG_LOG_FULL: return "512 fills stand inside the longest window, so the log has no place for another";
+    case MBRUMZHEG_UNKNOWN: return "the root, unit, rule, level, reset, verdict or identity is not known here";
+    case MBRUMZHEG_BAD_AMOUNT: return "the premium is not within $0.0001 to $10,000, the contracts not within 1 to 1,000,000, or the reports not within 1 to 16";
+    case MBRUMZHEG_LOG_FULL: return "fills inside the longest window and places kept for reports leave too few of the log's 512 places";
     case MBRUMZHEG_FAULTY_RECORD: return "the event record is not 12 bytes, or a field in it is out of range or not 0 where it must be";
+    case MBRUMZHEG_REGISTER_FULL: return "64 orders sent away are open, so the register has no place for another";
+    case MBRUMZHEG_IDENTITY_CLASH: return "an order of this identity is open already or, for a report or a closing, none is";
+    case MBRUMZHEG_OVER_REPORTED: return "the report has more contracts than are open, or the order has no report left";
     default: return "this is no refusal of this library";
     }
 }

@@ -1,15 +1,17 @@
 //! Answers in words, with the scope paper's numbers in brackets after them.
 
+use crate::away;
+use crate::passed::Passed;
 use crate::profile::Profile;
 use crate::resets;
-use crate::sitting::{Passed, Sitting};
+use crate::sitting::Sitting;
 use crate::words::{self, grouped};
 use mbrumzheg::{Answer, Event, Level, Marks, Offer, Refusal, Reset, Root, Verdict};
 
 /// The answer to an event that was typed, in words and numbers; a refusal says what to type.
 pub fn answer(sitting: &Sitting, passed: &Passed) -> String {
     let advice = match &passed.answer {
-        Err(refusal) => advice(sitting, *refusal),
+        Err(refusal) => advice(sitting, passed, *refusal),
         Ok(_) => String::new(),
     };
     format!("{}{advice}  [{}]", sentence(sitting, passed), passed.numbers())
@@ -37,6 +39,11 @@ pub fn sentence(sitting: &Sitting, passed: &Passed) -> String {
             Level::Root(root) => format!("root {} locked by hand", sitting.profile.root_name(root.number())),
             Level::Firm => format!("firm {} locked by hand", sitting.profile.firm),
         },
+        (Some(Event::Send(_) | Event::Close(_)), Ok(_)) => away::sentence(sitting, passed),
+        (Some(Event::Report(_)), Ok(answer)) => {
+            let root = passed.away.map(|order| order.sent.root);
+            format!("{}{}{}", away::sentence(sitting, passed), limits(&sitting.profile, passed), trips(&sitting.profile, root, answer))
+        }
         (_, Err(refusal)) => refusal.to_string(),
         (None, Ok(_)) => String::new(),
     }
@@ -44,7 +51,7 @@ pub fn sentence(sitting: &Sitting, passed: &Passed) -> String {
 
 fn filled(profile: &Profile, offer: &Offer, answer: &Answer, passed: &Passed) -> String {
     let offered = offer.contracts.count();
-    let mut text = if answer.cuts(offer.contracts) {
+    let text = if answer.cuts(offer.contracts) {
         let granted = format!("granted {} of {}", grouped(answer.grant), grouped(offered));
         format!("{granted}, cut by {}", counts(profile, &passed.cut_by))
     } else if passed.covered {
@@ -52,17 +59,28 @@ fn filled(profile: &Profile, offer: &Offer, answer: &Answer, passed: &Passed) ->
     } else {
         format!("granted all {}, no rule covers it", grouped(offered))
     };
+    format!("{text}{}{}", limits(profile, passed), trips(profile, Some(offer.root), answer))
+}
+
+/// The limits that were reached, and those that what came back went past.
+fn limits(profile: &Profile, passed: &Passed) -> String {
     let reached: Vec<usize> = passed.reached.iter().filter(|count| !passed.cut_by.contains(count)).copied().collect();
-    if !reached.is_empty() {
-        text.push_str(&format!("; limit reached: {}", counts(profile, &reached)));
-    }
-    if answer.root_trip {
-        text.push_str(&format!("; root {} tripped", profile.root_name(offer.root.number())));
-    }
-    if answer.firm_trip {
-        text.push_str(&format!("; firm {} tripped", profile.firm));
+    let mut text = if reached.is_empty() { String::new() } else { format!("; limit reached: {}", counts(profile, &reached)) };
+    let beyond = |(place, past): &(usize, u64)| {
+        let amount = profile.count(*place).map(|(rule, _)| rule.amount(*past).to_string()).unwrap_or_default();
+        format!("{} by {amount}", profile.count_words(*place))
+    };
+    if !passed.past.is_empty() {
+        text.push_str(&format!("; past the limit: {}", passed.past.iter().map(beyond).collect::<Vec<_>>().join(" and ")));
     }
     text
+}
+
+/// The levels that tripped.
+fn trips(profile: &Profile, root: Option<Root>, answer: &Answer) -> String {
+    let root = root.filter(|_| answer.root_trip).map(|root| format!("; root {} tripped", profile.root_name(root.number())));
+    let firm = answer.firm_trip.then(|| format!("; firm {} tripped", profile.firm));
+    root.into_iter().chain(firm).collect()
 }
 
 /// Rules by their words, each with the unit that it counts, joined by "and".
@@ -80,7 +98,8 @@ fn ordered(sitting: &Sitting, root: Root, reset: Reset, verdict: Verdict) -> Str
     }
 }
 
-fn rejected(sitting: &Sitting, verdict: Verdict, root: Root) -> String {
+/// That something was rejected, and why.
+pub fn rejected(sitting: &Sitting, verdict: Verdict, root: Root) -> String {
     let text = verdict.text().map_or_else(String::new, |text| text.to_string());
     let (what, marks) = match verdict {
         Verdict::FirmLocked => (format!("firm {}", sitting.profile.firm), sitting.unit.firm_marks()),
@@ -100,11 +119,11 @@ pub fn why_locked(marks: Marks) -> &'static str {
 }
 
 /// What to type after a refusal.
-fn advice(sitting: &Sitting, refusal: Refusal) -> String {
-    match refusal {
-        Refusal::BadTime => format!("; type {} or a later time", words::time(sitting.unit.clock())),
-        Refusal::LogFull => "; type a time at which the longest window has passed over the oldest fill".to_string(),
-        _ => String::new(),
+fn advice(sitting: &Sitting, passed: &Passed, refusal: Refusal) -> String {
+    match (refusal, &passed.event) {
+        (Refusal::BadTime, _) => format!("; type {} or a later time", words::time(sitting.unit.clock())),
+        (_, Some(event)) => away::advice(&sitting.away, event, refusal),
+        (_, None) => String::new(),
     }
 }
 
@@ -123,5 +142,6 @@ pub fn typed(profile: &Profile, event: &Event) -> String {
         ),
         Event::Lockout { level: Level::Root(on), .. } => format!("lock {time} {}", root(on)),
         Event::Lockout { level: Level::Firm, .. } => format!("lock {time} firm"),
+        Event::Send(_) | Event::Report(_) | Event::Close(_) => away::typed(profile, event).unwrap_or_default(),
     }
 }

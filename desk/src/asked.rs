@@ -1,8 +1,8 @@
 //! The words after offer, order and lock, made into events with the profile's names and the unit's clock.
 
 use crate::command::{shortened, Command};
-use crate::help::{LOCK_FORM, OFFER_FORM, ORDER_FORM};
 use crate::profile::Profile;
+use crate::topics::{LOCK_FORM, OFFER_FORM, ORDER_FORM};
 use crate::words;
 use mbrumzheg::{Event, Level, Offer, Reset, Root, Time, UnitOfRoot};
 
@@ -22,6 +22,9 @@ impl Names<'_> {
             Command::Offer(words) => Some(self.offer(words)),
             Command::Order(words) => Some(self.order(words)),
             Command::Lock(words) => Some(self.lockout(words)),
+            Command::Away(words) => Some(self.away(words)),
+            Command::Back(words) => Some(self.back(words)),
+            Command::Close(words) => Some(self.close(words)),
             _ => None,
         }
     }

@@ -106,6 +106,7 @@ pub fn shape(kind: Kind) -> &'static str {
         Kind::Trip => "<path class=\"trip\" d=\"M-4.5 -4.5l9 9m0 -9l-9 9\"/>",
         Kind::Reset => "<circle class=\"reset\" r=\"4.5\"/>",
         Kind::Unlock => "<path class=\"reset\" d=\"M0 -5.5l5.5 5.5l-5.5 5.5l-5.5 -5.5z\"/>",
+        Kind::Back => "<path class=\"back\" d=\"M5 -5v10l-9.5 -5z\"/>",
         Kind::Lockout => "<rect class=\"lockout\" x=\"-4.5\" y=\"-4.5\" width=\"9\" height=\"9\"/>",
         Kind::Rejected => "<line class=\"rejected\" y1=\"-4\" y2=\"4\"/>",
     }
@@ -118,6 +119,7 @@ pub fn shape_id(kind: Kind) -> &'static str {
         Kind::Trip => "trip",
         Kind::Reset => "reset",
         Kind::Unlock => "unlock",
+        Kind::Back => "back",
         Kind::Lockout => "lockout",
         Kind::Rejected => "rejected",
     }

@@ -86,13 +86,16 @@ fn stacked(row: &Row) -> [String; 2] {
     [format!("rule {number:<3}  {kind} {limit} of {scope}"), format!("          left {left}  {remaining}  {}", gauge(row.used, 10))]
 }
 
-/// A bar of a length, if it has one, and the share in percent.
+/// A bar of a length, if it has one, and the share in percent, which what came back from away may bring past 100.
 fn gauge((used, limit): (u64, u64), length: usize) -> String {
-    let share = format!("{:>3}%", share(used, limit, 100));
+    let share = match share(used, limit, 100) {
+        share @ ..=999 => format!("{share:>3}%"),
+        _ => ">999%".to_string(),
+    };
     if length == 0 {
         return share;
     }
-    format!("{} {share}", bar(used, limit, length))
+    format!("{}{share:>5}", bar(used, limit, length))
 }
 
 /// A bar whose ends are honest: full only at the limit, empty only at nothing.

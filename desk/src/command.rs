@@ -1,7 +1,7 @@
 //! A typed line as a command, or as a sentence that says what to type.
 
 use crate::explain::nearest;
-use crate::help;
+use crate::topics::COMMANDS;
 
 /// A file to write.
 #[derive(Clone, Debug, PartialEq, Eq)]
@@ -27,6 +27,12 @@ pub enum Command {
     Order(Vec<String>),
     /// Lock a root or the firm by hand.
     Lock(Vec<String>),
+    /// Send an order away.
+    Away(Vec<String>),
+    /// Take a report of an order sent away.
+    Back(Vec<String>),
+    /// Close an order sent away.
+    Close(Vec<String>),
     /// Show the rules with what is used and left.
     Remaining(Vec<String>),
     /// Show the rules that are active as a profile's text, or write that to a file.
@@ -77,6 +83,9 @@ pub fn read(line: &str) -> Result<Command, String> {
         "offer" => Ok(Command::Offer(words())),
         "order" => Ok(Command::Order(words())),
         "lock" | "lockout" => Ok(Command::Lock(words())),
+        "away" | "send" => Ok(Command::Away(words())),
+        "back" => Ok(Command::Back(words())),
+        "close" => Ok(Command::Close(words())),
         "remaining" | "rules" => Ok(Command::Remaining(words())),
         "profile" if rest.is_empty() => Ok(Command::Profile(None)),
         "profile" => kept(rest, "profile").map(|kept| Command::Profile(Some(kept))),
@@ -156,6 +165,6 @@ pub fn shortened(word: &str) -> String {
 
 /// A hint for a word that is near a command.
 fn meant(name: &str) -> String {
-    let names: Vec<&str> = help::COMMANDS.iter().map(|topic| topic.name).collect();
+    let names: Vec<&str> = COMMANDS.iter().map(|topic| topic.name).collect();
     nearest(name, &names).map_or_else(String::new, |known| format!(" (did you mean {known}?)"))
 }

@@ -1,35 +1,46 @@
-//! What Tab offers for a line: commands, roots, the words that may follow, and files.
+//! What Tab offers for a line: commands, roots, open orders, the words that may follow, and files.
 
 use crate::help;
+use crate::topics::COMMANDS;
 use crate::words::looks_like_time;
 
 const TIMES: [&str; 4] = ["now", "+1ms", "+10ms", "+1s"];
 
+/// The names that can be typed, besides words that are always the same.
+#[derive(Default)]
+pub struct Known {
+    /// The roots of the profile.
+    pub roots: Vec<String>,
+    /// The identities of orders sent away that are open.
+    pub open: Vec<String>,
+}
+
 /// Where the word before the cursor begins, and the words that it may become.
-pub fn candidates(before: &str, roots: &[String]) -> (usize, Vec<String>) {
+pub fn candidates(before: &str, known: &Known) -> (usize, Vec<String>) {
     let start = before.rfind(char::is_whitespace).map_or(0, |at| at + 1);
     let (earlier, typed) = before.split_at(start);
     let earlier: Vec<&str> = earlier.split_whitespace().collect();
     let Some((command, words)) = earlier.split_first() else {
-        return (start, beginning(help::COMMANDS.iter().map(|topic| topic.name.to_string()), typed));
+        return (start, beginning(COMMANDS.iter().map(|topic| topic.name.to_string()), typed));
     };
     let command = command.to_ascii_lowercase();
     if let ("arm" | "check" | "profile" | "save" | "replay" | "report", []) = (command.as_str(), words) {
         return (start, files(typed));
     }
-    (start, beginning(following(&command, words, roots).into_iter(), typed))
+    (start, beginning(following(&command, words, known).into_iter(), typed))
 }
 
 /// The words that may follow others.
-fn following(command: &str, words: &[&str], roots: &[String]) -> Vec<String> {
+fn following(command: &str, words: &[&str], Known { roots, open }: &Known) -> Vec<String> {
     let all = |some: &[&str]| some.iter().map(|word| word.to_string()).collect::<Vec<_>>();
     let levels = || [roots.to_vec(), all(&["firm"])].concat();
     match (command, words.len()) {
         ("help" | "?", 0) => help::names().map(str::to_string).collect(),
-        ("offer" | "order", 0) => all(&TIMES),
-        ("offer" | "order", 1) => roots.to_vec(),
-        ("offer", 2) => all(&["call", "put"]),
-        ("offer", 3) => all(&["front", "trailing"]),
+        ("offer" | "order" | "away" | "back" | "close", 0) => all(&TIMES),
+        ("offer" | "order" | "away", 1) => roots.to_vec(),
+        ("back" | "close", 1) => open.to_vec(),
+        ("offer" | "away", 2) => all(&["call", "put"]),
+        ("offer" | "away", 3) => all(&["front", "trailing"]),
         ("order", 2) => all(&["reset"]),
         ("order", 3) => all(&["symbol", "firm", "both", "t", "e", "te"]),
         ("lock", 0) => [levels(), all(&TIMES)].concat(),
@@ -85,10 +96,15 @@ fn files(typed: &str) -> Vec<String> {
 
 #[cfg(test)]
 mod tests {
-    use super::candidates;
+    use super::{candidates, Known};
+
+    fn known() -> Known {
+        let names = |all: &[&str]| all.iter().map(|name| name.to_string()).collect();
+        Known { roots: names(&["XYZ", "XQ", "7"]), open: names(&["5", "512"]) }
+    }
 
     fn offered(before: &str) -> Vec<String> {
-        candidates(before, &["XYZ".to_string(), "XQ".to_string(), "7".to_string()]).1
+        candidates(before, &known()).1
     }
 
     #[test]
@@ -123,7 +139,14 @@ mod tests {
         assert_eq!(offered("profile active "), ["over"]);
         assert_eq!(offered("xyz "), [""; 0]);
         assert_eq!(offered("offer 0ms é"), [""; 0]);
-        assert_eq!(candidates("order now 7", &["7".to_string()]), (10, vec!["7".to_string()]));
+        assert_eq!(candidates("order now 7", &known()), (10, vec!["7".to_string()]));
+        assert_eq!(offered("aw"), ["away"]);
+        assert_eq!(offered("away 0ms x"), ["XYZ", "XQ"]);
+        assert_eq!(offered("away now XYZ p"), ["put"]);
+        assert_eq!(offered("away now XYZ put "), ["front", "trailing"]);
+        assert_eq!(offered("back now 5"), ["5", "512"]);
+        assert_eq!(offered("close +1s 51"), ["512"]);
+        assert_eq!(offered("close n"), ["now"]);
     }
 
     #[test]

@@ -6,15 +6,20 @@ use crate::counts::Count;
 use crate::entries::{Entries, Group};
 use crate::lane::Lane;
 use crate::marks::{Kind, Marks};
+use crate::passed::Passed;
 use crate::profile::Profile;
 use crate::progress::Progress;
+use crate::register::Away;
 use crate::resets::{lifts, zeroes};
 use crate::scale::{Curves, Scale};
-use crate::sitting::{Passed, Sitting};
+use crate::sitting::Sitting;
 use crate::source::Source;
 use crate::standing::level;
 use crate::sums::Sums;
-use mbrumzheg::{Answer, Event, Level, Unit, Verdict};
+use mbrumzheg::{Answer, Event, Level, Offer, Root, Unit, Verdict};
+
+/// So many orders sent away are told one by one.
+pub const MOST_ORDERS: usize = 200;
 
 /// The whole day, or the figures of the whole day and the pictures of a stretch.
 pub struct Day {
@@ -26,6 +31,10 @@ pub struct Day {
     pub curves: Curves,
     /// Cuts and trips by count.
     pub marks: Vec<Marks>,
+    /// By count, how much came back from away.
+    pub backs: Vec<u64>,
+    /// The first of the orders sent away, and when each was closed, in milliseconds.
+    pub orders: Vec<(Away, Option<u64>)>,
     /// The firm's lane, then the roots'.
     pub lanes: Vec<Lane>,
     /// What did not simply pass, by group.
@@ -60,6 +69,8 @@ impl Day {
             stretch,
             curves: Curves::new(profile.counts.len(), stretch),
             marks: vec![Marks::default(); profile.counts.len()],
+            backs: vec![0; profile.counts.len()],
+            orders: Vec::new(),
             lanes: vec![Lane::default(); profile.roots.len() + 1],
             entries: Entries::default(),
             sums: Sums::default(),
@@ -87,10 +98,13 @@ impl Day {
                 lane.ended(lock, ms, scale, self.stretch);
             }
         }
+        if let (Event::Close(_), Some(order)) = (event, passed.away) {
+            self.tell(order, Some(ms));
+        }
         if !self.curves.shows(ms) {
             return;
         }
-        if let Some(group) = group(event, answer).filter(|_| passed.is_notable()) {
+        if let Some(group) = group(event, answer).filter(|group| *group == Group::Away || passed.is_notable()) {
             self.entries.add(group, passed.place, || answer::replayed(sitting, passed));
         }
         self.mark(sitting, event, answer, passed, scale);
@@ -113,9 +127,15 @@ impl Day {
                 let mut cut_levels: Vec<usize> = passed.cut_by.iter().filter_map(count_of).map(Count::level).collect();
                 cut_levels.dedup();
                 cut_levels.into_iter().for_each(|level| mark(level, Kind::Cut));
-                let trips = [(level(offer.root, false), answer.root_trip), (0, answer.firm_trip)];
-                trips.into_iter().filter(|(_, tripped)| *tripped).for_each(|(level, _)| mark(level, Kind::Trip));
+                tripped(offer.root, answer).for_each(|level| mark(level, Kind::Trip));
             }
+            Event::Report(report) => {
+                let Some(order) = passed.away else { return };
+                mark(level(order.sent.root, false), Kind::Back);
+                tripped(order.sent.root, answer).for_each(|level| mark(level, Kind::Trip));
+                self.take_back(sitting, &order.fill(report), passed.place, scale);
+            }
+            Event::Send(_) | Event::Close(_) => {}
             Event::Order { root, reset, .. } => {
                 let kind = if zeroes(*reset) == lifts(*reset) { Kind::Reset } else { Kind::Unlock };
                 lifts(*reset).of(*root).into_iter().for_each(|level| mark(level, kind));
@@ -132,10 +152,28 @@ impl Day {
         }
     }
 
+    /// Counts what came back from away for every rule that covers it.
+    fn take_back(&mut self, sitting: &Sitting, fill: &Offer, place: usize, scale: Scale) {
+        for (rule, count) in sitting.profile.covering(fill) {
+            self.backs[count.place] = self.backs[count.place].saturating_add(rule.adds(fill, fill.contracts.count()));
+            self.marks[count.place].add(Kind::Back, fill.time.ms(), place, scale);
+        }
+    }
+
+    /// Tells an order that was sent away, if it was open in the time that is shown and there is room.
+    fn tell(&mut self, order: Away, closed: Option<u64>) {
+        let (first, last) = self.stretch.unwrap_or((0, u64::MAX));
+        let is_shown = order.sent.time.ms() <= last && closed.is_none_or(|ms| first <= ms);
+        if is_shown && self.orders.len() < MOST_ORDERS {
+            self.orders.push((order, closed));
+        }
+    }
+
     /// Ends the day: fills leave their windows up to a stretch's end, and locks that hold are drawn to it.
     fn close(&mut self, sitting: &mut Sitting) {
         let Some((scale, (_, last))) = self.curves.scale.zip(self.span()) else { return };
         sitting.run_out(last, &mut self.curves);
+        sitting.away.orders().iter().for_each(|order| self.tell(*order, None));
         for lock in sitting.standing.locks() {
             if let Some(lane) = self.lanes.get_mut(lock.level) {
                 lane.holds(lock, last, scale, self.stretch);
@@ -144,11 +182,18 @@ impl Day {
     }
 }
 
+/// The levels that an offer or a report on a root has tripped.
+fn tripped(root: Root, answer: &Answer) -> impl Iterator<Item = usize> {
+    let levels = [(level(root, false), answer.root_trip), (0, answer.firm_trip)];
+    levels.into_iter().filter_map(|(level, is_tripped)| is_tripped.then_some(level))
+}
+
 /// Where an event that was not refused stands in the table, if it stands there at all.
 fn group(event: &Event, answer: &Answer) -> Option<Group> {
     match event {
         _ if !answer.verdict.passes() => Some(Group::Rejected),
         Event::Offer(_) => Some(Group::Trips),
         Event::Order { .. } | Event::Lockout { .. } => Some(Group::Locks),
+        Event::Send(_) | Event::Report(_) | Event::Close(_) => Some(Group::Away),
     }
 }

@@ -4,6 +4,7 @@ use crate::answer;
 use crate::asked::Names;
 use crate::check;
 use crate::command::{self, Command};
+use crate::complete::Known;
 use crate::files;
 use crate::help;
 use crate::keeping::Caution;
@@ -77,6 +78,7 @@ impl Desk {
             Command::Arm(file) => self.arm(&file),
             Command::Check(file) => check::check(&file, &files::profile(&file)?),
             Command::Offer(_) | Command::Order(_) | Command::Lock(_) => self.pass(&command),
+            Command::Away(_) | Command::Back(_) | Command::Close(_) => self.pass(&command),
             Command::Remaining(words) => self.remaining(&words),
             Command::Profile(None) => self.profile(),
             Command::Profile(Some(kept)) => self.save_profile(&kept),
@@ -90,12 +92,11 @@ impl Desk {
         }
     }
 
-    /// The roots of the profile that the unit was armed from; none if it is not armed.
-    pub fn roots(&self) -> &[String] {
-        match &self.bench {
-            Bench::Armed(sitting) => &sitting.profile.roots,
-            Bench::Unarmed(_) => &[],
-        }
+    /// The names that can be typed: roots, and orders sent away that are open; none if the unit is not armed.
+    pub fn known(&self) -> Known {
+        let Bench::Armed(sitting) = &self.bench else { return Known::default() };
+        let open = sitting.away.orders().iter().map(|order| order.sent.identity.to_string()).collect();
+        Known { roots: sitting.profile.roots.clone(), open }
     }
 
     pub(crate) fn sitting(&mut self) -> Result<&mut Sitting, String> {

@@ -8,6 +8,8 @@ pub const MOST_LINES: usize = 200;
 pub enum Group {
     /// Offers that tripped a level, cut ones among them.
     Trips,
+    /// Orders sent away, reports of them, and closings.
+    Away,
     /// Lockouts by hand and resets.
     Locks,
     /// Events that the library refused, and records that hold none.
@@ -18,12 +20,13 @@ pub enum Group {
 
 impl Group {
     /// Every group, in order.
-    pub const ALL: [Group; 4] = [Group::Trips, Group::Locks, Group::Refused, Group::Rejected];
+    pub const ALL: [Group; 5] = [Group::Trips, Group::Away, Group::Locks, Group::Refused, Group::Rejected];
 
     /// What its table is called within the page.
     pub fn id(self) -> &'static str {
         match self {
             Group::Trips => "trip-list",
+            Group::Away => "away-list",
             Group::Locks => "hand-list",
             Group::Refused => "refused-list",
             Group::Rejected => "rejected-list",
@@ -34,6 +37,7 @@ impl Group {
     pub fn heading(self) -> &'static str {
         match self {
             Group::Trips => "Cuts and trips",
+            Group::Away => "Sent away, come back and closed",
             Group::Locks => "Lockouts by hand and resets",
             Group::Refused => "Refused events and faulty records",
             Group::Rejected => "Rejected orders and offers",
@@ -53,8 +57,8 @@ pub struct Entry {
 /// The lines by group.
 #[derive(Default)]
 pub struct Entries {
-    lines: [Vec<Entry>; 4],
-    counts: [u64; 4],
+    lines: [Vec<Entry>; Group::ALL.len()],
+    counts: [u64; Group::ALL.len()],
 }
 
 impl Entries {

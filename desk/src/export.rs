@@ -108,7 +108,7 @@ impl Value {
 }
 
 /// A row is a count: of a root's rule without call/put and month there are four.
-const LIMIT_FIELDS: [&str; 14] = [
+const LIMIT_FIELDS: [&str; 16] = [
     "rule",
     "type",
     "of",
@@ -123,9 +123,11 @@ const LIMIT_FIELDS: [&str; 14] = [
     "left_at_end",
     "cuts",
     "trips",
+    "came_back",
+    "most_past_limit",
 ];
 
-fn limit_values(profile: &Profile, figures: &CountFigures) -> [Value; 14] {
+fn limit_values(profile: &Profile, figures: &CountFigures) -> [Value; 16] {
     let rule = figures.rule;
     let number = |number: u64| Value::of(Some(number));
     let counts = match rule.measure {
@@ -148,6 +150,8 @@ fn limit_values(profile: &Profile, figures: &CountFigures) -> [Value; 14] {
         number(figures.left()),
         number(figures.cuts),
         number(figures.trips),
+        number(figures.back),
+        number(figures.past()),
     ]
 }
 

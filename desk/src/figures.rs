@@ -19,6 +19,8 @@ pub struct CountFigures<'a> {
     pub most_at: Option<u64>,
     /// What was used at the end.
     pub last: u64,
+    /// How much of what it counted came back from away.
+    pub back: u64,
     /// How often it cut.
     pub cuts: u64,
     /// How often it tripped.
@@ -44,6 +46,16 @@ impl CountFigures<'_> {
         }
     }
 
+    /// That share as the width of a bar, which is full at the limit and past it.
+    pub fn width(&self) -> String {
+        format!("{}.{}", self.share().min(1_000) / 10, self.share().min(1_000) % 10)
+    }
+
+    /// The most that was used past the limit.
+    pub fn past(&self) -> u64 {
+        self.most.saturating_sub(self.rule.limit)
+    }
+
     /// What was left at the end.
     pub fn left(&self) -> u64 {
         self.rule.limit.saturating_sub(self.last)
@@ -65,6 +77,7 @@ pub fn limits<'a>(profile: &'a Profile, day: &Day) -> Vec<CountFigures<'a>> {
             most: curve.peak.1,
             most_at: (curve.peak.1 > 0).then_some(curve.peak.0),
             last: curve.cells.last().map_or(curve.start, |cell| cell.last),
+            back: day.backs[count.place],
             cuts: marks.count(Kind::Cut),
             trips: marks.count(Kind::Trip),
         })
@@ -90,6 +103,11 @@ pub fn counts(profile: &Profile, day: &Day) -> Vec<(&'static str, u128)> {
         ("contracts offered", of(sums.offered)),
         ("contracts granted", of(sums.granted)),
         (NOTIONAL, sums.notional),
+        ("orders sent away", of(sums.sent)),
+        ("fills from away", of(sums.reports)),
+        ("contracts come back", of(sums.back)),
+        (BACK_NOTIONAL, sums.back_notional),
+        ("orders closed", of(sums.closed)),
         ("cuts", of(sums.cuts)),
         ("trips", of(sums.trips)),
         ("rejected", of(sums.rejected)),
@@ -98,15 +116,21 @@ pub fn counts(profile: &Profile, day: &Day) -> Vec<(&'static str, u128)> {
     ]
 }
 
-/// The one count that is an amount of money, in ten-thousandths of a dollar.
+/// The counts that are amounts of money, in ten-thousandths of a dollar.
 pub const NOTIONAL: &str = "notional granted";
+/// What came back from away, apart from what was granted.
+pub const BACK_NOTIONAL: &str = "notional come back";
+
+/// The counts of orders sent away, which a page shows where there are such.
+pub const OF_AWAY: [&str; 5] = ["orders sent away", "fills from away", "contracts come back", BACK_NOTIONAL, "orders closed"];
 
 /// A count as people read it.
 pub fn count_words(name: &str, count: u128) -> String {
-    let digits = if name == NOTIONAL { count / 10_000 } else { count };
+    let is_money = [NOTIONAL, BACK_NOTIONAL].contains(&name);
+    let digits = if is_money { count / 10_000 } else { count };
     let grouped = digits.to_string().as_bytes().rchunks(3).rev().map(String::from_utf8_lossy).collect::<Vec<_>>().join(",");
     match count % 10_000 {
-        _ if name != NOTIONAL => grouped,
+        _ if !is_money => grouped,
         0 => format!("${grouped}"),
         rest if rest % 100 == 0 => format!("${grouped}.{:02}", rest / 100),
         rest => format!("${grouped}.{rest:04}"),

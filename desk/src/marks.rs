@@ -13,6 +13,8 @@ pub enum Kind {
     Reset,
     /// An order unlocked the level and left what it counted.
     Unlock,
+    /// A fill came back from an away market.
+    Back,
     /// The level was locked by hand.
     Lockout,
     /// An order or offer was rejected, since the level was locked.
@@ -21,7 +23,7 @@ pub enum Kind {
 
 impl Kind {
     /// Every kind.
-    pub const ALL: [Kind; 6] = [Kind::Cut, Kind::Trip, Kind::Reset, Kind::Unlock, Kind::Lockout, Kind::Rejected];
+    pub const ALL: [Kind; 7] = [Kind::Cut, Kind::Trip, Kind::Reset, Kind::Unlock, Kind::Back, Kind::Lockout, Kind::Rejected];
 
     /// What it is called.
     pub fn name(self) -> &'static str {
@@ -30,6 +32,7 @@ impl Kind {
             Kind::Trip => "trip",
             Kind::Reset => "reset",
             Kind::Unlock => "unlock",
+            Kind::Back => "fill from away",
             Kind::Lockout => "lockout by hand",
             Kind::Rejected => "rejection",
         }
@@ -40,6 +43,7 @@ impl Kind {
         let name = match (self, count) {
             (_, 1) => self.name().to_string(),
             (Kind::Lockout, _) => "lockouts by hand".to_string(),
+            (Kind::Back, _) => "fills from away".to_string(),
             _ => format!("{}s", self.name()),
         };
         format!("{} {name}", crate::words::grouped(count))

@@ -9,23 +9,24 @@
     const seconds = Math.floor(ms / 1000);
     return two(Math.floor(seconds / 3600)) + ":" + two(Math.floor(seconds / 60) % 60) + ":" + two(seconds % 60) + "." + String(ms % 1000).padStart(3, "0");
   };
+  // amounts are whole numbers of any size
   const dollars = (amount) => {
-    const rest = amount % 10000;
-    const cents = rest === 0 ? "" : rest % 100 === 0 ? "." + two(rest / 100) : "." + String(rest).padStart(4, "0");
-    return "$" + grouped(Math.floor(amount / 10000)) + cents;
+    const rest = amount % 10000n;
+    const cents = rest === 0n ? "" : rest % 100n === 0n ? "." + two(rest / 100n) : "." + String(rest).padStart(4, "0");
+    return "$" + grouped(amount / 10000n) + cents;
   };
-  // what was used in each bucket: [least, most, last]; the path goes to the right by buckets and up by amounts
-  const buckets = (plot) => {
-    const unit = Number(plot.dataset.unit);
+  const least = (a, b) => (a < b ? a : b);
+  const most = (a, b) => (a > b ? a : b);
+  // what a path has in each bucket: [least, most, last]; it goes to the right by buckets and up by amounts
+  const buckets = (path, unit) => {
     const used = [];
-    let x = -9, y = 0, letter = "";
-    let range = [0, 0, 0];
-    const steps = plot.querySelector("path.use").getAttribute("d").slice("M-9 0".length).matchAll(/([hv])?\s*(-?\d+)/g);
-    for (const [, named, digits] of steps) {
+    let x = -9, y = 0n, letter = "";
+    let range = [0n, 0n, 0n];
+    for (const [, named, digits] of path.getAttribute("d").slice("M-9 0".length).matchAll(/([hv])?\s*(-?\d+)/g)) {
       letter = named || letter;
       if (letter === "v") {
-        y -= Number(digits) * unit;
-        range = [Math.min(range[0], y), Math.max(range[1], y), y];
+        y -= BigInt(digits) * unit;
+        range = [least(range[0], y), most(range[1], y), y];
         continue;
       }
       const end = Math.min(x + Number(digits), count);
@@ -40,14 +41,18 @@
     return used;
   };
   const words = (plot, at) => {
-    plot.used ||= buckets(plot);
+    plot.used ||= buckets(plot.querySelector("path.use"), BigInt(plot.dataset.unit));
+    const away = plot.querySelector("path.away");
+    if (away) plot.back ||= buckets(away, BigInt(plot.dataset.awayUnit));
     const amount = (number) => ("money" in plot.dataset ? dollars(number) : grouped(number));
-    const [least, most, last] = plot.used[at];
-    const limit = Number(plot.dataset.limit);
+    const [low, high, last] = plot.used[at];
+    const limit = BigInt(plot.dataset.limit);
     const begin = first + at * step;
     const when = step === 1 ? face(begin) : face(begin) + " to " + face(begin + step - 1);
-    const range = least === most ? "" : " (between " + amount(least) + " and " + amount(most) + ")";
-    return when + ": used " + amount(last) + range + ", limit " + amount(limit) + ", left " + amount(Math.max(0, limit - last));
+    const range = low === high ? "" : " (between " + amount(low) + " and " + amount(high) + ")";
+    const back = away && plot.back[at][2] > 0n ? ", of it " + amount(plot.back[at][2]) + " from away" : "";
+    const rest = last > limit ? amount(last - limit) + " past it" : "left " + amount(limit - last);
+    return when + ": used " + amount(last) + range + back + ", limit " + amount(limit) + ", " + rest;
   };
   const show = (plot, at) => {
     const chart = plot.parentElement;

@@ -3,7 +3,7 @@
 use crate::chart::{escaped, levels, shape, shape_id, Axis, BOTTOM, TOP};
 use crate::day::Day;
 use crate::export;
-use crate::figures::{self, count_words, face, CountFigures};
+use crate::figures::{self, count_words, face, CountFigures, OF_AWAY};
 use crate::lines::plain;
 use crate::marks::Kind;
 use crate::pictures;
@@ -25,6 +25,7 @@ pub fn page(profile: &Profile, day: &Day, made: &Made) -> String {
         format!("<header><h1>{title}</h1><p>{}</p></header>", about(day)),
         format!("<section id=\"overview\"><h2>Overview</h2>{}{}</section>", counts(profile, day), tables::overview(profile, &limits)),
         format!("<section id=\"locks\"><h2>Locks over time</h2>{}{}</section>", drawn.lanes, tables::locks(profile, day)),
+        tables::away(profile, day),
         format!("<section id=\"legend\"><h2>Legend</h2>{}<h3>What a reset zeroes and lifts</h3>{}</section>", legend(), tables::resets()),
         format!("<h2>Use of each rule against its limit</h2>{}{}", drawn.rules, unused(profile, &limits)),
         format!("<section id=\"events\"><h2>What did not simply pass</h2>{}</section>", tables::events(day)),
@@ -71,9 +72,9 @@ fn about(day: &Day) -> String {
 }
 
 fn counts(profile: &Profile, day: &Day) -> String {
-    let each = figures::counts(profile, day);
-    let items: String =
-        each.iter().map(|(name, count)| format!("<div><dt>{name}</dt><dd>{}</dd></div>", count_words(name, *count))).collect();
+    let has_away = figures::counts(profile, day).iter().any(|(name, count)| OF_AWAY.contains(name) && *count > 0);
+    let each = figures::counts(profile, day).into_iter().filter(|(name, _)| has_away || !OF_AWAY.contains(name));
+    let items: String = each.map(|(name, count)| format!("<div><dt>{name}</dt><dd>{}</dd></div>", count_words(name, count))).collect();
     format!("<dl>{items}</dl>")
 }
 
@@ -81,6 +82,8 @@ fn legend() -> String {
     let sample = |inner: &str| format!("<svg viewBox=\"0 0 30 18\" class=\"sample\" aria-hidden=\"true\">{inner}</svg>");
     let lines = [
         ("use of the limit", "<path class=\"use\" d=\"M2 16V9H14V4H28V16\"/>".to_string()),
+        ("of it came back from away", "<path class=\"away\" d=\"M2 16V12H14V9H28V16\"/>".to_string()),
+        ("past the limit", "<rect class=\"past\" x=\"1\" y=\"6\" width=\"28\" height=\"5\"/>".to_string()),
         ("limit", "<line class=\"limit\" x1=\"1\" y1=\"9\" x2=\"29\" y2=\"9\"/>".to_string()),
         (
             "80 and 50 percent of it",

@@ -78,8 +78,8 @@ fn colour(words: &str) -> &'static str {
         Some(_) => "",
         None if begins(&["> "]) => BOLD,
         None if begins(&["rejected", "refused", "not armed"]) || says(&["; rejected"]) => RED,
-        None if says(&[" tripped", "cut by", "locked by hand", "limit reached"]) => YELLOW,
-        None if begins(&["granted all", "armed for"]) || says(&["may pass", " is good: "]) => GREEN,
+        None if says(&[" tripped", "cut by", "locked by hand", "limit reached", "past the limit"]) => YELLOW,
+        None if begins(&["granted all", "armed for"]) || says(&["may pass", " is good: ", " sent away: "]) => GREEN,
         None => "",
     }
 }

@@ -1,16 +1,13 @@
 //! The pictures of a day: one with a lane for the firm and each root, and one for every count of a rule that was used.
 
-use crate::chart::{bands, escaped, marks, within, Axis, BOTTOM, HEIGHT, TOP};
-use crate::counts::Count;
+use crate::chart::{bands, escaped, marks, within, Axis, BOTTOM};
 use crate::day::Day;
-use crate::figures::{self, face, CountFigures};
+use crate::figures::{self, CountFigures};
 use crate::marks::{Kind, Tally};
-use crate::plot::{plot, Plot};
-use crate::profile::{Measure, Profile};
-use crate::scale::Curve;
+use crate::profile::Profile;
 use crate::standing::level_name;
 use crate::table::counted;
-use crate::words;
+use crate::uses::{plots, Plots};
 
 /// The height of a lane.
 const LANE: f64 = 24.0;
@@ -42,9 +39,9 @@ pub fn draw(profile: &Profile, day: &Day, axis: &Axis) -> Pictures {
     let (_, lane_marks) = within(MOST_MARKS, level_marks, Vec::len);
     let (_, own_marks) = within(MOST_MARKS, count_marks, Vec::len);
     let used: Vec<CountFigures> = in_order(figures::limits(profile, day)).into_iter().filter(CountFigures::is_used).collect();
-    let (halvings, plots) = within(CURVE_BYTES, |coarse| plots(&used, day, axis, coarse), |plot| plot.path.len());
+    let (halvings, plots) = within(CURVE_BYTES, |coarse| plots(&used, day, axis, coarse), Plots::length);
     let drawn = Drawn { profile, day, axis, lane_marks: &lane_marks, own_marks: &own_marks };
-    let each: Vec<(&CountFigures, &Plot)> = used.iter().zip(&plots).collect();
+    let each: Vec<(&CountFigures, &Plots)> = used.iter().zip(&plots).collect();
     let sections = each.chunk_by(|(one, _), (next, _)| one.rule.number == next.rule.number).map(|counts| drawn.rule(counts));
     let buckets = (axis.count.div_ceil(1 << halvings), axis.scale.width << halvings);
     Pictures { buckets, shared: shared.concat() + &drawn.level_marks(), lanes: drawn.lanes(), rules: sections.collect() }
@@ -69,22 +66,18 @@ fn all_bands(day: &Day, axis: &Axis, coarse: u32) -> Vec<String> {
     .collect()
 }
 
-fn plots(used: &[CountFigures], day: &Day, axis: &Axis, halvings: u32) -> Vec<Plot> {
-    let each = used.iter().filter_map(|figures| Some((figures.rule, day.curves.counts.get(figures.count.place)?)));
-    each.map(|(rule, curve)| {
-        let coarser = (0..halvings).fold(None::<Curve>, |before, _| Some(before.as_ref().unwrap_or(curve).halved()));
-        plot(rule, coarser.as_ref().unwrap_or(curve), axis.count.div_ceil(1 << halvings))
-    })
-    .collect()
-}
-
 /// What all pictures are drawn with.
-struct Drawn<'a> {
-    profile: &'a Profile,
-    day: &'a Day,
-    axis: &'a Axis,
-    lane_marks: &'a [Vec<Tally>],
-    own_marks: &'a [Vec<Tally>],
+pub struct Drawn<'a> {
+    /// The profile.
+    pub profile: &'a Profile,
+    /// The day.
+    pub day: &'a Day,
+    /// The time axis.
+    pub axis: &'a Axis,
+    /// What happened to each level.
+    pub lane_marks: &'a [Vec<Tally>],
+    /// What happened in each count.
+    pub own_marks: &'a [Vec<Tally>],
 }
 
 impl Drawn<'_> {
@@ -134,66 +127,11 @@ impl Drawn<'_> {
     }
 
     /// When a level was locked, if it ever was.
-    fn band(&self, level: usize, top: f64, height: f64) -> String {
+    pub fn band(&self, level: usize, top: f64, height: f64) -> String {
         let locked = self.day.lanes.get(level).is_some_and(|lane| !lane.locked.is_empty());
         if !locked {
             return String::new();
         }
         format!("<use href=\"#band{level}\" y=\"{top}\" width=\"100%\" height=\"{height}\"/>")
     }
-
-    /// A rule with the pictures of its counts that were used, one or up to four.
-    fn rule(&self, counts: &[(&CountFigures, &Plot)]) -> String {
-        let Some((CountFigures { rule, .. }, _)) = counts.first() else { return String::new() };
-        let pictures: String = counts.iter().map(|(figures, plot)| self.count(figures, plot)).collect();
-        let is_drawn = |count: &&Count| counts.iter().any(|(figures, _)| figures.count.place == count.place);
-        let idle: Vec<&str> =
-            Count::all_of(rule).iter().filter(|count| !is_drawn(count)).filter_map(Count::unit).map(words::unit).collect();
-        let idle = if idle.is_empty() { String::new() } else { format!("<p>Not used: {}.</p>", idle.join(", ")) };
-        let words = escaped(&self.profile.rule_words(rule));
-        format!("<section class=\"rule\" id=\"rule{}\"><h3>{words}</h3>{pictures}{idle}</section>", rule.number)
-    }
-
-    /// The use of a rule's limit over time, by one of its counts.
-    fn count(&self, figures: &CountFigures, plot: &Plot) -> String {
-        let CountFigures { rule, count, .. } = figures;
-        let head = match count.unit().filter(|_| count.is_one_of_four) {
-            Some(unit) => format!(" id=\"{}\"><h4>{}</h4>", count.id(), words::unit(unit)),
-            None => ">".to_string(),
-        };
-        let words = escaped(&self.profile.count_words(count.place));
-        let money = if rule.measure == Measure::Notional { " data-money" } else { "" };
-        let share = (BOTTOM - TOP) * 0.03;
-        format!(
-            "<div class=\"count\"{head}<p>{}</p><div class=\"chart\"><svg class=\"plot\" height=\"{HEIGHT}\" role=\"img\" tabindex=\"0\" \
-             aria-label=\"Use of {words}\" data-limit=\"{}\" data-unit=\"{}\"{money}><use href=\"#ticks\"/>{}<svg class=\"curve\" y=\"{:.2}\" width=\"100%\" height=\"{:.2}\" \
-             viewBox=\"{}\" preserveAspectRatio=\"none\"><path class=\"use\" d=\"{}\"/></svg><use href=\"#levels\"/><use href=\"#level{}\"/>{}</svg></div></div>",
-            summary(figures),
-            rule.limit,
-            plot.unit,
-            self.band(count.level(), TOP, BOTTOM - TOP),
-            TOP - share,
-            (BOTTOM - TOP) * 1.06,
-            plot.view,
-            plot.path,
-            count.level(),
-            marks(self.axis, &self.own_marks[count.place], |kind| if kind == Kind::Cut { 8.0 } else { TOP }),
-        )
-    }
-}
-
-/// The count's day in a sentence.
-fn summary(figures: &CountFigures) -> String {
-    let mut text = match figures.most_at {
-        None => "Nothing used.".to_string(),
-        Some(ms) => {
-            format!("Most used: {} ({} of the limit), first at {}.", figures.rule.amount(figures.most), figures.share_words(), face(ms))
-        }
-    };
-    for (count, kind) in [(figures.cuts, Kind::Cut), (figures.trips, Kind::Trip)] {
-        if count > 0 {
-            text.push_str(&format!(" {}.", kind.counted(count)));
-        }
-    }
-    text
 }

@@ -35,6 +35,25 @@ pub fn plot(rule: &Rule, curve: &Curve, count: u64) -> Plot {
     Plot { path: pen.path, unit, view: format!("0 {} {count} {}", short(-1.03 * limit), short(1.06 * limit)) }
 }
 
+/// The buckets of a curve in which more than a limit is used, as a path over so many buckets, one high.
+pub fn past(curve: &Curve, limit: u64, count: u64) -> String {
+    let mut path = String::new();
+    let mut put = |from: u64, to: u64| path.push_str(&format!("M{from} 0h{width}v1h-{width}z", width = to - from));
+    let mut since = (curve.start > limit).then_some(0);
+    for cell in &curve.cells {
+        if cell.most > limit {
+            since.get_or_insert(cell.at);
+        }
+        if let Some(from) = since.take_if(|_| cell.last <= limit) {
+            put(from, cell.at + 1);
+        }
+    }
+    if let Some(from) = since {
+        put(from, count.max(from + 1));
+    }
+    path
+}
+
 /// The greatest amount of which all of a curve's amounts are multiples.
 fn common_unit(curve: &Curve) -> u64 {
     let amounts = curve.cells.iter().flat_map(|cell| [cell.least, cell.most, cell.last]);
@@ -95,7 +114,7 @@ impl Pen {
 
 #[cfg(test)]
 mod tests {
-    use super::plot;
+    use super::{past, plot};
     use crate::profile::Profile;
     use crate::scale::{Cell, Curve};
 
@@ -106,6 +125,15 @@ mod tests {
         let curve = Curve { start: 0, cells, peak: (3, 500) };
         let drawn = plot(&profile.rules[0], &curve, 10);
         assert_eq!((drawn.unit, drawn.path.as_str(), drawn.view.as_str()), (50, "M-9 0h9v-9h3v-1 8-1h16v3", "0 -10.3 10 10.6"));
+        assert_eq!(
+            (past(&curve, 500, 10), past(&curve, 499, 10), past(&curve, 120, 10)),
+            ("".into(), "M3 0h1v1h-1z".into(), "M0 0h10v1h-10z".into())
+        );
+        let before = Curve { start: 600, cells: vec![Cell { at: 2, least: 10, most: 600, last: 10 }], peak: (0, 600) };
+        assert_eq!(
+            (past(&before, 500, 10), past(&Curve { start: 600, ..Curve::default() }, 500, 7)),
+            ("M0 0h3v1h-3z".into(), "M0 0h7v1h-7z".into())
+        );
         let flat = plot(&profile.rules[0], &Curve { start: 7, ..Curve::default() }, 4);
         assert_eq!((flat.unit, flat.path.as_str()), (7, "M-9 0v-1h9 13v1"));
     }

@@ -115,6 +115,11 @@ impl Profile {
         known.cloned().unwrap_or_else(|| format!("root number {number}"))
     }
 
+    /// Whether it has a rate rule, and so a log of fills.
+    pub fn has_rate(&self) -> bool {
+        self.rules.iter().any(|rule| rule.window.is_some())
+    }
+
     /// What a rule covers, in words.
     pub fn scope_words(&self, scope: Scope) -> String {
         match scope {

@@ -1,6 +1,6 @@
 //! A day's time in buckets of equal width, few enough to draw one a pixel, and what a count has used in each.
 
-use crate::ledger::Watch;
+use crate::ledger::{Used, Watch};
 
 /// A day has at most so many buckets: one for each pixel of a wide picture.
 pub const BUCKETS: u64 = 2_048;
@@ -85,6 +85,23 @@ impl Curve {
         }
     }
 
+    /// Takes what is used from a time on.
+    fn take(&mut self, ms: u64, used: u64, scale: Scale, stretch: Option<(u64, u64)>) {
+        match stretch {
+            Some((from, _)) if ms < from => {
+                self.start = used;
+                self.peak = (from, used);
+            }
+            Some((_, to)) if ms > to => {}
+            _ => {
+                if used > self.peak.1 {
+                    self.peak = (ms, used);
+                }
+                self.note(scale.bucket(ms), used);
+            }
+        }
+    }
+
     /// Buckets of twice the width.
     pub fn halved(&self) -> Curve {
         let mut cells: Vec<Cell> = Vec::with_capacity(self.cells.len());
@@ -117,6 +134,8 @@ pub struct Curves {
     pub scale: Option<Scale>,
     /// By count.
     pub counts: Vec<Curve>,
+    /// By count, what came back from away of it.
+    pub away: Vec<Curve>,
     /// The first and last time that is drawn, in milliseconds.
     stretch: Option<(u64, u64)>,
 }
@@ -124,7 +143,12 @@ pub struct Curves {
 impl Curves {
     /// Nothing used yet.
     pub fn new(counts: usize, stretch: Option<(u64, u64)>) -> Curves {
-        Curves { scale: stretch.map(|(from, to)| Scale::over(from, to)), counts: vec![Curve::default(); counts], stretch }
+        Curves {
+            scale: stretch.map(|(from, to)| Scale::over(from, to)),
+            counts: vec![Curve::default(); counts],
+            away: vec![Curve::default(); counts],
+            stretch,
+        }
     }
 
     /// Sees to it that a time has a bucket: the first time begins them, and a late one makes them all twice as wide.
@@ -132,7 +156,7 @@ impl Curves {
         let mut scale = self.scale.unwrap_or(Scale::from(ms));
         while !scale.reaches(ms) && self.stretch.is_none() {
             scale.width *= 2;
-            self.counts.iter_mut().for_each(|curve| *curve = curve.halved());
+            self.counts.iter_mut().chain(&mut self.away).for_each(|curve| *curve = curve.halved());
         }
         self.scale = Some(scale);
         scale
@@ -145,21 +169,11 @@ impl Curves {
 }
 
 impl Watch for Curves {
-    fn used(&mut self, count: usize, ms: u64, used: u64) {
+    fn used(&mut self, count: usize, ms: u64, used: Used) {
         let scale = self.reach(ms);
-        let stretch = self.stretch;
-        let Some(curve) = self.counts.get_mut(count) else { return };
-        match stretch {
-            Some((from, _)) if ms < from => {
-                curve.start = used;
-                curve.peak = (from, used);
-            }
-            Some((_, to)) if ms > to => {}
-            _ => {
-                if used > curve.peak.1 {
-                    curve.peak = (ms, used);
-                }
-                curve.note(scale.bucket(ms), used);
+        for (curves, amount) in [(&mut self.counts, used.all), (&mut self.away, used.away)] {
+            if let Some(curve) = curves.get_mut(count) {
+                curve.take(ms, amount, scale, self.stretch);
             }
         }
     }

@@ -3,9 +3,9 @@
 use crate::asked::{unit, Names};
 use crate::command::shortened;
 use crate::counts::Count;
-use crate::help::REMAINING_FORM;
 use crate::profile::{Profile, Scope};
 use crate::standing::level_of;
+use crate::topics::REMAINING_FORM;
 use crate::words;
 use mbrumzheg::{Time, UnitOfRoot};
 

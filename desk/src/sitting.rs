@@ -1,13 +1,15 @@
 //! An armed unit with the profile that it was armed from and the day that it was passed.
 
 use crate::counts::Count;
-use crate::ledger::{Ledger, Watch};
+use crate::ledger::{Ledger, Used, Watch};
+use crate::passed::Passed;
 use crate::piece::Piece;
 use crate::profile::{Profile, Rule};
+use crate::register::Register;
 use crate::resets;
 use crate::spool::Spool;
-use crate::standing::{level, Lock, Standing};
-use mbrumzheg::{Answer, Armed, Contracts, Event, Level, Marks, Offer, Refusal, Root, Time, Unit, Verdict};
+use crate::standing::{level, Standing};
+use mbrumzheg::{Answer, Armed, Event, Level, Marks, Offer, Refusal, Report, Root, Time, Unit, Verdict};
 
 /// The unit that the desk works with.
 pub type ArmedUnit = Unit<Box<[u64]>, Armed>;
@@ -28,6 +30,8 @@ pub struct Sitting {
     pub sources: Sources,
     /// Which levels are locked, and which counts have tripped.
     pub standing: Standing,
+    /// The orders sent away that are open.
+    pub away: Register,
     ledger: Ledger,
 }
 
@@ -42,31 +46,13 @@ pub struct Sources {
     pub typed: usize,
 }
 
-/// An event with its answer, and the counts that stood behind a cut.
-pub struct Passed {
-    /// Its place, from 1.
-    pub place: usize,
-    /// The event; none for a record that holds none.
-    pub event: Option<Event>,
-    /// What the library answered.
-    pub answer: Result<Answer, Refusal>,
-    /// Places of the counts whose allowance was the grant of a cut offer.
-    pub cut_by: Vec<usize>,
-    /// Places of the absolute rules' counts whose total is now the limit.
-    pub reached: Vec<usize>,
-    /// Whether any rule covers the offer.
-    pub covered: bool,
-    /// Locks that it ended.
-    pub ended: Vec<Lock>,
-}
-
 impl Sitting {
     /// A day that begins on a unit just armed from the text of a file.
     pub fn new(unit: ArmedUnit, file: &str, text: &[u8]) -> Sitting {
         let profile = Profile::of_accepted(text);
         let (standing, ledger) = (Standing::of(&profile), Ledger::of(&profile));
         let sources = Sources { profile: file.to_string(), ..Sources::default() };
-        Sitting { unit, profile, day: Spool::default(), place: 0, unsaved: 0, sources, standing, ledger }
+        Sitting { unit, profile, day: Spool::default(), place: 0, unsaved: 0, sources, standing, away: Register::default(), ledger }
     }
 
     /// The rules that the unit runs as a profile's text, as the library writes it.
@@ -92,8 +78,7 @@ impl Sitting {
         self.place += 1;
         let event = piece.event();
         let answer = event.map_or(Err(Refusal::FaultyRecord), |event| self.unit.answer(event));
-        let (cut_by, reached, ended) = Default::default();
-        let mut passed = Passed { place: self.place, event, answer, cut_by, reached, covered: false, ended };
+        let mut passed = Passed::new(self.place, event, answer);
         if let (Some(event), Ok(answer)) = (event, answer) {
             self.ledger.advance(event.time().ms(), watch);
             self.reckon(&event, &answer, &mut passed, watch);
@@ -120,11 +105,16 @@ impl Sitting {
             }
             Event::Lockout { level: Level::Firm, .. } => self.stand(0, ms, &[], passed),
             Event::Lockout { level: Level::Root(root), .. } => self.stand(level(*root, false), ms, &[], passed),
+            Event::Send(sending) if answer.verdict.passes() => passed.away = Some(self.away.send(*sending)),
+            Event::Send(sending) => self.standing.reject(rejecting(answer, sending.root), None),
+            Event::Report(report) => self.come_back(report, answer, passed, watch),
+            Event::Close(closing) => passed.away = self.away.close(closing.identity),
         }
     }
 
+    /// Follows an offer that was not locked out.
     fn fill(&mut self, offer: &Offer, answer: &Answer, passed: &mut Passed, watch: &mut dyn Watch) {
-        let (grant, ms) = (answer.grant, offer.time.ms());
+        let grant = answer.grant;
         for (rule, count) in self.profile.covering(offer) {
             let left = self.ledger.left(rule, count.place);
             passed.covered = true;
@@ -134,12 +124,34 @@ impl Sitting {
             if rule.window.is_none() && rule.adds(offer, grant) == left {
                 passed.reached.push(count.place);
             }
-            self.ledger.add(rule, count.place, ms, rule.adds(offer, grant), watch);
+            self.ledger.add(rule, count.place, offer.time.ms(), Used::granted(rule.adds(offer, grant)), watch);
         }
+        self.trip(offer, answer, passed);
+    }
+
+    /// Follows a report from away: it is counted in full, whatever the limits leave.
+    fn come_back(&mut self, report: &Report, answer: &Answer, passed: &mut Passed, watch: &mut dyn Watch) {
+        let Some(order) = self.away.report(report) else { return };
+        let fill = order.fill(report);
+        passed.away = Some(order);
+        for (rule, count) in self.profile.covering(&fill) {
+            passed.covered = true;
+            self.ledger.add(rule, count.place, report.time.ms(), Used::away(rule.adds(&fill, report.contracts.count())), watch);
+            match self.ledger.used(count.place).all.checked_sub(rule.limit) {
+                Some(0) if rule.window.is_none() => passed.reached.push(count.place),
+                Some(past @ 1..) => passed.past.push((count.place, past)),
+                _ => {}
+            }
+        }
+        self.trip(&fill, answer, passed);
+    }
+
+    /// Notes how levels stand that a fill has tripped.
+    fn trip(&mut self, fill: &Offer, answer: &Answer, passed: &mut Passed) {
         let tripping: Vec<usize> = passed.tripping().collect();
-        for (level, tripped) in [(level(offer.root, false), answer.root_trip), (0, answer.firm_trip)] {
+        for (level, tripped) in [(level(fill.root, false), answer.root_trip), (0, answer.firm_trip)] {
             if tripped {
-                self.stand(level, ms, &tripping, passed);
+                self.stand(level, fill.time.ms(), &tripping, passed);
             }
         }
     }
@@ -163,14 +175,27 @@ impl Sitting {
         self.ledger.advance(ms, watch);
     }
 
-    /// What the desk reckons to be left of a rule at the clock, in one of its counts.
-    pub fn reckoned(&self, rule: &Rule, count: &Count) -> u64 {
-        self.ledger.left(rule, count.place)
+    /// What the desk reckons that a count has used at a time from the clock on.
+    pub fn reckoned(&self, time: Time, count: &Count) -> Used {
+        self.ledger.used_at(count.place, time.ms())
+    }
+
+    /// What of a rule's limit is used at a time in one of its counts, of which the library says that so much is left: past the limit the desk's reckoning
+    /// says more than nothing left.
+    pub fn used(&self, time: Time, rule: &Rule, count: &Count, left: u64) -> Used {
+        let reckoned = self.reckoned(time, count);
+        if rule.limit.saturating_sub(reckoned.all) == left {
+            reckoned
+        } else {
+            Used::granted(rule.limit.saturating_sub(left))
+        }
     }
 
     /// The places of the counts in which the desk reckons another amount left at the clock than the library answers.
     pub fn differences(&self) -> Vec<usize> {
-        let differs = |(rule, count): &(&Rule, &Count)| self.left(self.unit.clock(), count) != Ok(self.reckoned(rule, count));
+        let clock = self.unit.clock();
+        let reckoned = |rule: &Rule, count: &Count| rule.limit.saturating_sub(self.reckoned(clock, count).all);
+        let differs = |(rule, count): &(&Rule, &Count)| self.left(clock, count) != Ok(reckoned(rule, count));
         self.profile.each_count().filter(differs).map(|(_, count)| count.place).collect()
     }
 
@@ -189,42 +214,4 @@ impl Sitting {
 /// The level for whose lock an event was rejected.
 fn rejecting(answer: &Answer, root: Root) -> usize {
     level(root, answer.verdict == Verdict::FirmLocked)
-}
-
-impl Passed {
-    /// The places of the counts that tripped.
-    pub fn tripping(&self) -> impl Iterator<Item = usize> + '_ {
-        self.cut_by.iter().chain(self.reached.iter().filter(|count| !self.cut_by.contains(count))).copied()
-    }
-
-    /// Whether a person who watches a replay should see it: anything but a plain pass.
-    pub fn is_notable(&self) -> bool {
-        match (&self.event, &self.answer) {
-            (Some(Event::Offer(offer)), Ok(answer)) => {
-                !answer.verdict.passes() || answer.cuts(offer.contracts) || answer.root_trip || answer.firm_trip
-            }
-            (Some(Event::Order { reset, .. }), Ok(answer)) => !answer.verdict.passes() || reset.number() > 0,
-            _ => true,
-        }
-    }
-
-    /// Whether it was an offer that passed and was cut.
-    pub fn is_cut(&self) -> bool {
-        let offered: Option<Contracts> = match self.event {
-            Some(Event::Offer(offer)) => Some(offer.contracts),
-            _ => None,
-        };
-        matches!((&self.answer, offered), (Ok(answer), Some(offered)) if answer.cuts(offered))
-    }
-
-    /// The program's line: place, refusal, verdict, grant, root trip, firm trip.
-    pub fn numbers(&self) -> String {
-        match &self.answer {
-            Ok(a) => {
-                let (root_trip, firm_trip) = (u8::from(a.root_trip), u8::from(a.firm_trip));
-                format!("{} 0 {} {} {root_trip} {firm_trip}", self.place, a.verdict.number(), a.grant)
-            }
-            Err(refusal) => format!("{} {} 0 0 0 0", self.place, refusal.number()),
-        }
-    }
 }

@@ -37,8 +37,8 @@ pub struct Lock {
     pub level: usize,
     /// Since when, in milliseconds.
     pub since: u64,
-    /// The places of the counts whose trip is a cause, and when they tripped.
-    pub tripped: Option<(u64, Vec<usize>)>,
+    /// When counts tripped that are a cause, and their places: each count once, however often it trips again.
+    pub tripped: Vec<(u64, Vec<usize>)>,
     /// When a user's lockout became a cause.
     pub by_hand: Option<u64>,
     /// Orders, offers and contracts that were rejected for it.
@@ -62,12 +62,12 @@ impl Lock {
             Ok(time) if ms > self.since => format!(" at {}", words::time(time)),
             _ => String::new(),
         };
-        let trip = self.tripped.as_ref().map(|(at, counts)| {
+        let trips = self.tripped.iter().map(|(at, counts)| {
             let names: Vec<String> = counts.iter().map(|place| name(*place)).collect();
             format!("{} tripped{}", names.join(" and "), later(*at))
         });
         let hand = self.by_hand.map(|at| format!("locked by hand{}", later(at)));
-        trip.into_iter().chain(hand).collect::<Vec<_>>().join("; ")
+        trips.chain(hand).collect::<Vec<_>>().join("; ")
     }
 }
 
@@ -100,25 +100,23 @@ impl Standing {
 
     /// Takes what the library says of a level's marks at a time, and the places of the counts that tripped then; answers the lock that has ended.
     pub fn take(&mut self, profile: &Profile, level: usize, ms: u64, marks: Marks, tripping: &[usize]) -> Option<Lock> {
-        for place in tripping {
-            if let Some(tripped) = self.tripped.get_mut(*place) {
-                *tripped = Some(ms);
-            }
-        }
         if !marks.tripped {
             profile.counts_of(level).for_each(|count| self.tripped[count.place] = None);
         }
         let of_level = |place: &usize| profile.counts.get(*place).is_some_and(|count| count.level() == level);
+        let fresh: Vec<usize> = tripping.iter().copied().filter(of_level).filter(|place| self.tripped(*place).is_none()).collect();
+        fresh.iter().for_each(|place| self.tripped[*place] = Some(ms));
         let place = self.locks.get_mut(level)?;
         if !marks.locked() {
             return place.take();
         }
         let lock = place.get_or_insert_with(|| Lock { level, since: ms, ..Lock::default() });
-        lock.tripped = match (marks.tripped, lock.tripped.take()) {
-            (false, _) => None,
-            (true, Some(before)) => Some(before),
-            (true, None) => Some((ms, tripping.iter().copied().filter(of_level).collect())),
-        };
+        if !marks.tripped {
+            lock.tripped.clear();
+        }
+        if !fresh.is_empty() {
+            lock.tripped.push((ms, fresh));
+        }
         lock.by_hand = marks.locked_by_user.then(|| lock.by_hand.unwrap_or(ms));
         None
     }

@@ -1,6 +1,6 @@
 //! The figures of a day.
 
-use crate::sitting::Passed;
+use crate::passed::Passed;
 use crate::words::grouped;
 use mbrumzheg::{Event, Refusal};
 
@@ -21,6 +21,16 @@ pub struct Sums {
     pub granted: u64,
     /// Premium times contracts of what was granted, in ten-thousandths of a dollar.
     pub notional: u128,
+    /// Orders sent away.
+    pub sent: u64,
+    /// Reports of such orders.
+    pub reports: u64,
+    /// Contracts that came back with them.
+    pub back: u64,
+    /// Premium times contracts of what came back, in ten-thousandths of a dollar.
+    pub back_notional: u128,
+    /// Orders sent away that were closed.
+    pub closed: u64,
     /// Offers that passed and were cut.
     pub cuts: u64,
     /// Roots and firms tripped.
@@ -53,6 +63,14 @@ impl Sums {
                 self.granted += answer.grant;
                 self.notional += u128::from(offer.premium.ten_thousandths()) * u128::from(answer.grant);
             }
+            Event::Send(_) => self.sent += u64::from(answer.verdict.passes()),
+            Event::Report(_) => {
+                let premium = passed.away.map_or(0, |order| order.sent.premium.ten_thousandths());
+                self.reports += 1;
+                self.back += answer.grant;
+                self.back_notional += u128::from(premium) * u128::from(answer.grant);
+            }
+            Event::Close(_) => self.closed += 1,
         }
         self.cuts += u64::from(passed.is_cut());
         self.trips += u64::from(answer.root_trip) + u64::from(answer.firm_trip);
@@ -70,6 +88,9 @@ impl Sums {
             grouped(self.rejected),
             grouped(self.refused)
         );
+        if self.reports > 0 {
+            text.push_str(&format!(", {} come back from away", counted(self.back, "contract")));
+        }
         if self.faulty > 0 {
             text.push_str(&format!(", {} faulty", grouped(self.faulty)));
         }

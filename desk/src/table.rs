@@ -2,6 +2,7 @@
 
 use crate::answer::why_locked;
 use crate::asked::listed;
+use crate::away;
 use crate::columns::{self, Row};
 use crate::profile::Scope;
 use crate::shown::Shown;
@@ -30,7 +31,7 @@ fn row(sitting: &Sitting, time: Time, rule: u64, unit: UnitOfRoot) -> Result<Row
     let left = sitting.unit.remaining(time, rule, unit)?;
     let known = sitting.profile.rules.get(rule as usize);
     let (rule, count) = known.and_then(|rule| sitting.profile.count(rule.place_of(unit))).ok_or(Refusal::Unknown)?;
-    let used = rule.limit.saturating_sub(left);
+    let used = sitting.used(time, rule, count, left).all;
     let cells = [
         rule.number.to_string(),
         rule.kind.clone(),
@@ -99,7 +100,7 @@ pub fn status(sitting: &Sitting) -> Result<String, Refusal> {
         }
     };
     let lowest = status.lowest_locked.map_or(64, |root| root.number());
-    Ok(format!(
+    let text = format!(
         "clock {}, {} passed\nfirm {}: {}\nroots tripped: {}; locked by hand: {}; locked at all: {}  [{} {} {} {lowest}]",
         words::time(sitting.unit.clock()),
         counted(sitting.place, "event"),
@@ -111,7 +112,30 @@ pub fn status(sitting: &Sitting) -> Result<String, Refusal> {
         status.tripped,
         status.locked_by_user,
         status.locked,
-    ))
+    );
+    Ok(std::iter::once(text).chain(open(sitting)).collect::<Vec<_>>().join("\n"))
+}
+
+/// So many orders sent away are named.
+const MOST_ORDERS: usize = 12;
+
+/// The orders sent away that are open: how many there are, and a line for each of the first.
+fn open(sitting: &Sitting) -> Vec<String> {
+    let orders = sitting.away.orders();
+    if orders.is_empty() {
+        return Vec::new();
+    }
+    let kept = if sitting.profile.has_rate() {
+        format!(", {} kept", counted(sitting.away.reports() as usize, "log place"))
+    } else {
+        String::new()
+    };
+    let mut lines = vec![format!("{} sent away and open{kept}", counted(orders.len(), "order"))];
+    lines.extend(orders.iter().take(MOST_ORDERS).map(|order| format!("  {}", away::line(&sitting.profile, order))));
+    if orders.len() > MOST_ORDERS {
+        lines.push(format!("  and {}", counted(orders.len() - MOST_ORDERS, "order")));
+    }
+    lines
 }
 
 /// A number of things, with an s where there is not exactly one.

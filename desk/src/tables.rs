@@ -1,7 +1,7 @@
 //! The tables of a page: the limits by their greatest share, the locks with what was rejected for each, and what did not simply pass.
 
 use crate::chart::escaped;
-use crate::day::Day;
+use crate::day::{Day, MOST_ORDERS};
 use crate::entries::{Entry, Group};
 use crate::export;
 use crate::figures::{face, CountFigures};
@@ -9,7 +9,7 @@ use crate::marks::Kind;
 use crate::profile::Profile;
 use crate::resets;
 use crate::standing::level_name;
-use crate::words::grouped;
+use crate::words::{self, grouped};
 
 /// A table with a class for each column: `n` for numbers, `more` for what a narrow page leaves out.
 fn table(id: &str, heads: &[(&str, &str)], rows: impl Iterator<Item = Vec<String>>) -> String {
@@ -34,8 +34,12 @@ pub fn overview(profile: &Profile, limits: &[CountFigures]) -> String {
         ("Left at the end", "n more"),
         ("Cuts", "n"),
         ("Trips", "n"),
+        ("Came back", "n"),
+        ("Past the limit", "n"),
     ];
-    table("rules", &heads, limits.iter().map(|figures| overview_row(profile, figures)))
+    // what came back from away has columns of its own where something did
+    let columns = if limits.iter().any(|figures| figures.back > 0) { heads.len() } else { heads.len() - 2 };
+    table("rules", &heads[..columns], limits.iter().map(|figures| overview_row(profile, figures)))
 }
 
 fn overview_row(profile: &Profile, figures: &CountFigures) -> Vec<String> {
@@ -50,13 +54,15 @@ fn overview_row(profile: &Profile, figures: &CountFigures) -> Vec<String> {
     };
     vec![
         if figures.is_used() { format!("<a href=\"#{}\">{words}</a>", figures.count.id()) } else { words },
-        format!("<span class=\"bar {class}\"><i style=\"width:{}%\"></i></span>", figures.percent()),
+        format!("<span class=\"bar {class}\"><i style=\"width:{}%\"></i></span>", figures.width()),
         figures.share_words(),
         rule.amount(figures.most).to_string(),
         figures.most_at.map_or_else(String::new, face),
         rule.amount(figures.left()).to_string(),
         grouped(figures.cuts),
         grouped(figures.trips),
+        rule.amount(figures.back).to_string(),
+        if figures.past() > 0 { rule.amount(figures.past()).to_string() } else { String::new() },
     ]
 }
 
@@ -86,6 +92,38 @@ pub fn locks(profile: &Profile, day: &Day) -> String {
     let heads = [("Locked", ""), ("Since", ""), ("Until", ""), ("Cause", "")];
     let each = table("lock-list", &[&heads[..], &rejections[..]].concat(), each);
     format!("<h3>Rejected while locked, by level</h3>{sums}<h3>Rejected while locked, by lock</h3>{each}{rest}")
+}
+
+/// The orders sent away: on what, how much came back, and when each was closed. Nothing where there were none.
+pub fn away(profile: &Profile, day: &Day) -> String {
+    if day.orders.is_empty() {
+        return String::new();
+    }
+    let heads = [
+        ("Order", "n"),
+        ("Sent at", ""),
+        ("On", ""),
+        ("Premium", "n more"),
+        ("Contracts", "n"),
+        ("Came back", "n"),
+        ("Reports left", "n more"),
+        ("Closed at", ""),
+    ];
+    let rows = day.orders.iter().map(|(order, closed)| {
+        let sent = &order.sent;
+        vec![
+            sent.identity.to_string(),
+            face(sent.time.ms()),
+            escaped(&crate::away::on(profile, sent)),
+            format!("${}", words::premium(sent.premium)),
+            grouped(sent.contracts.count()),
+            grouped(order.back()),
+            order.reports.to_string(),
+            closed.map_or_else(|| "open".to_string(), face),
+        ]
+    });
+    let more = if day.orders.len() == MOST_ORDERS { format!("<p>At most {MOST_ORDERS} are told one by one.</p>") } else { String::new() };
+    format!("<section id=\"away\"><h2>Orders sent away</h2>{}{more}</section>", table("order-list", &heads, rows))
 }
 
 /// What each reset zeroes and lifts, and the mark that it has.

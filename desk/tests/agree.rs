@@ -6,9 +6,11 @@ use common::{event, profile, Dice};
 use days::{day, sitting};
 use desk::answer;
 use desk::asked::Names;
-use desk::command::{self, Command};
+use desk::command;
 use desk::counts::Count;
+use desk::ledger::Used;
 use desk::profile::{Profile, Rule, Scope};
+use desk::scale::Curve;
 use desk::sitting::Sitting;
 use desk::source::Source;
 use mbrumzheg::{Event, Offer, Refusal, Reset, Time, UnitOfRoot, Verdict};
@@ -45,6 +47,7 @@ fn the_rules_that_cut_are_those_that_the_grant_shows() {
             let next = event(&mut dice, sitting.unit.clock().ms(), sitting.unit.root_count());
             let Event::Offer(offer) = next else {
                 sitting.pass(next);
+                assert_eq!(sitting.differences(), [], "what the desk reckons is what the library answers");
                 continue;
             };
             let least = sitting.least_allowance(&offer);
@@ -105,43 +108,44 @@ fn an_event_typed_as_it_is_shown_is_the_same_event() {
         }
         let shown = answer::typed(&profile, &asked);
         let names = Names { profile: &profile, clock: Time::START };
-        let typed = match command::read(&shown) {
-            Ok(Command::Offer(words)) => names.offer(&words),
-            Ok(Command::Order(words)) => names.order(&words),
-            Ok(Command::Lock(words)) => names.lockout(&words),
-            other => panic!("{shown}: {other:?}"),
-        };
+        let typed = names.event(&command::read(&shown).expect("a command")).expect("an event");
         assert_eq!(typed, Ok(asked), "{shown}");
     }
 }
 
-/// A fill that was granted, and whether each level still counts it.
+/// A fill that was granted or came back from away, and whether each level still counts it.
 struct Fill {
     offer: Offer,
     granted: u64,
+    is_away: bool,
     counts: [bool; 2],
 }
 
 /// What a count has used at a time, by the scope paper's words and from the grants alone.
-fn used(rule: &Rule, count: &Count, fills: &[Fill], ms: u64) -> u64 {
+fn used(rule: &Rule, count: &Count, fills: &[Fill], ms: u64) -> Used {
     let level = usize::from(rule.scope == Scope::Firm);
     let inside = |fill: &&Fill| rule.window.is_none_or(|window| fill.offer.time.ms() + window > ms);
     let covered = |fill: &&Fill| rule.scope.covers(&fill.offer) && count.unit().is_none_or(|unit| unit == fill.offer.unit);
-    fills.iter().filter(|fill| fill.counts[level]).filter(covered).filter(inside).map(|fill| rule.adds(&fill.offer, fill.granted)).sum()
+    let counted = fills.iter().filter(|fill| fill.counts[level]).filter(covered).filter(inside);
+    counted.fold(Used::default(), |used, fill| {
+        let amount = rule.adds(&fill.offer, fill.granted);
+        Used { all: used.all + amount, away: used.away + u64::from(fill.is_away) * amount }
+    })
 }
 
 #[test]
 fn the_page_draws_the_use_that_the_grants_make() {
+    let mut came_back = 0;
     for seed in 0..150 {
         let mut dice = Dice::new(seed);
         let text = profile(&mut dice);
         let mut sitting = sitting(&text);
         let mut fills: Vec<Fill> = Vec::new();
-        let all_used = |sitting: &Sitting, fills: &[Fill], ms: u64| -> Vec<u64> {
+        let all_used = |sitting: &Sitting, fills: &[Fill], ms: u64| -> Vec<Used> {
             sitting.profile.each_count().map(|(rule, count)| used(rule, count, fills, ms)).collect()
         };
         // what each count had used just after each moment of the day
-        let mut seen: Vec<(u64, Vec<u64>)> = Vec::new();
+        let mut seen: Vec<(u64, Vec<Used>)> = Vec::new();
         for _ in 0..50 {
             let before = sitting.unit.clock().ms();
             let next = event(&mut dice, before, sitting.unit.root_count());
@@ -154,7 +158,14 @@ fn the_page_draws_the_use_that_the_grants_make() {
                 }
             }
             match next {
-                Event::Offer(offer) if answer.grant > 0 => fills.push(Fill { offer, granted: answer.grant, counts: [true; 2] }),
+                Event::Offer(offer) if answer.grant > 0 => {
+                    fills.push(Fill { offer, granted: answer.grant, is_away: false, counts: [true; 2] })
+                }
+                Event::Report(report) => {
+                    let offer = passed.away.expect("an order").fill(&report);
+                    came_back += 1;
+                    fills.push(Fill { offer, granted: answer.grant, is_away: true, counts: [true; 2] });
+                }
                 Event::Order { root, reset, .. } => forget(&mut fills, root.number(), reset),
                 _ => {}
             }
@@ -167,7 +178,9 @@ fn the_page_draws_the_use_that_the_grants_make() {
             let part = day(&sitting, Some((from, from + 2_047)));
             assert_eq!(part.curves.scale.map(|scale| scale.width), Some(1));
             for (ms, wanted) in seen.iter().filter(|(ms, _)| from <= *ms && *ms < from + 2_048) {
-                let drawn: Vec<u64> = part.curves.counts.iter().map(|curve| curve.in_bucket(ms - from).2).collect();
+                let last = |curve: &Curve| curve.in_bucket(ms - from).2;
+                let both = part.curves.counts.iter().zip(&part.curves.away);
+                let drawn: Vec<Used> = both.map(|(all, away)| Used { all: last(all), away: last(away) }).collect();
                 assert_eq!(&drawn, wanted, "seed {seed} at {ms} ms\n{text}");
             }
         }
@@ -177,13 +190,14 @@ fn the_page_draws_the_use_that_the_grants_make() {
         for (ms, wanted) in &seen {
             for (curve, used) in whole.curves.counts.iter().zip(wanted) {
                 let (least, most, _) = curve.in_bucket(scale.bucket(*ms));
-                assert!(least <= *used && *used <= most, "seed {seed} at {ms} ms: {used} is not from {least} to {most}");
-                assert!(curve.peak.1 >= *used);
+                assert!(least <= used.all && used.all <= most, "seed {seed} at {ms} ms: {used:?} is not from {least} to {most}");
+                assert!(curve.peak.1 >= used.all);
             }
         }
         let times = seen.iter().map(|(ms, _)| *ms);
         assert_eq!(whole.times.map(|(_, last)| last), times.max());
     }
+    assert!(came_back > 100, "{came_back} fills came back from away");
 }
 
 /// What a reset takes from the counts.

@@ -20,8 +20,14 @@ fn wanted_words(day: &Day, rule: &Rule, count: &Count, at: u64) -> String {
     let begin = scale.begin(at);
     let when = if scale.width == 1 { face(begin) } else { format!("{} to {}", face(begin), face(begin + scale.width - 1)) };
     let range = if least == most { String::new() } else { format!(" (between {} and {})", rule.amount(least), rule.amount(most)) };
-    let (used, limit, left) = (rule.amount(last), rule.amount(rule.limit), rule.amount(rule.limit.saturating_sub(last)));
-    format!("{when}: used {used}{range}, limit {limit}, left {left}")
+    let (_, _, away) = day.curves.away[count.place].in_bucket(at);
+    let back = if away == 0 { String::new() } else { format!(", of it {} from away", rule.amount(away)) };
+    let (used, limit) = (rule.amount(last), rule.amount(rule.limit));
+    let rest = match last.checked_sub(rule.limit) {
+        Some(past @ 1..) => format!("{} past it", rule.amount(past)),
+        _ => format!("left {}", rule.amount(rule.limit.saturating_sub(last))),
+    };
+    format!("{when}: used {used}{range}{back}, limit {limit}, {rest}")
 }
 
 #[test]
@@ -29,7 +35,7 @@ fn the_crosshair_says_what_the_desk_knows() {
     let place = std::env::temp_dir().join(format!("desk-crosshair-{}", std::process::id()));
     fs::create_dir_all(&place).expect("a folder");
     let Some(browser) = Browser::begin(&place, &Looks { width: 1000, height: 1200, dark: false }) else { return };
-    let mut compared = 0;
+    let (mut compared, mut away, mut past) = (0, 0, 0);
     for seed in 0..3 {
         let mut dice = Dice::new(seed);
         let text = profile(&mut dice);
@@ -55,9 +61,14 @@ fn the_crosshair_says_what_the_desk_knows() {
             for (at, words) in said.list().iter().enumerate() {
                 assert_eq!(words.text(), wanted_words(&day, rule, own, at as u64), "seed {seed}, {}", own.short_words());
                 compared += 1;
+                away += usize::from(words.text().contains(" from away"));
+                past += usize::from(words.text().ends_with(" past it"));
             }
         }
     }
     fs::remove_dir_all(place).expect("removed");
-    assert!(compared > 10_000, "{compared} readings were compared");
+    assert!(
+        compared > 10_000 && away > 100 && past > 100,
+        "{compared} readings were compared, {away} with fills from away, {past} past the limit"
+    );
 }

@@ -16,7 +16,7 @@ fn gauges(bench: &Bench, at: &str) -> Vec<Json> {
 
 #[test]
 fn a_gauge_shows_what_the_library_answers_for_its_rule_and_unit() {
-    let mut tripped = 0;
+    let (mut tripped, mut past) = (0, 0);
     for seed in 0..80 {
         let mut dice = Dice::new(seed);
         let text = profile(&mut dice);
@@ -40,12 +40,17 @@ fn a_gauge_shows_what_the_library_answers_for_its_rule_and_unit() {
                 let left = sitting.unit.remaining(time, rule.number as u64, count.asked_unit()).expect("a rule and its unit");
                 assert_eq!((gauge.get("number").number(), gauge.get("remaining").number()), (rule.number as i64, left as i64));
                 assert_eq!(gauge.get("of").text(), sitting.profile.scope_words(count.of));
+                let used = sitting.reckoned(time, count);
+                let words = |amount: u64| if amount == 0 { Json::Null } else { Json::Text(rule.amount(amount).to_string()) };
+                assert_eq!((gauge.get("back"), gauge.get("past")), (&words(used.away), &words(used.all.saturating_sub(rule.limit))));
+                assert_eq!(gauge.get("used").text(), rule.amount(used.all).to_string());
+                past += usize::from(gauge.get("past") != &Json::Null);
                 assert_eq!(gauge.get("tripped") != &Json::Null, sitting.standing.tripped(count.place).is_some());
                 tripped += usize::from(gauge.get("tripped") != &Json::Null);
             }
         }
     }
-    assert!(tripped > 20, "{tripped} gauges were of what had tripped");
+    assert!(tripped > 20 && past > 20, "{tripped} gauges were of what had tripped, {past} of what was past its limit");
 }
 
 #[test]

@@ -12,7 +12,7 @@ use mbrumzheg::{Event, Level, Reset, Time, Verdict};
 fn the_page_marks_what_happened() {
     let mut made = sitting("ABCD,abs_vol,XYZ,1000\nABCD,abs_vol,QQQ,5");
     let mut dice = Dice::new(1);
-    for _ in 0..40 {
+    for _ in 0..200 {
         let next = event(&mut dice, made.unit.clock().ms(), 2);
         made.pass(next);
     }
@@ -20,6 +20,7 @@ fn the_page_marks_what_happened() {
     let count = |kind| day.lanes.iter().map(|lane| lane.marks.count(kind)).sum::<u64>();
     let sums = &day.sums;
     assert_eq!((count(Kind::Cut), count(Kind::Trip), count(Kind::Rejected)), (sums.cuts, sums.trips, sums.rejected));
+    assert!(count(Kind::Back) == sums.reports && sums.reports > 0 && count(Kind::Unlock) > 0);
     assert!(sums.cuts > 0 && sums.trips >= sums.cuts && sums.rejected > 0 && count(Kind::Reset) > 0 && count(Kind::Lockout) > 0);
     for lane in &day.lanes {
         assert!(lane.locked.iter().all(|(from, to)| from <= to));
@@ -46,7 +47,7 @@ fn locks_have_their_begin_their_cause_and_their_rejections() {
                 let lock = sitting.standing.lock(level);
                 assert_eq!(lock.map(|lock| lock.since), *since, "seed {seed}");
                 let Some(lock) = lock else { continue };
-                assert_eq!((lock.tripped.is_some(), lock.by_hand.is_some()), (marks.tripped, marks.locked_by_user));
+                assert_eq!((!lock.tripped.is_empty(), lock.by_hand.is_some()), (marks.tripped, marks.locked_by_user));
                 let counts = lock.tripped.iter().flat_map(|(_, counts)| counts).map(|place| &sitting.profile.counts[*place]);
                 assert!(counts.clone().all(|count| sitting.standing.tripped(count.place).is_some()));
                 assert!(!marks.tripped || counts.count() > 0, "a trip has a rule and a unit");
@@ -56,8 +57,13 @@ fn locks_have_their_begin_their_cause_and_their_rejections() {
             }
             // a count is called tripped only where its own trip locked its level
             for count in sitting.profile.counts.iter().filter(|count| sitting.standing.tripped(count.place).is_some()) {
-                let named = sitting.standing.lock(count.level()).and_then(|lock| lock.tripped.as_ref());
-                assert!(named.is_some_and(|(_, counts)| counts.contains(&count.place)), "seed {seed}: {count:?}");
+                let named = sitting.standing.lock(count.level()).map_or(0, |lock| {
+                    lock.tripped
+                        .iter()
+                        .filter(|(at, counts)| counts.contains(&count.place) && sitting.standing.tripped(count.place) == Some(*at))
+                        .count()
+                });
+                assert_eq!(named, 1, "seed {seed}: {count:?} is named once, however often it trips");
             }
         }
         let day = day(&sitting, None);

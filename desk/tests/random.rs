@@ -35,13 +35,14 @@ fn random_bytes() {
 
 /// Words that commands are made of, good and bad.
 #[rustfmt::skip]
-const WORDS: [&str; 78] = [
+const WORDS: [&str; 83] = [
     "arm", "offer", "order", "lock", "remaining", "status", "clear", "save", "replay", "report", "help", "offer", "offer",
     "order", "arm", "XYZ", "QQQ", "7", "xyz", "SPY", "firm", "FIRM", "call", "put", "front", "trailing", "calls", "puts",
     "reset", "symbol", "both", "none", "quiet", "0ms", "10ms", "5s", "2.5s", "now", "+1ms", "+100ms", "+0ms", "09:30",
     "23:59:59.999", "24:00:00", "1h", "86399999ms", "86400000ms", "18446744073709551615ms", "+18446744073709551615ms", "7.00",
     "0.0001", "10000", "10000.0001", "1", "200", "1000000", "0", "-1", "1e9", ",", ",,1", "1,000", ".5", "5.", "$", "$7",
-    "18446744073709551616", "rule", "words", "t", "te", "ms", ":", "::", "+", "é", "\u{1F512}", "#",
+    "18446744073709551616", "rule", "words", "t", "te", "away", "back", "close",
+    "7", "16", "ms", ":", "::", "+", "é", "\u{1F512}", "#",
 ];
 
 fn line(dice: &mut Dice, files: &[String]) -> String {
@@ -58,7 +59,15 @@ fn line(dice: &mut Dice, files: &[String]) -> String {
 fn good_line(dice: &mut Dice) -> String {
     let root = dice.pick(&["XYZ", "QQQ", "7"]);
     let time = dice.pick(&["now", "+1ms", "+50ms", "+1s", "0ms"]);
-    match dice.below(8) {
+    match dice.below(11) {
+        8 => format!(
+            "away {time} {root} call front 1.00 {} {} {}",
+            dice.pick(&["1", "30"]),
+            dice.pick(&["1", "2"]),
+            dice.pick(&["1", "16", "17"])
+        ),
+        9 => format!("back {time} {} {}", dice.pick(&["1", "2"]), dice.pick(&["1", "5", "30"])),
+        10 => format!("close {time} {}", dice.pick(&["1", "2", "65536"])),
         0 => format!("lock {time} {root}"),
         1 => format!("order {time} {root} reset {}", dice.pick(&["symbol", "firm", "both", "none", "t", "e", "te"])),
         2 => format!("remaining {time} {}", dice.pick(&["", "firm", "XYZ put front", "rule 0", "rule 1 call trailing", "rule 9"])),

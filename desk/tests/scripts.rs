@@ -47,7 +47,7 @@ fn scripts_print_what_is_expected() {
     for name in ["example", "cuts", "units", "trips", "locks", "replay", "active", "help"] {
         assert!(compare(name).status.success(), "{name}: every line was carried out");
     }
-    for name in ["firm", "unlock", "errors"] {
+    for name in ["firm", "unlock", "away", "errors"] {
         assert!(!compare(name).status.success(), "{name}: some lines were not carried out");
     }
 }
@@ -58,7 +58,7 @@ fn every_script_is_run() {
         let path = entry.as_ref().expect("a file").path();
         path.extension().is_some_and(|extension| extension == "desk")
     });
-    assert_eq!(scripts.count(), 11);
+    assert_eq!(scripts.count(), 12);
 }
 
 #[test]

@@ -59,7 +59,7 @@ fn at_three_widths_and_in_both_styles() {
         let looks = Looks { width: 1280, height: 2600, dark };
         let Some(browser) = Browser::begin(&place, &looks) else { return };
         for width in [1280, 768, 375] {
-            browser.resize(width, 3200);
+            browser.resize(width, 4200);
             browser.open(&address);
             stands_in_order(&browser, width);
             is_drawn_to_measure(&browser);
@@ -107,7 +107,7 @@ fn stands_in_order(browser: &Browser, width: u32) {
     browser.resize(width, 500);
     browser.click("#rules a[href='#rule1-put-front']");
     browser.wait("(({ top }) => -2 < top && top < innerHeight - 100)(document.querySelector('#rule1-put-front').getBoundingClientRect())");
-    browser.resize(width, 3200);
+    browser.resize(width, 4200);
     browser.script("scrollTo(0, 0)");
     let first = "document.querySelector('#lock-list tbody tr').innerText";
     holds(browser, &format!("{first}.startsWith('root XYZ') && {first}.includes('rule 0 rate_vol 500 in 1 s of XYZ call front tripped')"));

@@ -9,6 +9,7 @@ use desk::program::USAGE;
 use desk::shown::Shown;
 use desk::sitting::Sitting;
 use desk::table;
+use desk::topics;
 use mbrumzheg::{Refusal, Time, Unit};
 use std::io::Write;
 
@@ -61,7 +62,7 @@ fn help_fits_80_columns_and_is_there_for_every_command() {
         let text = help::on(name).unwrap_or_else(|| panic!("no help on {name}"));
         assert!(widest(&text) <= 80, "{text}");
     }
-    for topic in &help::COMMANDS {
+    for topic in &topics::COMMANDS {
         assert!(help::list().contains(topic.form) && topic.form.starts_with(topic.name), "{}", topic.name);
         for example in topic.examples {
             assert!(example.starts_with(topic.name) && desk::command::read(example).is_ok(), "{example}");

@@ -62,13 +62,16 @@ fn compare(step: &Step, row: Row, mut memory: Vec<u64>, length: usize, after: &[
 
 /// Runs a call by hand.
 pub fn run_hand(step: &Step, m: &mut [u64], room: &mut [u8]) -> Row {
-    let [a, b, c, d, e] = step.numbers;
+    let [a, b, c, d, e, f, g] = step.numbers;
     match step.kind {
         Kind::Arm => hand::arm(m, &step.profile),
         Kind::Clear => hand::clear(m),
         Kind::Order => hand::order(m, a, b, c),
         Kind::Lockout => hand::lockout(m, a, b, c),
         Kind::Offer => hand::offer(m, a, b, c, d, e),
+        Kind::Send => hand::send(m, a, b, c, d, e, f, g),
+        Kind::Report => hand::report(m, a, b, c),
+        Kind::Close => hand::close(m, a, b),
         Kind::Remaining => hand::remaining(m, a, b, c),
         Kind::Status => hand::status(m),
         Kind::Text => hand::text(a, room),

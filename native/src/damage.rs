@@ -1,23 +1,28 @@
 //! Damage to the numbers of a state: single numbers, exchanged ones, and whole states that are reshaped so that they nearly make sense.
 
+mod register;
+mod shapes;
+
 use second::gen::Random;
 use second::lent::Lent;
-use second::memory;
 use second::place::*;
-use second::profile::{Level, Rule, MOST_ROOTS, MOST_RULES};
+use second::profile::Rule;
 use second::totals;
-use second::unit::{Armed, Entry, Marks, Totals, LOG_PLACES};
+use second::unit::MOST_TOTAL;
 use second::LAST_TIME;
 
+use self::shapes::{moved_totals, reshaped};
 use crate::SIZE;
 
-/// Numbers at the ends of ranges and just past them: those of the state, of limits, windows, premiums and contracts.
-const ENDS: [u64; 28] = [
+/// Numbers at the ends of ranges and just past them: those of the state, of limits, windows, premiums, contracts, reports, identities and totals.
+const ENDS: [u64; 32] = [
     0,
     1,
     2,
     3,
     4,
+    16,
+    17,
     63,
     64,
     65,
@@ -29,6 +34,8 @@ const ENDS: [u64; 28] = [
     511,
     512,
     513,
+    65_535,
+    65_536,
     1_000_000,
     1_000_001,
     86_399_999,
@@ -39,8 +46,8 @@ const ENDS: [u64; 28] = [
     1_000_000_000,
     1_000_000_001,
     100_000_000_000,
-    1_000_000_000_000_000,
-    1_000_000_000_000_001,
+    1_000_000_000_000_000_000,
+    1_000_000_000_000_000_001,
 ];
 
 /// A number of any size, or one at the end of a range.
@@ -81,17 +88,21 @@ fn exchanged(random: &mut Random, second: &mut Lent) -> Vec<(usize, u64)> {
 }
 
 /// The numbers that stand in no row of a table: mark, clock, firm, counts and locks.
-const ALONE: [usize; 10] = [MARK, CLOCK, FIRM, ROOT_COUNT, RULE_COUNT, ENTRY_COUNT, FIRM_TRIPPED, FIRM_LOCKED, ROOTS_TRIPPED, ROOTS_LOCKED];
+const ALONE: [usize; 11] =
+    [MARK, CLOCK, FIRM, ROOT_COUNT, RULE_COUNT, REGISTER, ENTRY_COUNT, FIRM_TRIPPED, FIRM_LOCKED, ROOTS_TRIPPED, ROOTS_LOCKED];
+/// Where the orders sent away begin.
+const ORDERS: usize = REGISTER + 1;
 
 /// The places of a part of the state that are used, or all places; with one beyond at times.
 fn part(random: &mut Random, second: &mut Lent) -> Vec<usize> {
     let Some(armed) = &second.unit().armed else { return (0..SIZE).collect() };
-    let (mut places, beyond) = match random.below(7) {
+    let (mut places, beyond) = match random.below(9) {
         0 => (ALONE.to_vec(), ROOTS),
         1 => from(ROOTS, armed.roots.len()),
         2 => from(RULES, 2 * armed.profile.rules.len()),
         3 => from(TOTALS, totals::accounts(&armed.profile.rules).len()),
         4 | 5 => from(LOG, 2 * armed.log.len()),
+        6 | 7 => from(ORDERS, 2 * armed.away.len()),
         _ => from(0, SIZE),
     };
     if places.is_empty() || random.once_in(20) && beyond < SIZE {
@@ -125,12 +136,12 @@ fn rule_at(rules: &[Rule], place: usize) -> Option<&Rule> {
     totals::accounts(rules).get(place).map(|(line, _)| &rules[*line])
 }
 
-/// A total about as large as the limit of the rule.
+/// A total about as large as the limit of the rule, at times about as large as any may be.
 fn total_near(random: &mut Random, second: &mut Lent, place: usize) -> u64 {
     let rule = second.unit().armed.as_ref().and_then(|armed| rule_at(&armed.profile.rules, place));
     let limit = rule.map_or(0, |rule| rule.limit);
     let less = random.pick(&[0, 1, 2, 9, 50]);
-    random.pick(&[limit.saturating_sub(less), limit.saturating_sub(less), limit + less])
+    random.pick(&[limit.saturating_sub(less), limit.saturating_sub(less), limit + less, MOST_TOTAL - less])
 }
 
 /// The number with another value in one of its fields.
@@ -138,6 +149,9 @@ fn other_field(random: &mut Random, number: u64, place: usize) -> u64 {
     let fields: &[(u32, u32)] = match place {
         RULES..TOTALS if (place - RULES) % 2 == 0 => &[(0, 27), (27, 37)],
         RULES..TOTALS => &[(0, 2), (2, 6), (8, 2), (10, 1), (11, 2)],
+        REGISTER | ENTRY_COUNT => &[(0, 64), (0, 10), (0, 6)],
+        ORDERS..ENTRY_COUNT if (place - ORDERS) % 2 == 0 => &[(0, 5), (5, 2), (7, 6), (13, 16)],
+        ORDERS..ENTRY_COUNT => &[(0, 20), (20, 27)],
         LOG.. if (place - LOG) % 2 == 0 => &[(0, 1), (1, 1), (2, 2), (4, 6), (10, 27)],
         LOG.. => &[(0, 20), (20, 27)],
         _ => &[(0, 64), (0, 8), (8, 8), (0, 6)],
@@ -145,97 +159,4 @@ fn other_field(random: &mut Random, number: u64, place: usize) -> u64 {
     let (low, width) = random.pick(fields);
     let mask = u64::MAX >> (64 - width);
     number & !(mask << low) | (any_number(random) & mask) << low
-}
-
-/// The totals from some account on moved by a few places, as if a rule before them had another number of accounts.
-fn moved_totals(random: &mut Random, armed: &Armed, numbers: &[u64]) -> Vec<(usize, u64)> {
-    let accounts = totals::accounts(&armed.profile.rules).len();
-    let (first, by) = (random.below(accounts as u64) as usize, random.pick(&[1, 3, 4]));
-    let (before, after) = numbers[TOTALS..FIRM_TRIPPED].split_at(first);
-    let moved = match random.once_in(2) {
-        true => [before, &vec![0; by], after].concat(),
-        false => [before, &after[by.min(after.len())..], &vec![0; by]].concat(),
-    };
-    let places = (TOTALS..FIRM_TRIPPED).zip(moved);
-    places.filter(|(place, number)| numbers[*place] != *number).collect()
-}
-
-/// The numbers by which a state differs after its rules, roots or log were reshaped.
-fn reshaped(random: &mut Random, mut armed: Armed, numbers: &[u64]) -> Vec<(usize, u64)> {
-    match random.below(4) {
-        0 | 1 => reshape_rules(random, &mut armed),
-        2 => reshape_log(random, &mut armed),
-        _ => reshape_roots(random, &mut armed),
-    }
-    let mut other = vec![0; SIZE];
-    memory::write(&armed, &mut other);
-    (0..SIZE).filter(|place| other[*place] != numbers[*place]).map(|place| (place, other[place])).collect()
-}
-
-/// Turns, exchanges, removes, doubles or moves rules.
-fn reshape_rules(random: &mut Random, armed: &mut Armed) {
-    let rules = &mut armed.profile.rules;
-    let [one, other] = [(); 2].map(|_| random.below(rules.len() as u64) as usize);
-    match random.below(6) {
-        0 => {
-            // the other kind, its totals at 0
-            let window = random.pick(&[99, 100, 1_000, 86_400_000, 86_400_001]);
-            rules[one].window = if rules[one].window.is_some() { None } else { Some(window) };
-            armed.totals[one] = Totals::default();
-        }
-        1 => rules.iter_mut().for_each(|rule| rule.window = None),
-        2 => {
-            rules.swap(one, other);
-            armed.totals.swap(one, other);
-        }
-        3 => {
-            rules.remove(one);
-            armed.totals.remove(one);
-        }
-        4 if rules.len() < MOST_RULES => {
-            rules.push(rules[one].clone());
-            armed.totals.push(armed.totals[one]);
-        }
-        _ => {
-            let root = random.below(armed.roots.len() as u64 + 1).min(63);
-            let unit = random.below(4);
-            rules[one].level = random.pick(&[Level::Firm, Level::Root { root, unit: None }, Level::Root { root, unit: Some(unit) }]);
-        }
-    }
-}
-
-/// Takes an entry away, doubles one, takes its flags away, or adds one of any root at the clock.
-fn reshape_log(random: &mut Random, armed: &mut Armed) {
-    let place = random.below(armed.log.len().max(1) as u64) as usize;
-    let known = armed.log.get(place).copied();
-    match (random.below(4), known) {
-        (0, Some(_)) => drop(armed.log.remove(place)),
-        (2, Some(entry)) => armed.log[place] = Entry { counts_for_root: false, counts_for_firm: false, ..entry },
-        (1, Some(entry)) if armed.log.len() < LOG_PLACES => armed.log.insert(place, entry),
-        _ if armed.log.len() < LOG_PLACES => {
-            let [counts_for_root, counts_for_firm] = [(); 2].map(|_| random.once_in(2));
-            let root = random.below(armed.roots.len() as u64 + 1).min(63);
-            let (time, unit, premium, contracts) =
-                (armed.clock, random.below(4), random.pick(&[1, 70_000, 100_000_000]), random.pick(&[1, 1_000_000]));
-            armed.log.push_back(Entry { time, root, unit, premium, contracts, counts_for_root, counts_for_firm });
-        }
-        _ => armed.log.clear(),
-    }
-}
-
-/// Exchanges names, takes the last root away, adds one, or locks any.
-fn reshape_roots(random: &mut Random, armed: &mut Armed) {
-    let names = &mut armed.profile.roots;
-    match random.below(4) {
-        0 if names.len() > 1 => names.swap(0, 1),
-        1 if !names.is_empty() => {
-            names.pop();
-            armed.roots.pop();
-        }
-        2 if names.len() < MOST_ROOTS => {
-            names.push(b"NEW".to_vec());
-            armed.roots.push(Marks::default());
-        }
-        _ => armed.roots.iter_mut().for_each(|marks| *marks = Marks { tripped: random.once_in(2), user: random.once_in(2) }),
-    }
 }

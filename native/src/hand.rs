@@ -1,21 +1,24 @@
 //! The same calls on the same memory, written by hand for speed: what the proved library is measured against.
 //! It keeps the whole contract: the refusals in their order, the test of soundness, and every number of the memory after.
 
+mod away;
 mod counted;
 mod map;
 mod profile;
 mod profile_out;
 mod records;
+mod register;
 mod reset;
 mod sound;
 
+pub use away::{close, report, send};
 pub use profile_out::profile;
 pub use records::{read_record, write_record};
 
 use counted::{counted_by, Covering, Cuts, Offer};
 use map::*;
 use reset::{carry_out, LAST_RESET};
-use sound::{longest_if_sound, Longest};
+use sound::{sound, Longest, Sound};
 
 use crate::Row;
 
@@ -37,21 +40,21 @@ fn state_mut(m: &mut [u64]) -> Result<&mut State, u64> {
     m.first_chunk_mut().ok_or(1)
 }
 
-/// The longest window of an armed and sound state.
-fn armed(m: &State) -> Result<Longest, u64> {
+/// What the test of an armed and sound state found.
+fn armed(m: &State) -> Result<Sound, u64> {
     if m[MARK] == 0 {
         return Err(4);
     }
-    longest_if_sound(m).ok_or(2)
+    sound(m).ok_or(2)
 }
 
 /// The same at a time that is not below the clock.
-fn armed_at(m: &State, time: u64) -> Result<Longest, u64> {
-    let longest = armed(m)?;
+fn armed_at(m: &State, time: u64) -> Result<Sound, u64> {
+    let sound = armed(m)?;
     if time > LAST_TIME || time < m[CLOCK] {
         return Err(12);
     }
-    Ok(longest)
+    Ok(sound)
 }
 
 /// 1 if the firm is locked, else 2 if the root is, else 0.
@@ -152,11 +155,11 @@ pub fn offer(m: &mut [u64], time: u64, root: u64, unit: u64, premium: u64, contr
 
 /// An offer on lent memory.
 fn offered(m: &mut State, o: &Offer) -> Result<[u64; 4], u64> {
-    let longest = armed_at(m, o.time)?;
+    let sound = armed_at(m, o.time)?;
     if o.root >= m[ROOT_COUNT] || o.unit > 3 {
         return Err(13);
     }
-    if o.premium.wrapping_sub(1) >= MOST_PREMIUM || o.contracts.wrapping_sub(1) >= MOST_CONTRACTS {
+    if !is_priced(o.premium, o.contracts) {
         return Err(14);
     }
     let verdict = verdict(m, o.root);
@@ -167,18 +170,21 @@ fn offered(m: &mut State, o: &Offer) -> Result<[u64; 4], u64> {
     let covering = Covering::new(m, o);
     let cuts = covering.cuts(m, o);
     let grant = cuts.root.min(cuts.firm);
-    if grant > 0 && m[ENTRY_COUNT] == PLACES && entry_time(m[LOG]) + longest > o.time {
+    if grant > 0 && sound.lacks_places(m, o.time, 1) {
         return Err(15);
     }
     m[CLOCK] = o.time;
     let mut trips = covering.credit(m, o, grant);
-    if grant > 0 && longest > 0 {
-        join(m, o, grant, longest);
+    if grant > 0 && sound.longest > 0 {
+        join(m, o, grant, sound.longest);
     }
     trips.cut(&cuts, grant, o.contracts);
-    m[ROOTS_TRIPPED] |= u64::from(trips.root) << o.root;
-    m[FIRM_TRIPPED] |= u64::from(trips.firm);
-    Ok([0, grant, trips.root.into(), trips.firm.into()])
+    Ok(trips.answer(m, o.root, grant))
+}
+
+/// Are premium and contracts in their ranges?
+fn is_priced(premium: u64, contracts: u64) -> bool {
+    premium.wrapping_sub(1) < MOST_PREMIUM && contracts.wrapping_sub(1) < MOST_CONTRACTS
 }
 
 /// A fill joins the log, after the entries that are no longer inside the longest window have left.
@@ -204,6 +210,13 @@ struct Trips {
 }
 
 impl Trips {
+    /// Locks the levels that trip, and answers them with the grant.
+    fn answer(self, m: &mut State, root: u64, grant: u64) -> [u64; 4] {
+        m[ROOTS_TRIPPED] |= u64::from(self.root) << root;
+        m[FIRM_TRIPPED] |= u64::from(self.firm);
+        [0, grant, self.root.into(), self.firm.into()]
+    }
+
     /// The levels whose rules cut the grant trip too.
     fn cut(&mut self, cuts: &Cuts, grant: u64, contracts: u64) {
         self.root |= grant < contracts && cuts.root == grant;

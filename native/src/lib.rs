@@ -1,6 +1,7 @@
 //! The proved library in a native program, by the calls of the crate for Rust, and its comparison with the second program.
 
 pub mod beside;
+pub mod both;
 pub mod counts;
 pub mod damage;
 pub mod hand;
@@ -17,12 +18,16 @@ pub mod shrink;
 pub mod steps;
 pub mod tally;
 
-pub use library::{arm, clear, lockout, offer, order, profile, read_record, remaining, status, text, write_record, Row, SIZE};
+pub use library::{
+    arm, clear, close, lockout, offer, order, profile, read_record, remaining, report, send, status, text, write_record, Row, SIZE,
+};
 
 /// The proved library.
 #[cfg(feature = "library")]
 mod library {
-    pub use mbrumzheg::raw::{arm, clear, lockout, offer, order, profile, remaining, status, text, write_record, Row, SIZE};
+    pub use mbrumzheg::raw::{
+        arm, clear, close, lockout, offer, order, profile, remaining, report, send, status, text, write_record, Row, SIZE,
+    };
 
     /// An event record read: the refusal, then kind, time, root, unit, premium, contracts, reset and level.
     #[inline]
@@ -35,7 +40,7 @@ mod library {
 /// The hand-written calls in its place, so that they can be compared with the second program before the library has a request.
 #[cfg(not(feature = "library"))]
 mod library {
-    pub use crate::hand::{arm, clear, lockout, offer, order, profile, read_record, remaining, status, text};
+    pub use crate::hand::{arm, clear, close, lockout, offer, order, profile, read_record, remaining, report, send, status, text};
     pub use second::lent::Row;
     pub use second::place::NUMBERS as SIZE;
 

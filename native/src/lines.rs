@@ -1,6 +1,6 @@
 //! What is measured: each line is one call on one state, the same for the proved library, the hand-written calls and the second program.
 
-use second::unit::{self, Unit};
+use second::unit::{self, Away, Unit};
 
 use crate::beside::run_hand;
 use crate::pair::run_library;
@@ -47,7 +47,7 @@ impl Line {
 
 /// Runs a call on the second program's own state.
 pub fn run_unit(step: &Step, unit: &mut Unit, room: &mut [u8]) -> Row {
-    let [a, b, c, d, e] = step.numbers;
+    let [a, b, c, d, e, ..] = step.numbers;
     let first = |numbers: &[u64]| {
         let mut row = [0; 5];
         row[..numbers.len()].copy_from_slice(numbers);
@@ -59,6 +59,9 @@ pub fn run_unit(step: &Step, unit: &mut Unit, room: &mut [u8]) -> Row {
         Kind::Order => unit.order(a, b, c).numbers(),
         Kind::Lockout => unit.lockout(a, b, c).numbers(),
         Kind::Offer => unit.offer(a, b, c, d, e).numbers(),
+        Kind::Send => unit.send(a, step.order()).numbers(),
+        Kind::Report => unit.report(a, b, c).numbers(),
+        Kind::Close => unit.close(a, b).numbers(),
         Kind::Remaining => first(&unit.remaining(a, b, c).numbers()),
         Kind::Status => unit.status().numbers(),
         Kind::Text => first(&unit::text(a, room).numbers()),
@@ -124,7 +127,7 @@ fn entries_in_words(entries: u64) -> String {
     }
 }
 
-/// A time at which the oldest of 512 entries leaves, or at which all of fewer are inside a minute.
+/// A time at which the oldest of 512 entries leaves, or at which all of fewer are inside a minute, and none is later.
 fn time_after(entries: u64) -> u64 {
     if entries == 512 {
         61_000
@@ -187,6 +190,39 @@ fn small() -> Vec<Line> {
     lines
 }
 
+/// Arms, fills the log with so many entries, and sends so many orders away after them, one report each; identities in no order.
+fn sent(profile: Vec<u8>, entries: u64, orders: u64) -> Vec<Step> {
+    let time = time_after(entries);
+    let order = |n: u64| Away { identity: 40_503 * n % 65_536, root: 0, unit: 1, premium: 70_000, contracts: 50, reports: 1 };
+    filled(profile, entries).into_iter().chain((0..orders).map(|n| Step::send(time, order(n)))).collect()
+}
+
+/// Sendings, reports, closings, and other calls on a full register.
+fn aways() -> Vec<Line> {
+    let states = [("6 covering rate rules, 50 entries", rates(3, 3), 50), ("16 covering rules, 448 entries", mixed(), 448)];
+    let mut lines = Vec::new();
+    for (words, profile, entries) in states {
+        let time = time_after(entries);
+        let full = [
+            ("Status", Step::new(Kind::Status, &[])),
+            ("Order without reset", Step::new(Kind::Order, &[time, 0, 0])),
+            ("Report of the last", Step::new(Kind::Report, &[time, 40_503 * 63 % 65_536, 5])),
+            ("Close of the first", Step::new(Kind::Close, &[time, 0])),
+        ];
+        for (call_words, call) in full {
+            lines.push(Line::new(format!("{call_words}, {words}, 64 orders away"), &sent(profile.clone(), entries, 64), call));
+        }
+        let next = Away { identity: 7, root: 0, unit: 1, premium: 70_000, contracts: 50, reports: 1 };
+        for orders in [0, 63] {
+            let name = format!("Send, {words}, {orders} orders away");
+            lines.push(Line::new(name, &sent(profile.clone(), entries, orders), Step::send(time, next)));
+        }
+    }
+    let offer = Step::new(Kind::Offer, &[2_000, 0, 1, 70_000, 5]);
+    lines.push(Line::new("Offer, 6 covering rate rules, 50 entries, 64 orders away".into(), &sent(rates(3, 3), 50, 64), offer));
+    lines
+}
+
 /// Arm, by lines, and Clear.
 fn arms() -> Vec<Line> {
     let words = |lines: usize| if lines == 1 { "Arm, 1 line, 1 root".into() } else { format!("Arm, {lines} lines, {} roots", lines / 4) };
@@ -208,5 +244,5 @@ fn profiles_out() -> Vec<Line> {
 
 /// All lines.
 pub fn lines() -> Vec<Line> {
-    small().into_iter().chain(offers()).chain(arms()).chain(profiles_out()).collect()
+    small().into_iter().chain(offers()).chain(aways()).chain(arms()).chain(profiles_out()).collect()
 }

@@ -129,13 +129,16 @@ impl Pair {
 
 /// Runs a call on the library.
 pub fn run_library(step: &Step, m: &mut [u64], room: &mut [u8]) -> Row {
-    let [a, b, c, d, e] = step.numbers;
+    let [a, b, c, d, e, f, g] = step.numbers;
     match step.kind {
         Kind::Arm => crate::arm(m, &step.profile),
         Kind::Clear => crate::clear(m),
         Kind::Order => crate::order(m, a, b, c),
         Kind::Lockout => crate::lockout(m, a, b, c),
         Kind::Offer => crate::offer(m, a, b, c, d, e),
+        Kind::Send => crate::send(m, a, b, c, d, e, f, g),
+        Kind::Report => crate::report(m, a, b, c),
+        Kind::Close => crate::close(m, a, b),
         Kind::Remaining => crate::remaining(m, a, b, c),
         Kind::Status => crate::status(m),
         Kind::Text => crate::text(a, room),
@@ -146,7 +149,7 @@ pub fn run_library(step: &Step, m: &mut [u64], room: &mut [u8]) -> Row {
 
 /// Runs a call on the second program.
 fn run_second(step: &Step, second: &mut Lent, room: &mut [u8]) -> Row {
-    let [a, b, c, d, e] = step.numbers;
+    let [a, b, c, d, e, ..] = step.numbers;
     let two = |[refusal, value]: [u64; 2]| [refusal, value, 0, 0, 0];
     match step.kind {
         Kind::Arm => second.arm(&step.profile),
@@ -154,6 +157,9 @@ fn run_second(step: &Step, second: &mut Lent, room: &mut [u8]) -> Row {
         Kind::Order => second.change(|unit| unit.order(a, b, c).numbers()),
         Kind::Lockout => second.change(|unit| unit.lockout(a, b, c).numbers()),
         Kind::Offer => second.change(|unit| unit.offer(a, b, c, d, e).numbers()),
+        Kind::Send => second.change(|unit| unit.send(a, step.order()).numbers()),
+        Kind::Report => second.change(|unit| unit.report(a, b, c).numbers()),
+        Kind::Close => second.change(|unit| unit.close(a, b).numbers()),
         Kind::Remaining => second.ask(|unit| two(unit.remaining(a, b, c).numbers())),
         Kind::Status => second.ask(|unit| unit.status().numbers()),
         Kind::Text => two(unit::text(a, room).numbers()),

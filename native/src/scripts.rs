@@ -3,6 +3,8 @@
 use std::fmt;
 use std::str::FromStr;
 
+use second::unit::Away;
+
 /// What a step does: lends so many numbers, puts a number into the memory, or calls.
 #[derive(Clone, Copy, Debug, PartialEq, Eq)]
 pub enum Kind {
@@ -13,6 +15,9 @@ pub enum Kind {
     Order,
     Lockout,
     Offer,
+    Send,
+    Report,
+    Close,
     Remaining,
     Status,
     Text,
@@ -20,8 +25,9 @@ pub enum Kind {
 }
 
 /// Each kind with its word and how many numbers follow it: the length; place and number; none (Arm has a text instead); none; time, root and
-/// reset; time, level and root; time, root, unit, premium and contracts; time, rule and unit; none; verdict and room; room.
-const WORDS: [(&str, Kind, usize); 11] = [
+/// reset; time, level and root; time, root, unit, premium and contracts; the same, identity and reports; time, identity and contracts; time and
+/// identity; time, rule and unit; none; verdict and room; room.
+const WORDS: [(&str, Kind, usize); 14] = [
     ("length", Kind::Length, 1),
     ("damage", Kind::Damage, 2),
     ("arm", Kind::Arm, 0),
@@ -29,11 +35,17 @@ const WORDS: [(&str, Kind, usize); 11] = [
     ("order", Kind::Order, 3),
     ("lockout", Kind::Lockout, 3),
     ("offer", Kind::Offer, 5),
+    ("send", Kind::Send, 7),
+    ("report", Kind::Report, 3),
+    ("close", Kind::Close, 2),
     ("remaining", Kind::Remaining, 3),
     ("status", Kind::Status, 0),
     ("text", Kind::Text, 2),
     ("profile", Kind::Profile, 1),
 ];
+
+/// The most numbers that a kind has.
+pub const MOST_NUMBERS: usize = 7;
 
 /// The most bytes of room: as long as a profile may be.
 const MOST_ROOM: u64 = 65_536;
@@ -43,7 +55,7 @@ const MOST_ROOM: u64 = 65_536;
 pub struct Step {
     pub kind: Kind,
     /// The kind's numbers in the order of its line, then zeros.
-    pub numbers: [u64; 5],
+    pub numbers: [u64; MOST_NUMBERS],
     /// The profile of Arm, empty in the others.
     pub profile: Vec<u8>,
 }
@@ -51,14 +63,26 @@ pub struct Step {
 impl Step {
     /// A step with its numbers.
     pub fn new(kind: Kind, own: &[u64]) -> Step {
-        let mut numbers = [0; 5];
+        let mut numbers = [0; MOST_NUMBERS];
         numbers[..own.len()].copy_from_slice(own);
         Step { kind, numbers, profile: Vec::new() }
     }
 
+    /// A sending of an order.
+    pub fn send(time: u64, order: Away) -> Step {
+        let Away { identity, root, unit, premium, contracts, reports } = order;
+        Step::new(Kind::Send, &[time, root, unit, premium, contracts, identity, reports])
+    }
+
     /// Arm from a text.
     pub fn arm(profile: Vec<u8>) -> Step {
-        Step { kind: Kind::Arm, numbers: [0; 5], profile }
+        Step { kind: Kind::Arm, numbers: [0; MOST_NUMBERS], profile }
+    }
+
+    /// Is it a call with a time, which is then its first number?
+    pub fn has_time(&self) -> bool {
+        let timeless = [Kind::Arm, Kind::Clear, Kind::Status, Kind::Text, Kind::Profile];
+        self.is_call() && !timeless.contains(&self.kind)
     }
 
     /// Is it a call, and not a change of the memory from outside?
@@ -74,6 +98,12 @@ impl Step {
             _ => 0,
         };
         (0..bytes.min(MOST_ROOM)).map(|place| place as u8 ^ 0xA5).collect()
+    }
+
+    /// The order that a sending sends.
+    pub fn order(&self) -> Away {
+        let [_, root, unit, premium, contracts, identity, reports] = self.numbers;
+        Away { identity, root, unit, premium, contracts, reports }
     }
 
     /// The kind's own numbers.

@@ -3,7 +3,7 @@
 use std::time::{Duration, Instant};
 
 use crate::pair::{as_it_is, Pair};
-use crate::scripts::{Kind, Step};
+use crate::scripts::{Kind, Step, MOST_NUMBERS};
 
 /// How long a script may be worked on.
 const PATIENCE: Duration = Duration::from_secs(120);
@@ -85,8 +85,8 @@ fn fewer<T: Clone>(mut items: Vec<T>, keeps: &mut dyn FnMut(&[T]) -> bool) -> Ve
 
 /// Puts 0 or 1 into one place of all steps of a kind at once, or of all but the last step.
 fn lower_alike(script: &mut [Step], keeps: &mut dyn FnMut(&[Step]) -> bool) {
-    for kind in [Kind::Offer, Kind::Order, Kind::Lockout, Kind::Remaining] {
-        for (at, number, spared) in (0..5).flat_map(|at| [(at, 0, 0), (at, 0, 1), (at, 1, 0), (at, 1, 1)]) {
+    for kind in [Kind::Offer, Kind::Order, Kind::Lockout, Kind::Send, Kind::Report, Kind::Close, Kind::Remaining] {
+        for (at, number, spared) in (0..MOST_NUMBERS).flat_map(|at| [(at, 0, 0), (at, 0, 1), (at, 1, 0), (at, 1, 1)]) {
             let mut lowered = script.to_vec();
             let changed = script.len().saturating_sub(spared);
             for step in lowered[..changed].iter_mut().filter(|step| step.kind == kind && at < step.own().len()) {
@@ -122,14 +122,13 @@ fn shorten_profile(script: &mut [Step], place: usize, keeps: &mut dyn FnMut(&[St
 
 /// Moves a step with a time, and those after it, to earlier times by the same stretch.
 fn move_earlier(script: &mut [Step], place: usize, keeps: &mut dyn FnMut(&[Step]) -> bool) {
-    let has_time = |step: &Step| matches!(step.kind, Kind::Order | Kind::Lockout | Kind::Offer | Kind::Remaining);
-    if !has_time(&script[place]) {
+    if !script[place].has_time() {
         return;
     }
     lower(script[place].numbers[0], &mut |time| {
         let stretch = script[place].numbers[0] - time;
         let mut moved = script.to_vec();
-        for step in moved[place..].iter_mut().filter(|step| has_time(step)) {
+        for step in moved[place..].iter_mut().filter(|step| step.has_time()) {
             step.numbers[0] = step.numbers[0].saturating_sub(stretch);
         }
         let kept = keeps(&moved);

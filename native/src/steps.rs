@@ -1,5 +1,7 @@
 //! The steps of one day, drawn from a seed: calls near the second program's limits and window ends, arbitrary numbers, lengths and damage.
 
+mod full;
+
 use std::collections::VecDeque;
 
 use second::gen::{self, Call, Maker, Random};
@@ -46,35 +48,14 @@ impl Day {
             day.queue.push_back(Step::arm(if day.random.once_in(4) { damaged } else { clashing }));
             day.queue.push_back(Step::new(Kind::Clear, &[]));
         }
-        if day.random.once_in(8) {
-            day.fill_the_log();
+        match day.random.below(16) {
+            0 | 1 => day.fill_the_log(),
+            2 | 3 => day.fill_by_sending(),
+            4 => day.fill_the_register(),
+            _ => {}
         }
         day.queue.push_back(Step::arm(gen::valid_profile(day.random.number())));
         day
-    }
-
-    /// Arms with wide limits, and fills the log or leaves a place or two; often the next offers come before the oldest entry leaves, and then.
-    fn fill_the_log(&mut self) {
-        let [window, other] = [(); 2].map(|_| self.random.pick(&[100, 101, 1_000, 60_000, 600_000, 86_400_000]));
-        let count = self.random.pick(&[511, 512, 513, 1_000_000_000]);
-        let profile = format!("FULL,rate_vol,X,1000000000,{window}\nFULL,rate_count,,{count},{other},T\nFULL,abs_vol,Y,600,,,C,F");
-        self.queue.push_back(Step::arm(profile.into_bytes()));
-        let mut time = self.random.below(1_000);
-        let leaves = time + window.max(other);
-        let roots = self.random.pick(&[1, 2]);
-        for _ in 0..self.random.between(509, 514) {
-            self.queue.push_back(Step::new(Kind::Offer, &[time, self.random.below(roots), self.random.below(4), 1, 1]));
-            time += u64::from(self.random.once_in(20));
-        }
-        if self.random.once_in(2) {
-            // a reset may give room back before the next offers
-            let reset = Step::new(Kind::Order, &[time, self.random.below(2), self.random.pick(&[1, 2, 3, 3, 3, 4, 5, 6])]);
-            self.queue.extend([reset, Step::new(Kind::Offer, &[time, 0, 0, 1, 1])]);
-        }
-        if !self.random.once_in(3) {
-            let times = [leaves - 1, leaves + self.random.below(2)];
-            self.queue.extend(times.map(|time| Step::new(Kind::Offer, &[time, 0, 0, 1, 1])));
-        }
     }
 
     /// The next step, by how the second program stands; none when the day is over.
@@ -118,6 +99,9 @@ impl Day {
             Call::Order { time, root, reset } => Step::new(Kind::Order, &[time, root, reset]),
             Call::Lockout { time, level, root } => Step::new(Kind::Lockout, &[time, level, root]),
             Call::Offer { time, root, unit, premium, contracts } => Step::new(Kind::Offer, &[time, root, unit, premium, contracts]),
+            Call::Send { time, order } => Step::send(time, order),
+            Call::Report { time, identity, contracts } => Step::new(Kind::Report, &[time, identity, contracts]),
+            Call::Close { time, identity } => Step::new(Kind::Close, &[time, identity]),
             Call::Remaining { time, rule, unit } => Step::new(Kind::Remaining, &[time, rule, unit]),
             Call::Status => Step::new(Kind::Status, &[]),
             Call::Text { verdict, room } => Step::new(Kind::Text, &[verdict, room]),
@@ -132,11 +116,14 @@ impl Day {
         Step::new(Kind::Profile, &[self.random.pick(&[0, part, size.saturating_sub(1), size, size, size + 1, more])])
     }
 
-    /// An offer on a full log at the time at which its oldest entry leaves, or one millisecond beside it; other calls as they are.
+    /// An offer or sending, with no place of the log left, at the time at which its oldest entry leaves, or one millisecond beside it; other calls as
+    /// they are.
     fn when_the_oldest_leaves(&mut self, mut step: Step, second: &mut Lent) -> Step {
         let Some(armed) = &second.unit().armed else { return step };
         let (oldest, longest) = (armed.log.front(), armed.profile.longest_window());
-        if let (Kind::Offer, LOG_PLACES, Some(oldest), Some(longest)) = (step.kind, armed.log.len(), oldest, longest) {
+        let kept = armed.away.iter().map(|order| order.reports as usize).sum::<usize>();
+        let is_full = armed.log.len() + kept >= LOG_PLACES;
+        if let (Kind::Offer | Kind::Send, true, Some(oldest), Some(longest)) = (step.kind, is_full, oldest, longest) {
             let time = oldest.time + longest - 1 + self.random.below(3);
             if (armed.clock..=LAST_TIME).contains(&time) {
                 step.numbers[0] = time;

@@ -1,69 +1,39 @@
 //! What came up in a run: so that a run that saw too little does not pass.
 
+mod away;
+mod groups;
 mod lifted;
+mod register;
 mod room;
 mod units;
 
 use std::fmt;
 
 use second::lent::{Lent, Row};
-use second::unit::LOG_PLACES;
+use second::unit::{Armed, LOG_PLACES};
 
+use self::groups::*;
 use crate::scripts::{Kind, Step};
 use crate::SIZE;
 
-/// What has to come up at least once, beside each refusal from 1 to 15, in groups that are printed a line each.
-const WANTED: [(&str, &[&str]); 17] = [
-    ("calls", &["arm", "clear", "order", "lockout", "offer", "remaining", "status", "text", "profile"]),
-    ("offers", &["granted whole", "cut above 0", "cut to 0", "under a locked firm", "under a locked root"]),
-    ("trips", &["of a root", "of the firm", "of both", "of an absolute rule just reached"]),
-    ("resets", &["none", "SYMBOL", "FIRM", "BOTH", "T", "E", "T and E"]),
-    ("lockouts", &["of a root", "of the firm"]),
-    ("offers when a window", &["ended 1 ms ago", "ends", "ends in 1 ms"]),
-    ("armed with", &["256 rules", "64 roots", "10 firm rules", "6 rules on a unit", "firm rules alone"]),
-    ("damaged states", &["sound", "unsound", "with mark 0", "taken back"]),
-    ("offers on a full log when the oldest entry", &["left 1 ms ago", "leaves", "leaves in 1 ms"]),
-    ("lent numbers", &["0", "1", "2633", "other short", "2634", "2635", "more"]),
-    ("profiles out", &["into just enough room", "into more", "room one byte short", "shorter", "short memory", "not armed", "unsound"]),
-    ("Remaining of", units::ASKED),
-    ("offers while another unit of the rule has", units::BESIDE),
-    ("T or E lifts", lifted::LIFTED),
-    ("offers while a total is at its limit or above", lifted::USED),
-    ("SYMBOL, FIRM or BOTH leaves of the log", room::LEFT),
-    ("damaged entries", room::FLAGLESS),
-];
-/// The groups by their places.
-const CALLS: usize = 0;
-const OFFERS: usize = 1;
-const TRIPS: usize = 2;
-const RESETS: usize = 3;
-const LOCKOUTS: usize = 4;
-const WINDOWS: usize = 5;
-const PROFILES: usize = 6;
-const DAMAGED: usize = 7;
-const OLDEST: usize = 8;
-const LENT: usize = 9;
-const OUT: usize = 10;
-const ASKED: usize = 11;
-const BESIDE: usize = 12;
-const LIFTED: usize = 13;
-const USED: usize = 14;
-const LEFT: usize = 15;
-const FLAGLESS: usize = 16;
+/// The refusals of calls on memory and of Text; 16 is for records alone.
+const REFUSALS: [usize; 18] = [1, 2, 3, 4, 5, 6, 7, 8, 9, 10, 11, 12, 13, 14, 15, 17, 18, 19];
 
 /// Counts of what came up.
 #[derive(Default)]
 pub struct Tally {
     pub calls: u64,
-    refusals: [u64; 16],
+    refusals: [u64; 20],
     /// Offers that left a log of 512 entries.
     full_logs: u64,
-    seen: [[u64; 10]; WANTED.len()],
+    seen: [[u64; 12]; WANTED.len()],
     /// Was a number changed from outside since the last call, and was the state unsound before?
     damaged: Option<bool>,
     /// Which marks an order has to lift, and how many entries there are before it.
     lifts: Vec<usize>,
     entries: usize,
+    /// The state before a sending, a report or a closing.
+    armed: Option<Armed>,
 }
 
 impl Tally {
@@ -78,9 +48,7 @@ impl Tally {
         }
         self.see(LENT, lent_place(second.length()));
         if let Some(was_unsound) = self.damaged.take() {
-            if second.is_unsound() && room::is_sound_but_for_flags(second.numbers()) {
-                self.see(FLAGLESS, 0);
-            }
+            self.see_damage(second);
             self.see(
                 DAMAGED,
                 match (second.is_unsound(), second.unit().armed.is_some()) {
@@ -99,6 +67,7 @@ impl Tally {
         match step.kind {
             Kind::Offer => self.see_windows(step.numbers[0], second),
             Kind::Order => self.look_before(step, second),
+            Kind::Send | Kind::Report | Kind::Close => self.armed = second.unit().armed.clone(),
             _ => {}
         }
     }
@@ -113,6 +82,8 @@ impl Tally {
         self.see(CALLS, step.kind as usize - Kind::Arm as usize);
         match step.kind {
             Kind::Profile => self.see(OUT, out_place(step.numbers[0], row)),
+            Kind::Send | Kind::Report | Kind::Close => self.see_away(step, row, second),
+            Kind::Offer if row[0] == 15 => self.see_full(step.numbers[0], second),
             Kind::Remaining if [0, 13].contains(&row[0]) => self.see_remaining(step, second),
             _ if row[0] != 0 => {}
             Kind::Arm => self.see_profile(second),
@@ -125,7 +96,7 @@ impl Tally {
 
     /// What has to come up and did not.
     pub fn missing(&self) -> Vec<String> {
-        let refusals = (1..=15).filter(|refusal| self.refusals[*refusal] == 0).map(|refusal| format!("refusal {refusal}"));
+        let refusals = REFUSALS.into_iter().filter(|refusal| self.refusals[*refusal] == 0).map(|refusal| format!("refusal {refusal}"));
         let rows = WANTED.iter().zip(&self.seen);
         let names = rows.flat_map(|((group, names), seen)| names.iter().zip(seen).map(move |(name, count)| (group, name, count)));
         let names = names.filter(|(_, _, count)| **count == 0).map(|(group, name, _)| format!("{group} {name}"));
@@ -167,6 +138,32 @@ impl Tally {
         (0..shapes.len()).filter(|place| shapes[*place]).for_each(|place| self.see(PROFILES, place));
     }
 
+    /// What is wrong with a damaged state, or what it has that others have not.
+    fn see_damage(&mut self, second: &mut Lent) {
+        let found = match (second.is_unsound(), &second.unit().armed) {
+            (false, Some(armed)) => register::sound(armed),
+            (false, None) => Vec::new(),
+            (true, _) => register::unsound(second.numbers()),
+        };
+        found.into_iter().for_each(|place| self.see(FOUND, place));
+        if second.is_unsound() && room::is_sound_but_for_flags(second.numbers()) {
+            self.see(FLAGLESS, 0);
+        }
+    }
+
+    fn see_away(&mut self, step: &Step, row: Row, second: &mut Lent) {
+        let (Some(before), Some(after)) = (self.armed.take(), &second.unit().armed) else { return };
+        away::seen(step, row, &before, after).into_iter().for_each(|(group, place)| self.see(AWAY + group, place));
+    }
+
+    /// An offer for which the log has no place.
+    fn see_full(&mut self, time: u64, second: &mut Lent) {
+        let Some(armed) = &second.unit().armed else { return };
+        let inside = |longest: u64| armed.log.iter().filter(|entry| entry.time + longest > time).count();
+        let is_full = armed.profile.longest_window().is_some_and(|longest| inside(longest) == LOG_PLACES);
+        self.see(FULL, usize::from(!is_full));
+    }
+
     fn see_remaining(&mut self, step: &Step, second: &mut Lent) {
         let [_, rule, unit, ..] = step.numbers;
         let Some(armed) = &second.unit().armed else { return };
@@ -187,7 +184,7 @@ impl Tally {
     }
 
     fn see_offer(&mut self, step: &Step, row: Row, second: &mut Lent) {
-        let [time, root, unit, _, contracts] = step.numbers;
+        let [time, root, unit, _, contracts, ..] = step.numbers;
         let [_, verdict, grant, root_trip, firm_trip] = row;
         self.see(
             OFFERS,
@@ -235,7 +232,7 @@ fn out_place(room: u64, [refusal, size, ..]: Row) -> usize {
 impl fmt::Display for Tally {
     fn fmt(&self, f: &mut fmt::Formatter) -> fmt::Result {
         write!(f, "refusals:")?;
-        (0..=15).try_for_each(|refusal| write!(f, " {refusal}={}", self.refusals[refusal]))?;
+        [0].into_iter().chain(REFUSALS).try_for_each(|refusal| write!(f, " {refusal}={}", self.refusals[refusal]))?;
         for ((group, names), seen) in WANTED.iter().zip(&self.seen) {
             let counts: Vec<String> = names.iter().zip(seen).map(|(name, count)| format!("{name} {count}")).collect();
             write!(f, "\n{group}: {}", counts.join(", "))?;

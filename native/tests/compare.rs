@@ -33,13 +33,16 @@ fn agree(pair: &mut Pair, step: Step) -> [u64; 5] {
     pair.step(&step).unwrap_or_else(|difference| panic!("after {step}: {difference}"))
 }
 
-/// Both armed, with five fills in the log.
+/// Both armed, with five fills in the log and two orders sent away.
 fn armed() -> Pair {
     let mut pair = Pair::new(as_it_is);
     let profile = b"ABCD,abs_vol,XYZ,1000\nABCD,rate_vol,QR,500,1000,,C,F\nABCD,rate_ntnl,,100000,60000,T\n";
     assert_eq!(agree(&mut pair, Step::arm(profile.to_vec())), [0, 0, 0x4142_4344, 3, 2]);
     for n in 0..5 {
         assert_eq!(agree(&mut pair, Step::new(Kind::Offer, &[10 * n, n % 2, 0, 70_000, 20]))[0], 0);
+    }
+    for identity in [5, 70] {
+        assert_eq!(agree(&mut pair, Step::new(Kind::Send, &[50, 1, 2, 70_000, 20, identity, 9])), [0; 5]);
     }
     pair
 }
@@ -84,7 +87,7 @@ fn profiles_are_read_alike() {
 #[test]
 fn any_length_and_any_filling_is_answered() {
     let profile = || Step::arm(b"A,abs_vol,Q,5".to_vec());
-    let starts_of_parts = [MARK, CLOCK, ROOT_COUNT, ROOTS, RULE_COUNT, RULES, TOTALS, FIRM_TRIPPED, ENTRY_COUNT, LOG];
+    let starts_of_parts = [MARK, CLOCK, ROOT_COUNT, ROOTS, RULE_COUNT, RULES, TOTALS, FIRM_TRIPPED, REGISTER, ENTRY_COUNT, LOG];
     for length in starts_of_parts.into_iter().chain([SIZE - 1, SIZE, SIZE + 1, 70_000]).map(|length| length as u64) {
         let mut pair = armed();
         agree(&mut pair, Step::new(Kind::Length, &[length]));

@@ -4,9 +4,9 @@ use native::beside::{days, no_slip, Slip};
 use native::profiles::clashing;
 use native::records::{compare, Records};
 use native::scripts::Kind;
-use native::{arm, hand, offer, order, profile, status, SIZE};
+use native::{arm, hand, offer, order, profile, report, send, status, SIZE};
 use second::gen::{self, Random};
-use second::place::{CLOCK, TOTALS};
+use second::place::{CLOCK, ROOTS_TRIPPED, TOTALS};
 
 #[test]
 fn days_of_calls_are_answered_alike_by_hand() {
@@ -23,7 +23,7 @@ const CALLS: u64 = 200_000;
 
 #[test]
 fn slips_are_found() {
-    let slips: [Slip; 6] = [
+    let slips: [Slip; 8] = [
         |_, _, row, _| row[2] -= u64::from(row[2] > 1_000),
         |step, m, row, _| {
             if row[0] == 0 && step.numbers[2] == 1 && m.len() >= SIZE {
@@ -40,6 +40,12 @@ fn slips_are_found() {
                 m[TOTALS] = 0
             }
         },
+        |step, m, row, _| {
+            if step.kind == Kind::Report && row[0] == 0 && row[3] == 1 {
+                m[ROOTS_TRIPPED] = 0
+            }
+        },
+        |_, _, row, _| row[0] = if row[0] == 17 { 18 } else { row[0] },
         |_, _, row, _| row[0] = if row[0] == 2 { 0 } else { row[0] },
         |step, _, row, room| {
             if let (Kind::Profile, Some(past)) = (step.kind, room.get_mut(row[1] as usize)) {
@@ -60,6 +66,9 @@ fn busy() -> Vec<u64> {
     for n in 0..50 {
         assert_eq!(offer(&mut m, 10 * n, n % 2, n % 4, 70_000, 2)[0], 0);
     }
+    for identity in 0..9 {
+        assert_eq!(send(&mut m, 500, identity % 2, identity % 4, 1 + identity, 100, 7_000 * identity, 1 + identity), [0; 5]);
+    }
     m
 }
 
@@ -78,6 +87,8 @@ fn each_single_bit_of_a_state_is_judged_alike_by_hand() {
             assert_eq!(rooms[0], rooms[1], "bit {bit} of number {place}");
             let (mut one, mut other) = (m.clone(), m.clone());
             assert_eq!(order(&mut one, 1_000, 0, bit % 7), hand::order(&mut other, 1_000, 0, bit % 7));
+            assert_eq!(one, other, "bit {bit} of number {place}");
+            assert_eq!(report(&mut one, 1_000, 7_000 * (bit % 9), bit), hand::report(&mut other, 1_000, 7_000 * (bit % 9), bit));
             assert_eq!(one, other, "bit {bit} of number {place}");
             m[place] ^= 1 << bit;
         }

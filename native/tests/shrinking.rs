@@ -127,8 +127,8 @@ fn a_wrong_refusal_for_room_is_found_and_made_short() {
 
 #[test]
 fn a_script_is_read_as_it_was_written() {
-    let text = "length 2635\narm A,abs_vol,Q,5,\\x00\\xff\\\\\\'\\\"\\r\\t,x\\n\narm\nclear\norder 20 0 1\nlockout 1 0 2\n\
-                offer 10 0 0 70000 200\nremaining 10 0 3\nstatus\ntext 1 20\nprofile 40\ndamage 5 18446744073709551615\n";
+    let text = "length 2764\narm A,abs_vol,Q,5,\\x00\\xff\\\\\\'\\\"\\r\\t,x\\n\narm\nclear\norder 20 0 1\nlockout 1 0 2\n\
+                offer 10 0 0 70000 200\nsend 10 0 3 70000 200 65535 16\nreport 11 65535 7\nclose 12 65535\nremaining 10 0 3\nstatus\ntext 1 20\nprofile 40\ndamage 5 18446744073709551615\n";
     let script = parse(text).expect("a script");
     assert_eq!(script[1].profile, b"A,abs_vol,Q,5,\x00\xff\\'\"\r\t,x\n");
     assert_eq!(print(&script), text);

@@ -13,7 +13,7 @@ import sys
 from pathlib import Path
 from typing import NamedTuple, Optional, Union
 
-from mbrumzheg import Answer, Event, Lockout, Offer, Order, Refusal, Refused, Unit, records
+from mbrumzheg import Answer, Event, Lockout, Offer, Order, Refusal, Refused, Report, Root, Sending, Unit, records
 
 # %% The day: a profile and its records
 
@@ -51,14 +51,24 @@ def replay(unit: Unit, stretch: bytes) -> list[Passed]:
 # %% What happened, in words
 
 
+def name(unit: Unit, root: Root) -> str:
+    """A root's name, or its number if the profile does not have it."""
+    return dict(unit.roots()).get(root, f"root {root}")
+
+
 def subject(unit: Unit, event: Event) -> str:
     """What an event is about."""
-    names = dict(unit.roots())
     if isinstance(event, Offer):
-        return f"offer {event.contracts} {event.unit} at {event.premium} on {names.get(event.root, f'root {event.root}')}"
+        return f"offer {event.contracts} {event.unit} at {event.premium} on {name(unit, event.root)}"
     if isinstance(event, Order):
-        return f"order on {names.get(event.root, f'root {event.root}')}, reset {event.reset}"
-    return f"lockout of {'the firm' if event.level.root is None else names.get(event.level.root, f'root {event.level.root}')}"
+        return f"order on {name(unit, event.root)}, reset {event.reset}"
+    if isinstance(event, Lockout):
+        return f"lockout of {'the firm' if event.level.root is None else name(unit, event.level.root)}"
+    if isinstance(event, Sending):
+        return f"order {event.identity} of {event.contracts} sent away on {name(unit, event.root)}"
+    if isinstance(event, Report):
+        return f"report of {event.contracts} on order {event.identity}"
+    return f"closing of order {event.identity}"
 
 
 def outcome(passed: Passed) -> str:
@@ -68,10 +78,11 @@ def outcome(passed: Passed) -> str:
     answer = passed.answer
     if not answer.verdict.passes:
         return f"rejected, {answer.verdict.text}"
-    if isinstance(passed.event, Offer):
+    if isinstance(passed.event, (Offer, Report)):
         trips = [level for level, tripped in (("root", answer.root_trip), ("firm", answer.firm_trip)) if tripped]
+        done = "granted" if isinstance(passed.event, Offer) else "counted"
         cut = " (cut)" if answer.cuts(passed.event.contracts) else ""
-        return f"granted {answer.grant}{cut}" + (f", tripped: {' and '.join(trips)}" if trips else "")
+        return f"{done} {answer.grant}{cut}" + (f", tripped: {' and '.join(trips)}" if trips else "")
     return "locked" if isinstance(passed.event, Lockout) else "passed"
 
 
@@ -110,8 +121,8 @@ def least_left(profile: str, stretch: bytes) -> list[int]:
 
 
 def granted(day: list[Passed]) -> int:
-    """All contracts that a day granted."""
-    return sum(passed.answer.grant for passed in day if isinstance(passed.answer, Answer))
+    """All contracts that a day granted at home; what was reported from away markets is no grant."""
+    return sum(passed.answer.grant for passed in day if isinstance(passed.answer, Answer) and not isinstance(passed.event, Report))
 
 
 def doubled(profile: str, rule: int) -> str:

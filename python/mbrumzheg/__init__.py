@@ -12,12 +12,12 @@ free
 """
 
 from . import raw
-from .event import RECORD_SIZE, Answer, Event, Lockout, Offer, Order, from_record, records
+from .event import RECORD_SIZE, Answer, Closing, Event, Lockout, Offer, Order, Report, Sending, from_record, records
 from .raw import PROFILE_MOST, SIZE
 from .refusal import Refusal, Refused
 from .rule import Measure, Rule, Scope
 from .unit import Status, Unit
-from .values import Contracts, Level, ParseError, Premium, Reset, Root, Time, UnitOfRoot, Verdict
+from .values import Contracts, Identity, Level, ParseError, Premium, Reports, Reset, Root, Time, UnitOfRoot, Verdict
 from .view import Marks
 
 __version__ = "0.2.0"
@@ -27,8 +27,10 @@ __all__ = [
     "RECORD_SIZE",
     "SIZE",
     "Answer",
+    "Closing",
     "Contracts",
     "Event",
+    "Identity",
     "Level",
     "Lockout",
     "Marks",
@@ -39,10 +41,13 @@ __all__ = [
     "Premium",
     "Refusal",
     "Refused",
+    "Report",
+    "Reports",
     "Reset",
     "Root",
     "Rule",
     "Scope",
+    "Sending",
     "Status",
     "Time",
     "Unit",

@@ -7,7 +7,7 @@ from typing import Iterator, Union
 
 from . import raw
 from .refusal import Refusal, Refused
-from .values import Contracts, Level, Premium, Reset, Root, Time, UnitOfRoot, Verdict
+from .values import Contracts, Identity, Level, Premium, Reports, Reset, Root, Time, UnitOfRoot, Verdict
 
 RECORD_SIZE = raw.RECORD_SIZE
 
@@ -65,13 +65,51 @@ class Lockout:
         return _record(self.numbers())
 
 
-Event = Union[Order, Offer, Lockout]
-"""An event of the day, as a record has it."""
+class _Unrecorded:
+    """An event that 12 bytes have no place for."""
+
+    def to_record(self) -> bytes:
+        """Refused with FAULTY_RECORD: there is no such record."""
+        raise Refused(Refusal.FAULTY_RECORD)
+
+
+@dataclass(frozen=True)
+class Sending(_Unrecorded):
+    """An order that is sent to an away market; its fills are counted at its premium."""
+
+    time: Time
+    root: Root
+    unit: UnitOfRoot
+    premium: Premium
+    contracts: Contracts
+    identity: Identity
+    reports: Reports
+
+
+@dataclass(frozen=True)
+class Report(_Unrecorded):
+    """A fill that an away market reports."""
+
+    time: Time
+    identity: Identity
+    contracts: Contracts
+
+
+@dataclass(frozen=True)
+class Closing(_Unrecorded):
+    """The closing of an order sent away."""
+
+    time: Time
+    identity: Identity
+
+
+Event = Union[Order, Offer, Lockout, Sending, Report, Closing]
+"""An event of the day."""
 
 
 @dataclass(frozen=True)
 class Answer:
-    """What an event that was not refused is answered. For orders and lockouts the grant is 0 and nothing trips."""
+    """What an event that was not refused is answered. The grant is above 0, and something trips, for offers and reports alone."""
 
     verdict: Verdict
     grant: int = 0

@@ -100,6 +100,27 @@ def offer(lent: Memory, time: int, root: int, unit: int, premium: int, contracts
     return _numbers(row)
 
 
+def send(lent: Memory, time: int, root: int, unit: int, premium: int, contracts: int, identity: int, reports: int) -> Row:
+    """An order sent away: refusal, verdict."""
+    row = _Row()
+    _library.mbrumzheg_send(lent, len(lent), *map(_u64, (time, root, unit, premium, contracts, identity, reports)), row)
+    return _numbers(row)
+
+
+def report(lent: Memory, time: int, identity: int, contracts: int) -> Row:
+    """A report of an order sent away: refusal, verdict, its contracts, root trip, firm trip."""
+    row = _Row()
+    _library.mbrumzheg_report(lent, len(lent), _u64(time), _u64(identity), _u64(contracts), row)
+    return _numbers(row)
+
+
+def close(lent: Memory, time: int, identity: int) -> Row:
+    """The closing of an order sent away: refusal, verdict."""
+    row = _Row()
+    _library.mbrumzheg_close(lent, len(lent), _u64(time), _u64(identity), row)
+    return _numbers(row)
+
+
 def remaining(lent: Memory, time: int, rule: int, unit: int) -> Row:
     """What remains of a rule's limit on a unit (0 for a firm rule): refusal, the number."""
     row = _Row()

@@ -7,7 +7,7 @@ from typing import Optional
 
 
 class Refusal(IntEnum):
-    """A refusal: its number from 1 to 16. A refused call changes nothing."""
+    """A refusal: its number from 1 to 19. A refused call changes nothing."""
 
     NO_ROOM = 1
     UNSOUND = 2
@@ -25,6 +25,9 @@ class Refusal(IntEnum):
     BAD_AMOUNT = 14
     LOG_FULL = 15
     FAULTY_RECORD = 16
+    REGISTER_FULL = 17
+    IDENTITY_CLASH = 18
+    OVER_REPORTED = 19
 
     @property
     def sentence(self) -> str:
@@ -39,7 +42,7 @@ class Refusal(IntEnum):
 
 
 _SENTENCES = {
-    Refusal.NO_ROOM: "the lent memory has fewer than 2,634 numbers, or the room is shorter than the call asks for",
+    Refusal.NO_ROOM: "the lent memory has fewer than 2,763 numbers, or the room is shorter than the call asks for",
     Refusal.UNSOUND: "the memory is marked, but what stands in it is no sound state",
     Refusal.ARMED_ALREADY: "the memory's armed mark is not 0, so clear it before arming",
     Refusal.NOT_ARMED: "the memory is not armed, so no rule stands behind this call",
@@ -51,10 +54,13 @@ _SENTENCES = {
     Refusal.UNIT_CLASH: "the line sets one of call/put and month without the other, or sets them in a firm rule",
     Refusal.TOO_MANY: "the line is one rule or one root more than a profile may have",
     Refusal.BAD_TIME: "the time is no time of the day, or earlier than the unit's clock",
-    Refusal.UNKNOWN: "the root, unit, rule, level, reset or verdict is not known here",
-    Refusal.BAD_AMOUNT: "the premium is not within $0.0001 to $10,000, or the contracts are not within 1 to 1,000,000",
-    Refusal.LOG_FULL: "512 fills stand inside the longest window, so the log has no place for another",
+    Refusal.UNKNOWN: "the root, unit, rule, level, reset, verdict or identity is not known here",
+    Refusal.BAD_AMOUNT: "the premium is not within $0.0001 to $10,000, the contracts not within 1 to 1,000,000, or the reports not within 1 to 16",
+    Refusal.LOG_FULL: "fills inside the longest window and places kept for reports leave too few of the log's 512 places",
     Refusal.FAULTY_RECORD: "the event record is not 12 bytes, or a field in it is out of range or not 0 where it must be",
+    Refusal.REGISTER_FULL: "64 orders sent away are open, so the register has no place for another",
+    Refusal.IDENTITY_CLASH: "an order of this identity is open already or, for a report or a closing, none is",
+    Refusal.OVER_REPORTED: "the report has more contracts than are open, or the order has no report left",
 }
 
 

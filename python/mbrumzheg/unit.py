@@ -7,7 +7,7 @@ from dataclasses import dataclass
 from typing import Optional, Union
 
 from . import raw
-from .event import Answer, Event, Lockout, Offer, Order
+from .event import Answer, Closing, Event, Lockout, Offer, Order, Report, Sending
 from .refusal import Refusal, Refused
 from .values import Level, Reset, Root, Time, UnitOfRoot, Verdict
 from .view import View
@@ -91,12 +91,34 @@ class Unit(View):
         """An offered fill, cut to what the rules allow."""
         return _judged(raw.offer(self._memory, offer.time, offer.root, offer.unit, offer.premium, offer.contracts))
 
+    def send(self, sending: Sending) -> Verdict:
+        """Sends an order away. It gets the verdict of an order without a reset; at FREE alone the register, which holds 64, takes it up, and with a rate rule in
+        the profile a place of the log is kept for each report that may come."""
+        order = (sending.root, sending.unit, sending.premium, sending.contracts, sending.identity, sending.reports)
+        return _judged(raw.send(self._memory, sending.time, *order)).verdict
+
+    def report(self, report: Report) -> Answer:
+        """A fill of an order sent away. It is counted as it was filled, at the premium of its sending, whether anything is locked or not, and uses one of the
+        order's reports. The grant is its contracts. A rule trips if an absolute one is then at its limit or above, or a rate rule above; this is answered also
+        where the level had tripped before."""
+        return _judged(raw.report(self._memory, report.time, report.identity, report.contracts))
+
+    def close(self, closing: Closing) -> Verdict:
+        """Closes an order sent away: its identity is free again, and so are the places that were kept for reports that did not come. It answers FREE."""
+        return _judged(raw.close(self._memory, closing.time, closing.identity)).verdict
+
     def answer(self, event: Event) -> Answer:
-        """Any event, as its record has it."""
+        """Any event."""
         if isinstance(event, Order):
             return Answer(self.order(event.time, event.root, event.reset))
         if isinstance(event, Lockout):
             return Answer(self.lockout(event.time, event.level))
+        if isinstance(event, Sending):
+            return Answer(self.send(event))
+        if isinstance(event, Report):
+            return self.report(event)
+        if isinstance(event, Closing):
+            return Answer(self.close(event))
         return self.offer(event)
 
     def remaining(self, time: Time, rule: int, unit: UnitOfRoot) -> int:

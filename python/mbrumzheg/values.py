@@ -139,6 +139,23 @@ class Contracts(_Ranged):
     _wanted = "number of contracts: it is 1 to 1000000"
 
 
+class Identity(_Ranged):
+    """The identity of an order sent away, 0 to 65,535."""
+
+    MOST = 65_535
+    _refusal = Refusal.UNKNOWN
+    _wanted = "identity: it is 0 to 65535"
+
+
+class Reports(_Ranged):
+    """How many reports an order sent away may have, 1 to 16."""
+
+    LEAST = 1
+    MOST = 16
+    _refusal = Refusal.BAD_AMOUNT
+    _wanted = "number of reports: it is 1 to 16"
+
+
 class _Worded(IntEnum):
     """One of a few cases, each with a number and words."""
 

@@ -13,8 +13,8 @@ from collections import Counter
 from pathlib import Path
 from typing import Callable, Optional, Tuple
 
-from mbrumzheg import Event, Level, Lockout, Marks, Measure, Offer, Order, Refusal, Refused, Rule, Unit, raw, records
-from mbrumzheg import Contracts, Premium, Reset, Root, Time, UnitOfRoot
+from mbrumzheg import Closing, Event, Level, Lockout, Marks, Measure, Offer, Order, Refusal, Refused, Report, Rule, Sending, Unit, raw, records
+from mbrumzheg import Contracts, Identity, Premium, Reports, Reset, Root, Time, UnitOfRoot
 
 SECOND = Path(os.environ.get("SECOND", Path(__file__).parents[2] / "target/cargo/release"))
 # first seed, days, and calls a day: many short days, some long ones, and one that fills the log faster than its resets empty it
@@ -38,6 +38,14 @@ def event(word: str, numbers: list[int]) -> Optional[Event]:
         if word == "offer":
             time, root, unit, premium, contracts = numbers
             return Offer(Time(time), Root(root), UnitOfRoot(unit), Premium(premium), Contracts(contracts))
+        if word == "send":
+            time, root, unit, premium, contracts, identity, reports = numbers
+            order = (Time(time), Root(root), UnitOfRoot(unit), Premium(premium), Contracts(contracts))
+            return Sending(*order, Identity(identity), Reports(reports))
+        if word == "report":
+            return Report(Time(numbers[0]), Identity(numbers[1]), Contracts(numbers[2]))
+        if word == "close":
+            return Closing(Time(numbers[0]), Identity(numbers[1]))
     except (Refused, ValueError):
         pass
     return None
@@ -99,7 +107,7 @@ class Pair:
                 self.same(lambda: [0, self.unit.remaining(Time(time), rule, UnitOfRoot(unit)), 0, 0, 0], row)
             else:
                 self.test.assertNotEqual(row[0], 0)
-        elif word in ("order", "lockout", "offer"):
+        elif word in ("order", "lockout", "offer", "send", "report", "close"):
             happened = event(word, list(map(int, rest)))
             if happened is None:
                 self.test.assertNotEqual(row[0], 0)
@@ -183,6 +191,8 @@ class Second(unittest.TestCase):
                 pair.call(line)
         wanted = ["arm 0", "arm 3", "clear 0", "remaining 0", "remaining 12", "remaining 13", "status 0", "status 4", "text 0", "text 1", "profile 0", "profile 1", "profile 4"]
         wanted += [f"offer {refusal}" for refusal in (0, 4, 12, 13, 14, 15)] + ["lockout 0", "order 0", "typed", "stands armed"]
+        wanted += [f"send {refusal}" for refusal in (0, 12, 13, 14, 15, 17, 18)] + [f"report {refusal}" for refusal in (0, 12, 13, 14, 18, 19)]
+        wanted += [f"close {refusal}" for refusal in (0, 12, 13, 18)]
         self.assertEqual((seen["day"], [word for word in wanted if not seen[word]]), (sum(days for _, days, _ in DAYS), []), seen)
 
     def test_records_are_read_and_answered_as_the_program_does(self) -> None:

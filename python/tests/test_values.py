@@ -8,7 +8,7 @@ import unittest
 from typing import Any
 
 import mbrumzheg
-from mbrumzheg import Contracts, Level, ParseError, Premium, Refusal, Refused, Reset, Root, Time, UnitOfRoot, Verdict, raw, unit, values, view
+from mbrumzheg import Contracts, Identity, Level, ParseError, Premium, Refusal, Refused, Reports, Reset, Root, Time, UnitOfRoot, Verdict, raw, unit, values, view
 
 
 class Values(unittest.TestCase):
@@ -20,6 +20,8 @@ class Values(unittest.TestCase):
             (Root, Refusal.UNKNOWN, [-1, 64]),
             (Premium, Refusal.BAD_AMOUNT, [0, 100_000_001]),
             (Contracts, Refusal.BAD_AMOUNT, [0, 1_000_001, -5]),
+            (Identity, Refusal.UNKNOWN, [-1, 65_536]),
+            (Reports, Refusal.BAD_AMOUNT, [0, 17]),
         ]:
             for number in wrong:
                 with self.assertRaises(Refused) as caught:
@@ -31,6 +33,7 @@ class Values(unittest.TestCase):
         several: list[Any] = [Time(n) for n in range(0, 86_400_000, 79_199)] + [Time(1), Time(999), Time(86_399_999)]
         several += [Premium(n) for n in range(1, 100_000_001, 99_991)] + [Premium(n) for n in (10, 100, 1_000, 10_000, 100_000_000)]
         several += [Contracts(n) for n in range(1, 1_000_001, 9_973)] + [Root(n) for n in range(64)] + [*UnitOfRoot, *Reset, *Verdict]
+        several += [Identity(n) for n in (0, 1, 65_535)] + [Reports(n) for n in range(1, 17)]
         for value in several:
             self.assertEqual(type(value).parse(str(value)), value)
             again = pickle.loads(pickle.dumps(value))
@@ -50,6 +53,8 @@ class Values(unittest.TestCase):
             (Premium, ["", "$", ".5", "7.", "7.00000", "7,00", "-7", "+7", "7e2", " 7", "1234567890123", "7\n"]),
             (Contracts, ["", "1.0", "+1", "-1", "1,000", "1_000", "one", " 1"]),
             (Root, ["", "x", "-1"]),
+            (Identity, ["", "x", "+1"]),
+            (Reports, ["", "one", " 1"]),
             (UnitOfRoot, ["", "call", "calls front"]),
             (Reset, ["", "all", "0"]),
             (Verdict, ["", "locked"]),
@@ -63,6 +68,7 @@ class Values(unittest.TestCase):
     def test_a_text_out_of_range_has_its_refusal_as_cause(self) -> None:
         out: list[tuple[Any, str, Refusal]] = [(Time, "24:00", Refusal.BAD_TIME), (Premium, "10000.01", Refusal.BAD_AMOUNT)]
         out += [(Contracts, "0", Refusal.BAD_AMOUNT), (Root, "64", Refusal.UNKNOWN)]
+        out += [(Identity, "65536", Refusal.UNKNOWN), (Reports, "17", Refusal.BAD_AMOUNT)]
         for kind, text, refusal in out:
             with self.assertRaises(ParseError) as caught:
                 kind.parse(text)

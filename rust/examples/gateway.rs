@@ -69,6 +69,9 @@ fn subject(unit: &ArmedUnit, event: Event) -> String {
         Event::Offer(offer) => format!("fill of {} {} at {} on {}", offer.contracts, offer.unit, offer.premium, name(offer.root)),
         Event::Lockout { level: Level::Root(root), .. } => format!("lockout of {}", name(root)),
         Event::Lockout { level: Level::Firm, .. } => "lockout of the firm".to_string(),
+        Event::Send(sending) => format!("order {} of {} sent away on {}", sending.identity, sending.contracts, name(sending.root)),
+        Event::Report(report) => format!("report of {} on order {}", report.contracts, report.identity),
+        Event::Close(closing) => format!("closing of order {}", closing.identity),
     }
 }
 
@@ -84,8 +87,9 @@ fn action(event: Event, answer: Answer) -> String {
         (true, true) => "; root and firm are locked now",
     };
     match event {
-        Event::Order { .. } => "sent on".to_string(),
+        Event::Order { .. } | Event::Send(_) => "sent on".to_string(),
         Event::Offer(_) => format!("{} granted{trips}", answer.grant),
-        Event::Lockout { .. } => "done".to_string(),
+        Event::Report(_) => format!("counted{trips}"),
+        Event::Lockout { .. } | Event::Close(_) => "done".to_string(),
     }
 }

@@ -60,6 +60,7 @@ extern crate std;
 #[doc = include_str!("../README.md")]
 struct Paper;
 
+mod away;
 mod event;
 mod memory;
 mod place;
@@ -67,12 +68,14 @@ mod profile;
 pub mod raw;
 mod record;
 mod refusal;
+mod refused;
 mod rule;
 mod unit;
 mod values;
 mod view;
 mod words;
 
+pub use away::{Closing, Identity, Report, Reports, Sending};
 pub use event::{Answer, Event, Offer};
 pub use memory::Memory;
 pub use profile::PROFILE_MOST;
@@ -80,7 +83,8 @@ pub use raw::SIZE;
 #[cfg(feature = "std")]
 pub use record::RecordWriter;
 pub use record::{Records, RECORD_SIZE};
-pub use refusal::{ArmRefusal, Refusal, Refused, RoomRefusal};
+pub use refusal::Refusal;
+pub use refused::{ArmRefusal, Refused, RoomRefusal};
 pub use rule::{Measure, Rule, Scope};
 pub use unit::{Adopted, Armed, Status, Unarmed, Unit};
 pub use values::{Contracts, Level, Premium, Reset, Root, Time, UnitOfRoot, Verdict, VerdictText};

@@ -4,7 +4,7 @@ use crate::memory::Memory;
 use crate::raw;
 #[cfg(feature = "alloc")]
 use crate::refusal::Refusal;
-use crate::refusal::RoomRefusal;
+use crate::refused::RoomRefusal;
 use crate::unit::{accepted, Armed, Unit};
 #[cfg(feature = "alloc")]
 use alloc::{string::String, vec};

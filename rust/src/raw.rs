@@ -25,6 +25,20 @@ mod exported {
         pub fn mbrumzheg_order(m: *mut u64, len: usize, time: u64, root: u64, reset: u64, row: *mut Row);
         pub fn mbrumzheg_lockout(m: *mut u64, len: usize, time: u64, level: u64, root: u64, row: *mut Row);
         pub fn mbrumzheg_offer(m: *mut u64, len: usize, time: u64, root: u64, unit: u64, premium: u64, contracts: u64, row: *mut Row);
+        pub fn mbrumzheg_send(
+            m: *mut u64,
+            len: usize,
+            time: u64,
+            root: u64,
+            unit: u64,
+            premium: u64,
+            contracts: u64,
+            identity: u64,
+            reports: u64,
+            row: *mut Row,
+        );
+        pub fn mbrumzheg_report(m: *mut u64, len: usize, time: u64, identity: u64, contracts: u64, row: *mut Row);
+        pub fn mbrumzheg_close(m: *mut u64, len: usize, time: u64, identity: u64, row: *mut Row);
         pub fn mbrumzheg_remaining(m: *const u64, len: usize, time: u64, rule: u64, unit: u64, row: *mut Row);
         pub fn mbrumzheg_status(m: *const u64, len: usize, row: *mut Row);
         pub fn mbrumzheg_root_named(m: *const u64, len: usize, name: *const u8, name_len: usize, row: *mut Row);
@@ -90,6 +104,32 @@ pub fn offer(memory: &mut [u64], time: u64, root: u64, unit: u64, premium: u64, 
     let mut row = [0; 5];
     let (start, len) = (memory.as_mut_ptr(), memory.len());
     unsafe { exported::mbrumzheg_offer(start, len, time, root, unit, premium, contracts, &mut row) };
+    row
+}
+
+/// An order sent away: refusal, verdict.
+#[inline]
+#[allow(clippy::too_many_arguments)]
+pub fn send(memory: &mut [u64], time: u64, root: u64, unit: u64, premium: u64, contracts: u64, identity: u64, reports: u64) -> Row {
+    let mut row = [0; 5];
+    let (start, len) = (memory.as_mut_ptr(), memory.len());
+    unsafe { exported::mbrumzheg_send(start, len, time, root, unit, premium, contracts, identity, reports, &mut row) };
+    row
+}
+
+/// A report of an order sent away: refusal, verdict, its contracts, root trip, firm trip.
+#[inline]
+pub fn report(memory: &mut [u64], time: u64, identity: u64, contracts: u64) -> Row {
+    let mut row = [0; 5];
+    unsafe { exported::mbrumzheg_report(memory.as_mut_ptr(), memory.len(), time, identity, contracts, &mut row) };
+    row
+}
+
+/// The closing of an order sent away: refusal, verdict.
+#[inline]
+pub fn close(memory: &mut [u64], time: u64, identity: u64) -> Row {
+    let mut row = [0; 5];
+    unsafe { exported::mbrumzheg_close(memory.as_mut_ptr(), memory.len(), time, identity, &mut row) };
     row
 }
 

@@ -16,6 +16,7 @@
 //! # Ok::<(), mbrumzheg::Refusal>(())
 //! ```
 
+use crate::away::{Closing, Report, Sending};
 use crate::event::{Event, Offer};
 use crate::raw::{self, EventNumbers};
 use crate::refusal::Refusal;
@@ -37,6 +38,12 @@ fn numbers(event: &Event) -> EventNumbers {
             [1, time.ms(), root.number(), unit.number(), premium.ten_thousandths(), contracts.count(), 0, 0]
         }
         Event::Lockout { time, level } => [2, time.ms(), level.root_number(), 0, 0, 0, 0, level.number()],
+        // kinds that no record of 12 bytes has, which have numbers beside these
+        Event::Send(Sending { time, root, unit, premium, contracts, .. }) => {
+            [3, time.ms(), root.number(), unit.number(), premium.ten_thousandths(), contracts.count(), 0, 0]
+        }
+        Event::Report(Report { time, contracts, .. }) => [4, time.ms(), 0, 0, 0, contracts.count(), 0, 0],
+        Event::Close(Closing { time, .. }) => [5, time.ms(), 0, 0, 0, 0, 0, 0],
     }
 }
 
@@ -60,7 +67,8 @@ fn event([kind, time, root, unit, premium, contracts, reset, level]: EventNumber
 }
 
 impl Event {
-    /// The event's record; [`Refusal::FaultyRecord`] for an order with a reset that 12 bytes have no place for, which are those above [`Reset::Both`].
+    /// The event's record; [`Refusal::FaultyRecord`] for what 12 bytes have no place for: an order with a reset above [`Reset::Both`], and orders sent away,
+    /// their reports and their closings.
     pub fn to_record(&self) -> Result<[u8; RECORD_SIZE], Refusal> {
         let mut room = [0; RECORD_SIZE];
         accepted(raw::write_record(numbers(self), &mut room)).map(|_| room)

@@ -3,13 +3,13 @@
 use core::error::Error;
 use core::fmt;
 
-/// A refusal: its number from 1 to 16, a name and a sentence. A refused call changes nothing in the lent memory.
+/// A refusal: its number from 1 to 19, a name and a sentence. A refused call changes nothing in the lent memory.
 ///
 /// ```
 /// use mbrumzheg::Refusal;
 /// let refusal = Refusal::from_number(15).unwrap();
 /// assert_eq!(refusal, Refusal::LogFull);
-/// assert_eq!(refusal.to_string(), "refused with 15: 512 fills stand inside the longest window, so the log has no place for another");
+/// assert_eq!(refusal.to_string(), "refused with 15: fills inside the longest window and places kept for reports leave too few of the log's 512 places");
 /// ```
 #[derive(Clone, Copy, Debug, PartialEq, Eq, Hash, PartialOrd, Ord)]
 #[non_exhaustive]
@@ -41,17 +41,23 @@ pub enum Refusal {
     BadTime = 12,
     /// 13: a number that the profile or the library does not know.
     Unknown = 13,
-    /// 14: premium or contracts out of range.
+    /// 14: premium, contracts or reports out of range.
     BadAmount = 14,
     /// 15: the log is full.
     LogFull = 15,
     /// 16: an event record is faulty.
     FaultyRecord = 16,
+    /// 17: the register of orders sent away is full.
+    RegisterFull = 17,
+    /// 18: an order of that identity is open already or, for a report or a closing, is not open.
+    IdentityClash = 18,
+    /// 19: more contracts than are open, or no report left.
+    OverReported = 19,
 }
 
 impl Refusal {
     /// Every refusal, by number.
-    pub const ALL: [Refusal; 16] = [
+    pub const ALL: [Refusal; 19] = [
         Refusal::NoRoom,
         Refusal::Unsound,
         Refusal::ArmedAlready,
@@ -68,15 +74,18 @@ impl Refusal {
         Refusal::BadAmount,
         Refusal::LogFull,
         Refusal::FaultyRecord,
+        Refusal::RegisterFull,
+        Refusal::IdentityClash,
+        Refusal::OverReported,
     ];
 
-    /// The refusal of a number from 1 to 16.
+    /// The refusal of a number from 1 to 19.
     pub fn from_number(number: u64) -> Option<Refusal> {
         let place = usize::try_from(number.checked_sub(1)?).ok()?;
         Refusal::ALL.get(place).copied()
     }
 
-    /// The number, 1 to 16.
+    /// The number, 1 to 19.
     pub const fn number(self) -> u64 {
         self as u64
     }
@@ -100,13 +109,16 @@ impl Refusal {
             Refusal::BadAmount => "amount out of range",
             Refusal::LogFull => "log full",
             Refusal::FaultyRecord => "record faulty",
+            Refusal::RegisterFull => "register full",
+            Refusal::IdentityClash => "identity open or not",
+            Refusal::OverReported => "more than is open",
         }
     }
 
     /// What it means, in a sentence without its first capital and full stop.
     pub const fn sentence(self) -> &'static str {
         match self {
-            Refusal::NoRoom => "the lent memory has fewer than 2,634 numbers, or the room is shorter than the call asks for",
+            Refusal::NoRoom => "the lent memory has fewer than 2,763 numbers, or the room is shorter than the call asks for",
             Refusal::Unsound => "the memory is marked, but what stands in it is no sound state",
             Refusal::ArmedAlready => "the memory's armed mark is not 0, so clear it before arming",
             Refusal::NotArmed => "the memory is not armed, so no rule stands behind this call",
@@ -118,10 +130,15 @@ impl Refusal {
             Refusal::UnitClash => "the line sets one of call/put and month without the other, or sets them in a firm rule",
             Refusal::TooMany => "the line is one rule or one root more than a profile may have",
             Refusal::BadTime => "the time is no time of the day, or earlier than the unit's clock",
-            Refusal::Unknown => "the root, unit, rule, level, reset or verdict is not known here",
-            Refusal::BadAmount => "the premium is not within $0.0001 to $10,000, or the contracts are not within 1 to 1,000,000",
-            Refusal::LogFull => "512 fills stand inside the longest window, so the log has no place for another",
+            Refusal::Unknown => "the root, unit, rule, level, reset, verdict or identity is not known here",
+            Refusal::BadAmount => {
+                "the premium is not within $0.0001 to $10,000, the contracts not within 1 to 1,000,000, or the reports not within 1 to 16"
+            }
+            Refusal::LogFull => "fills inside the longest window and places kept for reports leave too few of the log's 512 places",
             Refusal::FaultyRecord => "the event record is not 12 bytes, or a field in it is out of range or not 0 where it must be",
+            Refusal::RegisterFull => "64 orders sent away are open, so the register has no place for another",
+            Refusal::IdentityClash => "an order of this identity is open already or, for a report or a closing, none is",
+            Refusal::OverReported => "the report has more contracts than are open, or the order has no report left",
         }
     }
 }
@@ -133,112 +150,3 @@ impl fmt::Display for Refusal {
 }
 
 impl Error for Refusal {}
-
-/// A refused Arm: the refusal and, for 6 to 11, the profile's first faulty line, from 1.
-#[derive(Clone, Copy, Debug, PartialEq, Eq, Hash)]
-pub struct ArmRefusal {
-    /// Why.
-    pub refusal: Refusal,
-    /// Which line, from 1, if one is at fault.
-    pub line: Option<u64>,
-}
-
-impl fmt::Display for ArmRefusal {
-    fn fmt(&self, f: &mut fmt::Formatter<'_>) -> fmt::Result {
-        match self.line {
-            Some(line) => write!(f, "refused with {} at line {line}: {}", self.refusal.number(), self.refusal.sentence()),
-            None => self.refusal.fmt(f),
-        }
-    }
-}
-
-impl Error for ArmRefusal {
-    /// The refusal itself.
-    fn source(&self) -> Option<&(dyn Error + 'static)> {
-        Some(&self.refusal)
-    }
-}
-
-impl From<ArmRefusal> for Refusal {
-    fn from(why: ArmRefusal) -> Refusal {
-        why.refusal
-    }
-}
-
-/// A refused text: the refusal and, where the room alone is short, how many bytes it takes.
-#[derive(Clone, Copy, Debug, PartialEq, Eq, Hash)]
-pub struct RoomRefusal {
-    /// Why.
-    pub refusal: Refusal,
-    /// How many bytes of room are needed, if it is the room that is short.
-    pub needed: Option<usize>,
-}
-
-impl fmt::Display for RoomRefusal {
-    fn fmt(&self, f: &mut fmt::Formatter<'_>) -> fmt::Result {
-        self.refusal.fmt(f)?;
-        self.needed.map_or(Ok(()), |bytes| write!(f, " (it takes {bytes} bytes)"))
-    }
-}
-
-impl Error for RoomRefusal {
-    /// The refusal itself.
-    fn source(&self) -> Option<&(dyn Error + 'static)> {
-        Some(&self.refusal)
-    }
-}
-
-impl From<RoomRefusal> for Refusal {
-    fn from(why: RoomRefusal) -> Refusal {
-        why.refusal
-    }
-}
-
-/// A refusal together with what was handed in, so that nothing is lost by it. `?` turns it into the refusal alone.
-///
-/// ```
-/// use mbrumzheg::{ArmRefusal, Refusal, Unit};
-/// fn rules(lent: &mut [u64], profile: &str) -> Result<u64, ArmRefusal> {
-///     Ok(Unit::cleared(lent)?.arm(profile)?.rule_count())
-/// }
-/// assert_eq!(rules(&mut [0; 9], "ABCD,abs_vol,XYZ,1000").unwrap_err().refusal, Refusal::NoRoom);
-/// assert_eq!(rules(&mut [0; mbrumzheg::SIZE], "ABCD,abs_vol,XYZ,0").unwrap_err().line, Some(1));
-/// ```
-#[derive(Debug)]
-pub struct Refused<U, E = Refusal> {
-    /// Why.
-    pub why: E,
-    /// What was handed in, as it was.
-    pub kept: U,
-}
-
-impl<U> From<Refused<U>> for Refusal {
-    fn from(refused: Refused<U>) -> Refusal {
-        refused.why
-    }
-}
-
-impl<U> From<Refused<U>> for ArmRefusal {
-    fn from(refused: Refused<U>) -> ArmRefusal {
-        ArmRefusal { refusal: refused.why, line: None }
-    }
-}
-
-impl<U> From<Refused<U, ArmRefusal>> for ArmRefusal {
-    fn from(refused: Refused<U, ArmRefusal>) -> ArmRefusal {
-        refused.why
-    }
-}
-
-impl<U, E: fmt::Display> fmt::Display for Refused<U, E> {
-    fn fmt(&self, f: &mut fmt::Formatter<'_>) -> fmt::Result {
-        self.why.fmt(f)
-    }
-}
-
-impl<U: fmt::Debug, E: Error + 'static> Error for Refused<U, E> {
-    /// Why, without what was handed in.
-    fn source(&self) -> Option<&(dyn Error + 'static)> {
-        Some(&self.why)
-    }
-}

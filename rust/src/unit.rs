@@ -3,7 +3,8 @@
 use crate::event::{Answer, Event, Offer};
 use crate::memory::{Memory, Usual};
 use crate::raw::{self, Row};
-use crate::refusal::{ArmRefusal, Refusal, Refused};
+use crate::refusal::Refusal;
+use crate::refused::{ArmRefusal, Refused};
 use crate::values::{Level, Reset, Root, Time, UnitOfRoot, Verdict};
 use core::fmt;
 use core::marker::PhantomData;
@@ -154,12 +155,15 @@ impl<M: Memory> Unit<M, Armed> {
         judged(raw::offer(memory, time.ms(), root.number(), unit.number(), premium.ten_thousandths(), contracts.count()))
     }
 
-    /// Any event, as its record has it.
+    /// Any event.
     pub fn answer(&mut self, event: Event) -> Result<Answer, Refusal> {
         match event {
             Event::Order { time, root, reset } => self.order(time, root, reset).map(Answer::of_verdict),
             Event::Offer(offer) => self.offer(offer),
             Event::Lockout { time, level } => self.lockout(time, level).map(Answer::of_verdict),
+            Event::Send(sending) => self.send(sending).map(Answer::of_verdict),
+            Event::Report(report) => self.report(report),
+            Event::Close(closing) => self.close(closing).map(Answer::of_verdict),
         }
     }
 
@@ -208,6 +212,10 @@ impl<M: Memory, S> Unit<M, S> {
         self.memory.numbers()
     }
 
+    pub(crate) fn memory_mut(&mut self) -> &mut [u64] {
+        self.memory.numbers_mut()
+    }
+
     /// Gives the memory back, state and all; [`Unit::adopt`] takes it again.
     pub fn into_memory(self) -> M {
         self.memory
@@ -224,16 +232,16 @@ impl<M, S> fmt::Debug for Unit<M, S> {
 /// The row of a call that was not refused.
 ///
 /// # Panics
-/// On a refusal number above 16 or an answer outside its range, which a library that meets its contract does not give.
+/// On a number that is no refusal or an answer outside its range, which a library that meets its contract does not give.
 pub(crate) fn accepted(row: Row) -> Result<Row, Refusal> {
     match row[0] {
         0 => Ok(row),
-        number => Err(Refusal::from_number(number).expect("the library refuses with 1 to 16")),
+        number => Err(Refusal::from_number(number).expect("the library's refusals are known")),
     }
 }
 
 /// The answer in a row: verdict, grant, root trip, firm trip.
-fn judged(row: Row) -> Result<Answer, Refusal> {
+pub(crate) fn judged(row: Row) -> Result<Answer, Refusal> {
     let [_, verdict, grant, root_trip, firm_trip] = accepted(row)?;
     let verdict = Verdict::from_number(verdict).expect("the library's verdicts are 0 to 2");
     Ok(Answer { verdict, grant, root_trip: root_trip == 1, firm_trip: firm_trip == 1 })

@@ -231,7 +231,7 @@ impl fmt::Display for VerdictText {
 }
 
 /// A number within a range, or the refusal that its type gives.
-fn in_range(n: u64, least: u64, most: u64, otherwise: Refusal) -> Result<u32, Refusal> {
+pub(crate) fn in_range(n: u64, least: u64, most: u64, otherwise: Refusal) -> Result<u32, Refusal> {
     if n < least || n > most {
         return Err(otherwise);
     }

@@ -1,11 +1,13 @@
 //! Values as text, and from text: what `Display` writes, `FromStr` reads.
 //!
 //! ```
-//! use mbrumzheg::{Contracts, Level, Premium, Reset, Root, Time, UnitOfRoot, Verdict};
+//! use mbrumzheg::{Contracts, Identity, Level, Premium, Reports, Reset, Root, Time, UnitOfRoot, Verdict};
 //! assert_eq!("09:30".parse::<Time>()?.to_string(), "09:30:00.000");
 //! assert_eq!("$7.5".parse::<Premium>()?.to_string(), "7.50");
 //! assert_eq!("200".parse::<Contracts>()?.to_string(), "200");
 //! assert_eq!("63".parse::<Root>()?.to_string(), "63");
+//! assert_eq!("65535".parse::<Identity>()?.to_string(), "65535");
+//! assert_eq!("16".parse::<Reports>()?.to_string(), "16");
 //! assert_eq!("call front".parse::<UnitOfRoot>()?, UnitOfRoot::CallsFront);
 //! assert_eq!("both".parse::<Reset>()?, Reset::Both);
 //! assert_eq!("root 3".parse::<Level>()?, Level::Root(Root::new(3)?));
@@ -13,6 +15,7 @@
 //! # Ok::<(), Box<dyn std::error::Error>>(())
 //! ```
 
+use crate::away::{Identity, Reports};
 use crate::refusal::Refusal;
 use crate::values::{Contracts, Level, Premium, Reset, Root, Time, UnitOfRoot, Verdict};
 use core::error::Error;
@@ -145,33 +148,28 @@ impl FromStr for Premium {
     }
 }
 
-impl fmt::Display for Contracts {
-    fn fmt(&self, f: &mut fmt::Formatter<'_>) -> fmt::Result {
-        self.count().fmt(f)
-    }
+/// Writes and reads a type by the digits of its number.
+macro_rules! by_digits {
+    ($name:ident, $number:ident, $wanted:literal) => {
+        impl fmt::Display for $name {
+            fn fmt(&self, f: &mut fmt::Formatter<'_>) -> fmt::Result {
+                self.$number().fmt(f)
+            }
+        }
+
+        impl FromStr for $name {
+            type Err = ParseError;
+
+            fn from_str(text: &str) -> Result<$name, ParseError> {
+                value(digits(text, 12), $name::new, $wanted)
+            }
+        }
+    };
 }
-
-impl FromStr for Contracts {
-    type Err = ParseError;
-
-    fn from_str(text: &str) -> Result<Contracts, ParseError> {
-        value(digits(text, 12), Contracts::new, "number of contracts: it is 1 to 1000000")
-    }
-}
-
-impl fmt::Display for Root {
-    fn fmt(&self, f: &mut fmt::Formatter<'_>) -> fmt::Result {
-        self.number().fmt(f)
-    }
-}
-
-impl FromStr for Root {
-    type Err = ParseError;
-
-    fn from_str(text: &str) -> Result<Root, ParseError> {
-        value(digits(text, 12), Root::new, "root number: it is 0 to 63")
-    }
-}
+by_digits!(Contracts, count, "number of contracts: it is 1 to 1000000");
+by_digits!(Root, number, "root number: it is 0 to 63");
+by_digits!(Identity, number, "identity: it is 0 to 65535");
+by_digits!(Reports, count, "number of reports: it is 1 to 16");
 
 impl fmt::Display for Level {
     fn fmt(&self, f: &mut fmt::Formatter<'_>) -> fmt::Result {

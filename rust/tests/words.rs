@@ -1,5 +1,5 @@
 //! Values as text and back.
-use mbrumzheg::{Contracts, Level, Premium, Refusal, Reset, Root, Time, Unit, UnitOfRoot, Verdict};
+use mbrumzheg::{Contracts, Identity, Level, Premium, Refusal, Reports, Reset, Root, Time, Unit, UnitOfRoot, Verdict};
 use std::error::Error;
 use std::fmt::{Debug, Display};
 use std::str::FromStr;
@@ -43,6 +43,12 @@ fn what_is_written_is_read_again() {
         comes_back(Level::Root(root));
     }
     comes_back(Level::Firm);
+    for n in [0, 1, 9_999, 65_535] {
+        comes_back(Identity::new(n).expect("an identity"));
+    }
+    for n in 1..=16 {
+        comes_back(Reports::new(n).expect("reports"));
+    }
     UnitOfRoot::ALL.into_iter().for_each(comes_back);
     Reset::ALL.into_iter().for_each(comes_back);
     [Verdict::Free, Verdict::FirmLocked, Verdict::RootLocked].into_iter().for_each(comes_back);
@@ -67,6 +73,8 @@ fn other_texts_are_no_values() {
     none_of::<Premium>(&["", "$", ".5", "7.", "7.00000", "7,00", "-7", "+7", "7e2", " 7", "7.5.0", "1234567890123"]);
     none_of::<Contracts>(&["", "1.0", "+1", "-1", "1,000", "one", " 1", "18446744073709551616"]);
     none_of::<Root>(&["", "x", "+1", "-1"]);
+    none_of::<Identity>(&["", "x", "+1", "0x1"]);
+    none_of::<Reports>(&["", "one", " 1", "1.0"]);
     none_of::<Level>(&["", "root", "root x", "root  1", "Firm", "firm "]);
     none_of::<UnitOfRoot>(&["", "call", "calls front", "front call", "Call front"]);
     none_of::<Reset>(&["", "all", "0"]);
@@ -79,7 +87,8 @@ fn a_number_out_of_range_has_its_refusal() {
     assert_eq!(refused::<Time>("99:59:59.999"), Refusal::BadTime);
     assert_eq!([refused::<Premium>("0"), refused::<Premium>("10000.0001")], [Refusal::BadAmount; 2]);
     assert_eq!([refused::<Contracts>("0"), refused::<Contracts>("1000001")], [Refusal::BadAmount; 2]);
-    assert_eq!([refused::<Root>("64"), refused::<Level>("root 64")], [Refusal::Unknown; 2]);
+    assert_eq!([refused::<Reports>("0"), refused::<Reports>("17")], [Refusal::BadAmount; 2]);
+    assert_eq!([refused::<Root>("64"), refused::<Level>("root 64"), refused::<Identity>("65536")], [Refusal::Unknown; 3]);
 }
 
 #[test]

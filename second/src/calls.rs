@@ -73,17 +73,15 @@ impl Armed {
         }
         let allowances = self.allowances(&offer);
         let grant = allowances.iter().map(|allowed| allowed.allowance).min().unwrap_or(offer.contracts);
-        if grant > 0 && self.log_is_full(offer.time) {
+        if grant > 0 && self.lacks_places(offer.time, 1) {
             return Err(15);
         }
         self.clock = offer.time;
         if grant > 0 {
             self.fill(&offer, grant);
         }
-        let (root_trip, firm_trip) = self.trips(&allowances, grant, offer.contracts);
-        self.roots[offer.root as usize].tripped |= root_trip;
-        self.firm.tripped |= firm_trip;
-        Ok(EventAnswer { refusal: 0, verdict: OPEN, grant, root_trip: root_trip.into(), firm_trip: firm_trip.into() })
+        let tripped = self.tripped_by_offer(&allowances, grant, offer.contracts);
+        Ok(self.trip(offer.root, &tripped, grant))
     }
 
     /// What an account of a rule leaves at a time.

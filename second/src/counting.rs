@@ -1,9 +1,10 @@
 //! What the rules count, what they allow, and what a fill adds.
 
+use crate::answers::EventAnswer;
 use crate::profile::{Measure, Rule};
-use crate::state::{Armed, Entry, LOG_PLACES};
+use crate::state::{Armed, Entry, MOST_TOTAL, OPEN};
 
-/// One offer that passed its checks.
+/// Contracts on a unit at a premium that passed their checks: offered, or filled away.
 #[derive(Clone, Copy)]
 pub(crate) struct Offer {
     pub time: u64,
@@ -38,29 +39,27 @@ impl Armed {
         }
     }
 
+    /// The rules that cover a fill on this root and unit, by line, each with the account that counts it.
+    fn covering(&self, root: u64, unit: u64) -> impl Iterator<Item = (usize, u64)> + '_ {
+        let rules = self.profile.rules.iter().enumerate();
+        rules.filter_map(move |(place, rule)| Some((place, rule.account(root, unit)?)))
+    }
+
     /// What each rule that covers the offer allows.
     pub(crate) fn allowances(&self, offer: &Offer) -> Vec<Allowed> {
-        let rules = self.profile.rules.iter().enumerate();
-        let covering = rules.filter_map(|(place, rule)| Some((place, rule, rule.account(offer.root, offer.unit)?)));
-        covering
-            .map(|(place, rule, account)| {
-                let counted = self.counted(place, account, offer.time);
-                Allowed { place, account, allowance: allowance(rule, counted, offer.premium, offer.contracts) }
-            })
-            .collect()
+        let allowed = |(place, account): (usize, u64)| {
+            let counted = self.counted(place, account, offer.time);
+            Allowed { place, account, allowance: allowance(&self.profile.rules[place], counted, offer.premium, offer.contracts) }
+        };
+        self.covering(offer.root, offer.unit).map(allowed).collect()
     }
 
-    /// Do 512 entries stand inside the longest window at this time?
-    pub(crate) fn log_is_full(&self, time: u64) -> bool {
-        let inside = |longest: u64| self.log.iter().filter(|entry| entry.time + longest > time).count();
-        self.log.len() >= LOG_PLACES && self.profile.longest_window().is_some_and(|longest| inside(longest) >= LOG_PLACES)
-    }
-
-    /// Counts a fill: totals of covering absolute rules rise, and the log takes it if there is a rate rule.
+    /// Counts a fill: totals of covering absolute rules rise, held at the most, and the log takes it if there is a rate rule.
     pub(crate) fn fill(&mut self, offer: &Offer, grant: u64) {
         for (rule, totals) in self.profile.rules.iter().zip(&mut self.totals) {
             if let (None, Some(account)) = (rule.window, rule.account(offer.root, offer.unit)) {
-                totals[account as usize] += added(rule, offer.premium, grant);
+                let total = &mut totals[account as usize];
+                *total = (*total + added(rule, offer.premium, grant)).min(MOST_TOTAL);
             }
         }
         if let Some(longest) = self.profile.longest_window() {
@@ -80,20 +79,34 @@ impl Armed {
         }
     }
 
-    /// Does a root rule trip, and does a firm rule?
-    pub(crate) fn trips(&self, allowances: &[Allowed], grant: u64, contracts: u64) -> (bool, bool) {
-        let mut root_trip = false;
-        let mut firm_trip = false;
-        for allowed in allowances {
+    /// The rules that an offer trips: those that cut it to its grant, and absolute ones whose total is then their limit.
+    pub(crate) fn tripped_by_offer(&self, allowances: &[Allowed], grant: u64, contracts: u64) -> Vec<usize> {
+        let trips = |allowed: &&Allowed| {
             let rule = &self.profile.rules[allowed.place];
             let cuts = grant < contracts && allowed.allowance == grant;
-            let reached = rule.window.is_none() && self.totals[allowed.place][allowed.account as usize] == rule.limit;
-            if cuts || reached {
-                root_trip |= !rule.is_firm();
-                firm_trip |= rule.is_firm();
-            }
-        }
-        (root_trip, firm_trip)
+            cuts || rule.window.is_none() && self.totals[allowed.place][allowed.account as usize] == rule.limit
+        };
+        allowances.iter().filter(trips).map(|allowed| allowed.place).collect()
+    }
+
+    /// The rules that a report trips: absolute ones at or above their limit, and rate rules above theirs.
+    pub(crate) fn tripped_by_report(&self, fill: &Offer) -> Vec<usize> {
+        let trips = |(place, account): &(usize, u64)| {
+            let rule = &self.profile.rules[*place];
+            let counted = self.counted(*place, *account, fill.time);
+            counted > rule.limit || rule.window.is_none() && counted == rule.limit
+        };
+        self.covering(fill.root, fill.unit).filter(trips).map(|(place, _)| place).collect()
+    }
+
+    /// Locks the levels of the rules that trip, and answers the grant and which levels those are.
+    pub(crate) fn trip(&mut self, root: u64, tripped: &[usize], grant: u64) -> EventAnswer {
+        let is_firm = |place: &usize| self.profile.rules[*place].is_firm();
+        let root_trip = !tripped.iter().all(is_firm);
+        let firm_trip = tripped.iter().any(is_firm);
+        self.roots[root as usize].tripped |= root_trip;
+        self.firm.tripped |= firm_trip;
+        EventAnswer { refusal: 0, verdict: OPEN, grant, root_trip: root_trip.into(), firm_trip: firm_trip.into() }
     }
 }
 

@@ -3,6 +3,7 @@
 //! It keeps its state in ordinary Rust values and favours plain steps over speed.
 
 mod answers;
+mod away;
 mod calls;
 mod counting;
 pub mod gen;
@@ -12,6 +13,7 @@ pub mod place;
 pub mod profile;
 pub mod profile_out;
 pub mod records;
+pub mod register;
 mod rule;
 mod state;
 pub mod totals;

@@ -1,10 +1,11 @@
-//! The state in lent 64-bit numbers: how docs/MEMORY.md packs it, and document 01's sentence on what is sound.
+//! The state in lent 64-bit numbers: how docs/MEMORY.md packs it, and the documents' sentences on what is sound.
 
 use std::collections::VecDeque;
 
 use crate::place::*;
 use crate::profile::{self, Level, Measure, Profile, Rule, UNITS};
 use crate::profile_out;
+use crate::register;
 use crate::rule::DOLLAR;
 use crate::totals;
 use crate::unit::{Armed, Entry, Marks, LOG_PLACES};
@@ -41,11 +42,12 @@ pub fn write(armed: &Armed, numbers: &mut [u64]) {
     write_table(&mut numbers[RULE_COUNT..], profile.rules.iter().map(rule_numbers));
     totals::write(&profile.rules, &armed.totals, &mut numbers[TOTALS..FIRM_TRIPPED]);
     write_locks(armed, numbers);
+    register::write(&armed.away, &mut numbers[REGISTER..ENTRY_COUNT]);
     write_table(&mut numbers[ENTRY_COUNT..], armed.log.iter().map(entry_numbers));
 }
 
 /// Writes a table over zeros: how many rows it has, then these.
-fn write_table<const N: usize>(table: &mut [u64], rows: impl ExactSizeIterator<Item = [u64; N]>) {
+pub(crate) fn write_table<const N: usize>(table: &mut [u64], rows: impl ExactSizeIterator<Item = [u64; N]>) {
     table[0] = rows.len() as u64;
     for (place, row) in rows.enumerate() {
         table[1 + N * place..][..N].copy_from_slice(&row);
@@ -73,12 +75,12 @@ fn name_of(number: u64) -> Vec<u8> {
 }
 
 /// Fields side by side, each with its width in bits, the first on top.
-fn joined(fields: &[(u64, u32)]) -> u64 {
+pub(crate) fn joined(fields: &[(u64, u32)]) -> u64 {
     fields.iter().fold(0, |number, (field, width)| number << width | field)
 }
 
 /// The fields of a number by their widths, which make 64 together.
-fn parted<const N: usize>(number: u64, widths: [u32; N]) -> [u64; N] {
+pub(crate) fn parted<const N: usize>(number: u64, widths: [u32; N]) -> [u64; N] {
     let mut left = u64::BITS;
     widths.map(|width| {
         left -= width;
@@ -123,12 +125,14 @@ fn armed_of(numbers: &[u64]) -> Option<Armed> {
         return None;
     }
     let firm = Marks { tripped: flag(numbers[FIRM_TRIPPED])?, user: flag(numbers[FIRM_LOCKED])? };
+    let away = register::read(&numbers[REGISTER..ENTRY_COUNT], roots.len() as u64)?;
     let roots = marks_of(numbers[ROOTS_TRIPPED], numbers[ROOTS_LOCKED], roots.len())?;
-    Some(Armed { profile, clock, totals, firm, roots, log })
+    let armed = Armed { profile, clock, totals, firm, roots, log, away };
+    (armed.places_used(clock) <= LOG_PLACES as u64).then_some(armed)
 }
 
 /// The rows of a table that has their count in front, if there are so many places and the others hold 0.
-fn rows_of(table: &[u64], numbers_each: usize) -> Option<&[u64]> {
+pub(crate) fn rows_of(table: &[u64], numbers_each: usize) -> Option<&[u64]> {
     let (count, places) = table.split_first()?;
     let length = usize::try_from(*count).ok()?.checked_mul(numbers_each)?;
     let (used, unused) = places.split_at_checked(length)?;

@@ -1,6 +1,7 @@
 //! Where the numbers of a state stand in lent memory, by docs/MEMORY.md: part after part, a table with its count in front.
 
 use crate::profile::{MOST_ROOTS, MOST_RULES};
+use crate::register;
 use crate::totals;
 use crate::unit::LOG_PLACES;
 
@@ -28,8 +29,10 @@ pub const FIRM_LOCKED: usize = FIRM_TRIPPED + 1;
 pub const ROOTS_TRIPPED: usize = FIRM_LOCKED + 1;
 /// The word of roots that the user has locked.
 pub const ROOTS_LOCKED: usize = ROOTS_TRIPPED + 1;
+/// Where the register of orders sent away begins, as `register` places it.
+pub const REGISTER: usize = ROOTS_LOCKED + 1;
 /// How many entries the log has, in front of them.
-pub const ENTRY_COUNT: usize = ROOTS_LOCKED + 1;
+pub const ENTRY_COUNT: usize = REGISTER + register::PLACES;
 /// Where the log's entries begin, two numbers each.
 pub const LOG: usize = ENTRY_COUNT + 1;
 /// How many numbers the state takes.

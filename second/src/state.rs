@@ -2,11 +2,14 @@
 
 use std::collections::VecDeque;
 
+use crate::away::Away;
 use crate::is_time;
 use crate::profile::{Profile, UNITS};
 
 /// The places of the log.
 pub const LOG_PLACES: usize = 512;
+/// Where a total is held.
+pub const MOST_TOTAL: u64 = 1_000_000_000_000_000_000;
 /// The verdict of an event that is not locked out.
 pub const OPEN: u64 = 0;
 /// The verdict under a locked firm.
@@ -60,6 +63,8 @@ pub struct Armed {
     pub firm: Marks,
     pub roots: Vec<Marks>,
     pub log: VecDeque<Entry>,
+    /// The orders sent away that are not closed, in the order of their sending.
+    pub away: Vec<Away>,
 }
 
 impl Armed {
@@ -71,6 +76,7 @@ impl Armed {
             firm: Marks::default(),
             roots: vec![Marks::default(); profile.roots.len()],
             log: VecDeque::new(),
+            away: Vec::new(),
             profile,
         }
     }

@@ -1,13 +1,10 @@
 //! How the totals stand in lent numbers, and when they are sound. No other file knows it.
 
 use crate::profile::{Rule, MOST_RULES, UNITS};
-use crate::unit::Totals;
+use crate::unit::{Totals, MOST_TOTAL};
 
 /// How many numbers the totals take: the most accounts that rules can have.
 pub const PLACES: usize = UNITS as usize * MOST_RULES;
-
-/// The largest total.
-const MOST_TOTAL: u64 = 1_000_000_000_000_000;
 
 /// Which account of which rule each of those numbers is the total of: the accounts one after the other, in the rules' order. A rate rule's have their
 /// numbers too, though it has no total.

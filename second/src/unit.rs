@@ -1,11 +1,12 @@
 //! The risk unit: one firm during one trading day.
 
 pub use crate::answers::*;
+pub use crate::away::{Away, LAST_IDENTITY, MOST_REPORTS, REGISTER_PLACES};
 pub use crate::calls::NO_ROOT;
 use crate::counting::Offer;
 use crate::profile;
 use crate::profile_out;
-pub use crate::state::{Armed, Entry, Marks, Totals, FIRM_LOCKED, LOG_PLACES, OPEN, ROOT_LOCKED};
+pub use crate::state::{Armed, Entry, Marks, Totals, FIRM_LOCKED, LOG_PLACES, MOST_TOTAL, OPEN, ROOT_LOCKED};
 
 /// The text for verdict 1.
 pub const FIRM_TEXT: &[u8] = b"f: RiskMgmtFirmLevel";
@@ -62,6 +63,21 @@ impl Unit {
     /// Offer of a fill.
     pub fn offer(&mut self, time: u64, root: u64, unit: u64, premium: u64, contracts: u64) -> EventAnswer {
         self.event(|armed| armed.offer(Offer { time, root, unit, premium, contracts }))
+    }
+
+    /// Send of an order to an away market, with the reports that it may have.
+    pub fn send(&mut self, time: u64, order: Away) -> EventAnswer {
+        self.event(|armed| armed.send(time, order))
+    }
+
+    /// Report of a fill from an away market.
+    pub fn report(&mut self, time: u64, identity: u64, contracts: u64) -> EventAnswer {
+        self.event(|armed| armed.report(time, identity, contracts))
+    }
+
+    /// Close of an order sent away.
+    pub fn close(&mut self, time: u64, identity: u64) -> EventAnswer {
+        self.event(|armed| armed.close(time, identity))
     }
 
     /// Remaining amount of a rule, numbered from 0 by line, on a unit: the rule's own, or 0 for a firm rule.

@@ -51,7 +51,7 @@ fn events_give_every_refusal_and_verdict() {
             }
         }
     }
-    assert!([0, 1, 3, 4, 6, 12, 13, 14, 15].iter().all(|refusal| refusals.contains(refusal)), "{refusals:?}");
+    assert!([0, 1, 3, 4, 6, 12, 13, 14, 15, 17, 18, 19].iter().all(|refusal| refusals.contains(refusal)), "{refusals:?}");
     let mut expected = BTreeSet::from([(1, false, 0, 0), (2, false, 0, 0), (0, true, 0, 0)]);
     for trips in [(1, 0), (0, 1), (1, 1)] {
         expected.extend([(0, false, trips.0, trips.1), (0, true, trips.0, trips.1)]);

@@ -59,6 +59,8 @@ fn the_places_are_those_of_the_page() {
         FIRM_LOCKED,
         ROOTS_TRIPPED,
         ROOTS_LOCKED,
+        REGISTER,
+        REGISTER + 1,
         ENTRY_COUNT,
         LOG,
         NUMBERS,
@@ -161,8 +163,8 @@ fn each_part_of_the_sentence_can_fail() {
         &[(RULES + 1, 1 << 10 | 1)],
         &[(RULES + 5, 2 << 11 | 1 << 8 | 5)],          // a unit where the scope has none
         &[(RULES + 3, 1 << 11 | 2 << 8 | 2 << 2 | 3)], // a root that is not there
-        &[(TOTAL[0], 1_000_000_000_000_001)],
-        &[(TOTAL[3] + 2, 1_000_000_000_000_001)],
+        &[(TOTAL[0], 1_000_000_000_000_000_001)],
+        &[(TOTAL[3] + 2, 1_000_000_000_000_000_001)],
         &[(TOTAL[1], 1)],
         &[(TOTAL[2], 1)],
         &[(TOTAL[2] + 3, 1)],   // totals too large, some of rate rules
@@ -198,7 +200,7 @@ fn what_no_day_gives_may_still_be_sound() {
         &[(FIRM_TRIPPED, 1), (FIRM_LOCKED, 1), (ROOTS_TRIPPED, 3), (ROOTS_LOCKED, 0)],
         &[(RULES, 100_000_000_000 << 27)],
         &[(RULES + 2, 1_000_000_000 << 27 | 86_400_000)],
-        &[(TOTAL[0], 1_000_000_000_000_000), (TOTAL[3], 1_000_000_000_000_000), (TOTAL[3] + 3, 1_000_000_000_000_000)],
+        &[(TOTAL[0], 1_000_000_000_000_000_000), (TOTAL[3], 1_000_000_000_000_000_000), (TOTAL[3] + 3, 1_000_000_000_000_000_000)],
         &[(LOG, 12 << 10 | 1 << 4 | 1), (LOG + 1, 100_000_000 << 20 | 1_000_000)],
         &[(LOG, 10 << 10 | 3 << 2 | 2)],
         &[(ENTRY_COUNT, 0), (LOG, 0), (LOG + 1, 0), (LOG + 2, 0), (LOG + 3, 0)],

@@ -13,7 +13,7 @@ use Rattle.machine.specs.Calls.{Call}
 use Rattle.machine.specs.Judge.{numbers}
 use Rattle.profile.specs.Profile.{outcomeOf}
 use Rattle.state.specs.State.{decode}
-use Rattle.bench.specs.Lent.{Memory, Text, numbersIn, Sent}
+use Rattle.bench.specs.Lent.{Memory, Text, numbersIn, Called}
 use Rattle.bench.specs.Library.{Library, Meets, Unarmed, refusalIn}
 use Rattle.bench.specs.Rows.{Row, Seen, callsOf, windowsOf, answersOf, seen, seenBy, wanted, Done}
 use Rattle.bench.specs.Table.{table, examples}
@@ -22,8 +22,8 @@ use Rattle.bench.proofs.Words.{tested-below}
 use Rattle.bench.proofs.Runs.{arm-accepted, arm-leaves, armed-answers}
 use Rattle.bench.proofs.Computed.{isText, isDay, fits, rows-fit, rows-right}
 
--- calls that pass the test can be sent
-pub sendable : (calls : List Call) → isDay calls ≡ true → (day : List Sent) × (map (λ c. c .call) day ≡ calls)
+-- calls that pass the test can be made
+pub sendable : (calls : List Call) → isDay calls ≡ true → (day : List Called) × (map (λ c. c .call) day ≡ calls)
 unfolding every
 sendable [] h = ([], refl)
 sendable (call ∷ calls) h =
@@ -45,7 +45,7 @@ module _ (l : Library) (meets : Meets l) (m : Memory) (u : Unarmed m) where
     windows = ap (λ (s : State). windowsOf (s .part .profile .rules)) (arm-leaves l meets m t u ok .state)
 
   -- a row whose text is accepted is seen as on the machine
-  as-machine : (row : Row) (t : Text) (day : List Sent) → t .now ≡ bytes (row .text) → map (λ c. c .call) day ≡ callsOf row
+  as-machine : (row : Row) (t : Text) (day : List Called) → t .now ≡ bytes (row .text) → map (λ c. c .call) day ≡ callsOf row
       → outcomeOf (t .now) .refusal ≡ 0 → seenBy l m t day ≡ seen row
   unfolding seen seenBy
   as-machine row t day is sends ok =
@@ -57,7 +57,7 @@ module _ (l : Library) (meets : Meets l) (m : Memory) (u : Unarmed m) where
             ∙ ap₂ (λ (text : List ℕ) (calls : List Call). answersOf (armed (outcomeOf text .profile)) calls) is sends) i;
       }
 
-  -- a row that can be sent, and is right on the machine
+  -- a row whose calls can be made, and is right on the machine
   done : (row : Row) → fits row ≡ true → seen row ≡ wanted row → Done l m row
   unfolding seen wanted
   done row f e =

@@ -18,10 +18,11 @@ use Rattle.machine.specs.Entries.{flagOf, isFlagged, entryShare, recent}
 use Rattle.rules.specs.Valid.{hasRate}
 use Rattle.machine.specs.Calls.{Call, offer}
 use Rattle.machine.specs.Locks.{isTripped, isByUser, isLocked, verdictOf, lifted, trippedBy, lockedOut}
-use Rattle.machine.specs.Offers.{counted, coversOffer, grantOf, sameLevel, levelTrips, credited, windowOf, longest, entryOf, joinedLog}
-use Rattle.machine.specs.Refusals.{used, logFull, firstOf, badTime, isRoot, refusalOf}
+use Rattle.machine.specs.Offers.{counted, coversOffer, grantOf, sameLevel, tripsBy, levelTrips, credited, windowOf, longest, entryOf, joinedLog}
+use Rattle.machine.specs.Refusals.{used, logFull, noPlaces, overdrawn, firstOf, badTime, isRoot, refusalOf}
+use Rattle.machine.specs.Register.{hasIdentity, isOpen, sentAt, fillOf, sentOf, usedUp, registerBy, registerAfter, keptPlaces, noSent}
 use Rattle.machine.specs.Remaining.{noAccount, ruleAt, isCell, cellAt, accountAt, accountFor, leftOf, standing}
-use Rattle.machine.specs.Judge.{grantedSo, offered, ordered, judged, unless, judge, stepIn, step, numbers}
+use Rattle.machine.specs.Judge.{filled, offered, sentAway, ordered, judged, unless, judge, stepIn, step, numbers}
 use Rattle.bits.specs.Locks.{bit, withBit, withoutBit, either, count, here, first, standingOf}
 use Rattle.text.specs.Text.{bytes, all, onto, pieces, indexOf, made, numeral, numberOf, nameOf}
 use Rattle.line.specs.Line.{typeOf, isAbsolute, limitsOf, limitOf, kindOf, timeOf, letterOf, malformed, otherFirm, outOfRange, levelClash, unitClash, faultOf, scopeOf, ruleOf, lineOf}
@@ -29,8 +30,8 @@ use Rattle.admission.specs.Admission.{howMany, isFirmRule, onUnit, crowded}
 use Rattle.profile.specs.Profile.{withRoot, rootsWith, numbered, joined, tooMany, afterLine, readOn, outcomeOf, readingOf}
 use Rattle.profile.specs.declared.Reading.{Reading}
 use Rattle.profile.specs.declared.Reading.the-variants.{Refused as NotRead}
-use Rattle.rules.specs.Rules.{levelOf, covers, isRate, counts, countedOf, executions, added, ceiling, share}
-use Rattle.rules.specs.Allowance.{largest, allowance, trips}
+use Rattle.rules.specs.Rules.{levelOf, covers, isRate, counts, countedOf, held, executions, added, ceiling, share}
+use Rattle.rules.specs.Allowance.{largest, allowance, trips, isPassed, overruns}
 use Rattle.rules.specs.declared.Rule.{Rule}
 use Rattle.rules.specs.declared.Scope.the-variants.{WholeRoot}
 use Rattle.rules.specs.declared.Kind.the-variants.{Absolute}
@@ -41,6 +42,7 @@ use Rattle.bench.specs.Lent.{numbersIn}
 use Rattle.bench.specs.Library.{hundred, forty}
 use Rattle.bench.specs.Rows.{Row, callsOf, answersThen, answersOf, seen, wanted}
 use Rattle.bench.specs.Table.{table, examples}
+use Rattle.bench.specs.Away.{away}
 use Rattle.bench.specs.Tried.{tried, Fault, refusedTexts}
 
 -- a row's text is of bytes, and its calls' numbers have 64 bits
@@ -73,7 +75,7 @@ computed : (every fits (table ++ (examples ++ tried)) ≡ true)
     × (outcomeOf hundred .profile .rules ≡ hundredRule ∷ [])
     × (answersOf (armed (outcomeOf hundred .profile)) (offer forty ∷ offer forty ∷ offer forty ∷ [])
     ≡ Judged 0 40 false false ∷ Judged 0 40 false false ∷ Judged 0 20 true false ∷ [])
-unfolding every table examples tried refusedTexts readingOf seen wanted afterCall runFrom answersThen answersOf same bit withBit withoutBit either count here first standingOf levelNamed all onto pieces indexOf made numeral numberOf nameOf typeOf isAbsolute limitsOf limitOf kindOf timeOf letterOf malformed otherFirm outOfRange levelClash unitClash faultOf scopeOf ruleOf lineOf withRoot rootsWith numbered joined howMany isFirmRule onUnit crowded tooMany afterLine readOn outcomeOf levelOf covers isRate counts countedOf executions added ceiling share zeroing lifting largest allowance trips unflagged isFlagged flagOf entryShare sumOf keep recent hasRate unitsOf isUnitOf placeIn scopeFor ofUnit cellsBy cellsOf rulesIn noLocks fresh armed resets effectOf clockAfter isTripped isByUser isLocked verdictOf lifted trippedBy lockedOut wiped unflaggedLog counted coversOffer grantOf anyOf sameLevel levelTrips credited windowOf longest entryOf joinedLog used logFull firstOf badTime isRoot refusalOf leftOf ruleAt isCell cellAt accountAt accountFor noAccount standing accountsAfter locksAfter logAfter partAfter after grantedSo offered ordered judged unless judge stepIn step amountNumber amountIn numbers
+unfolding every table examples tried away refusedTexts readingOf seen wanted afterCall runFrom answersThen answersOf same bit withBit withoutBit either count here first standingOf levelNamed all onto pieces indexOf made numeral numberOf nameOf typeOf isAbsolute limitsOf limitOf kindOf timeOf letterOf malformed otherFirm outOfRange levelClash unitClash faultOf scopeOf ruleOf lineOf withRoot rootsWith numbered joined howMany isFirmRule onUnit crowded tooMany afterLine readOn outcomeOf levelOf covers isRate counts countedOf held executions added ceiling share zeroing lifting largest allowance trips isPassed overruns unflagged isFlagged flagOf entryShare sumOf keep recent hasRate unitsOf isUnitOf placeIn scopeFor ofUnit cellsBy cellsOf rulesIn noLocks fresh armed resets effectOf clockAfter isTripped isByUser isLocked verdictOf lifted trippedBy lockedOut wiped unflaggedLog counted coversOffer grantOf anyOf sameLevel tripsBy levelTrips credited windowOf longest entryOf joinedLog used logFull noPlaces overdrawn firstOf badTime isRoot refusalOf leftOf ruleAt isCell cellAt accountAt accountFor noAccount standing accountsAfter locksAfter logAfter registerBy registerAfter hasIdentity isOpen sentAt fillOf sentOf usedUp keptPlaces noSent partAfter after filled sentAway offered ordered judged unless judge stepIn step amountNumber amountIn numbers
 computed = (refl, refl, refl, refl, refl, refl, refl)
 
 pub rows-fit : every fits (table ++ (examples ++ tried)) ≡ true

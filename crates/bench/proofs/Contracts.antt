@@ -3,7 +3,7 @@ use mathlib.Core.Path.{_≡_, refl}
 use contract.Lifetimes.{Lfts}
 use denote.Triple.Clauses.{AtExit}
 use borrow.Fn.Kinds.{Dens, resT, endedOf}
-use Rattle.machine.specs.Calls.{order, lockout, offer, remaining, status}
+use Rattle.machine.specs.Calls.{order, lockout, offer, remaining, status, send, report, close}
 use Rattle.calls.specs.Calls.{armAnswer, armMemory, clearAnswer, clearMemory, callAnswer, callMemory, textAnswer, textMemory}
 use Rattle.calls.proofs.arm.Kinds as arm-kinds
 use Rattle.calls.proofs.arm.Reads as arm-reads
@@ -17,6 +17,12 @@ use Rattle.calls.proofs.lockout.Kinds as lockout-kinds
 use Rattle.calls.proofs.lockout.Reads as lockout-reads
 use Rattle.calls.proofs.offer.Kinds as offer-kinds
 use Rattle.calls.proofs.offer.Reads as offer-reads
+use Rattle.calls.proofs.send.Kinds as send-kinds
+use Rattle.calls.proofs.send.Reads as send-reads
+use Rattle.calls.proofs.report.Kinds as report-kinds
+use Rattle.calls.proofs.report.Reads as report-reads
+use Rattle.calls.proofs.close.Kinds as close-kinds
+use Rattle.calls.proofs.close.Reads as close-reads
 use Rattle.calls.proofs.remaining.Kinds as remaining-kinds
 use Rattle.calls.proofs.remaining.Reads as remaining-reads
 use Rattle.calls.proofs.status.Kinds as status-kinds
@@ -52,6 +58,24 @@ pub offer-says : (κs : Lfts 1) (args : Dens κs offer-kinds.ps) (x : resT offer
     → offer-reads.Learnt κs args x e
     ≡ ((x ≡ callAnswer (args .0 .now) (offer (args .1 .0))) × (e .0 .now ≡ callMemory (args .0 .now) (offer (args .1 .0))))
 offer-says κs args x e = refl
+
+pub send-says : (κs : Lfts 1) (args : Dens κs send-kinds.ps) (x : resT send-kinds.r κs .Denot) (e : AtExit (endedOf 1 send-kinds.ps send-kinds.r) κs)
+    → send-reads.Learnt κs args x e
+    ≡ ((x ≡ callAnswer (args .0 .now) (send (args .1 .0) (args .1 .1 .0) (args .1 .1 .1 .0)))
+    × (e .0 .now ≡ callMemory (args .0 .now) (send (args .1 .0) (args .1 .1 .0) (args .1 .1 .1 .0))))
+send-says κs args x e = refl
+
+pub report-says : (κs : Lfts 1) (args : Dens κs report-kinds.ps) (x : resT report-kinds.r κs .Denot) (e : AtExit (endedOf 1 report-kinds.ps report-kinds.r) κs)
+    → report-reads.Learnt κs args x e
+    ≡ ((x ≡ callAnswer (args .0 .now) (report (args .1 .0) (args .1 .1 .0) (args .1 .1 .1 .0)))
+    × (e .0 .now ≡ callMemory (args .0 .now) (report (args .1 .0) (args .1 .1 .0) (args .1 .1 .1 .0))))
+report-says κs args x e = refl
+
+pub close-says : (κs : Lfts 1) (args : Dens κs close-kinds.ps) (x : resT close-kinds.r κs .Denot) (e : AtExit (endedOf 1 close-kinds.ps close-kinds.r) κs)
+    → close-reads.Learnt κs args x e
+    ≡ ((x ≡ callAnswer (args .0 .now) (close (args .1 .0) (args .1 .1 .0)))
+    × (e .0 .now ≡ callMemory (args .0 .now) (close (args .1 .0) (args .1 .1 .0))))
+close-says κs args x e = refl
 
 -- Remaining and Status borrow the memory without writing it; the calls' meaning keeps it too (`remaining-keeps`, `status-keeps` of `calls`)
 pub remaining-says : (κs : Lfts 1) (args : Dens κs remaining-kinds.ps) (x : resT remaining-kinds.r κs .Denot) (e : AtExit (endedOf 1 remaining-kinds.ps remaining-kinds.r) κs)

@@ -12,6 +12,7 @@ pub mod Profile
 pub mod Made
 pub mod Output
 pub mod Log
+pub mod Register
 pub mod State
 pub mod Locks
 pub mod Counting

@@ -15,7 +15,7 @@ use Rattle.promises.proofs.Holds.{Holds, ready-holds, call-answers, call-holds}
 use Rattle.promises.proofs.Unarmed.{unarmed-accepts, unarmed-armed}
 use Rattle.bench.specs.Rows.{answersThen, answersOf}
 use Rattle.bench.specs.Library.{Library, Meets, Unarmed, answersBy, refusalIn}
-use Rattle.bench.specs.Lent.{Memory, Text, Sent}
+use Rattle.bench.specs.Lent.{Memory, Text, Called}
 
 module _ (l : Library) (meets : Meets l) where
   -- arming with an accepted text
@@ -30,7 +30,7 @@ module _ (l : Library) (meets : Meets l) where
         (unarmed-armed (m .now) (u .long) (u .mark) (t .now) ok)
 
   -- a call on memory that holds a state
-  module _ {s : State} {past : List ℕ} (m : Memory) (h : Holds s past (m .now)) (c : Sent) where
+  module _ {s : State} {past : List ℕ} (m : Memory) (h : Holds s past (m .now)) (c : Called) where
     answers-as : l .call m c .answer ≡ step s (c .call) .answer
     answers-as = meets .callAnswers m c ∙ call-answers h (c .call)
 
@@ -38,7 +38,7 @@ module _ (l : Library) (meets : Meets l) where
     call-leaves = subst⁻¹ (Holds (step s (c .call) .after) past) (meets .callLeaves m c) (call-holds h (c .call))
 
   -- so a day of calls is answered as the machine's run is, whatever came before
-  answers-on : {s : State} {past : List ℕ} (m : Memory) → Holds s past (m .now) → (before : List Event) (day : List Sent)
+  answers-on : {s : State} {past : List ℕ} (m : Memory) → Holds s past (m .now) → (before : List Event) (day : List Called)
       → answersThen before (answersBy l m day) ≡ answersThen (runFrom (record { now = s; history = before }) (map (λ c. c .call) day) .history) []
   unfolding answersBy answersThen runFrom afterCall
   answers-on m h before [] = refl
@@ -47,12 +47,12 @@ module _ (l : Library) (meets : Meets l) where
       ∙ answers-on (l .call m c .memory) (call-leaves m h c) _ day
 
   -- a day of calls on sound memory is a day of the machine
-  pub day-answers : (m : Memory) → memoryRefusal (m .now) ≡ 0 → (day : List Sent) → answersBy l m day ≡ answersOf (decode (m .now)) (map (λ c. c .call) day)
+  pub day-answers : (m : Memory) → memoryRefusal (m .now) ≡ 0 → (day : List Called) → answersBy l m day ≡ answersOf (decode (m .now)) (map (λ c. c .call) day)
   unfolding answersThen answersOf
   day-answers m ready day = answers-on m (ready-holds (m .now) ready) [] day
 
   -- and so is one that begins with arming
-  pub armed-answers : (m : Memory) (t : Text) → Unarmed m → outcomeOf (t .now) .refusal ≡ 0 → (day : List Sent)
+  pub armed-answers : (m : Memory) (t : Text) → Unarmed m → outcomeOf (t .now) .refusal ≡ 0 → (day : List Called)
       → answersBy l (l .arm m t .memory) day ≡ answersOf (armed (outcomeOf (t .now) .profile)) (map (λ c. c .call) day)
   unfolding answersThen answersOf
   armed-answers m t u ok day = answers-on (l .arm m t .memory) (arm-leaves m t u ok) [] day

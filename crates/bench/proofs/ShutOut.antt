@@ -14,7 +14,7 @@ use Rattle.machine.specs.Calls.{offer, remaining, status}
 use Rattle.machine.specs.Locks.{verdictOf}
 use Rattle.machine.specs.Offers.{grantOf, covering}
 use Rattle.machine.specs.Remaining.{accountFor, leftOf, standing}
-use Rattle.machine.specs.Judge.{grantedSo, offered as offeredSo, judged, step, isRefusal}
+use Rattle.machine.specs.Judge.{filled, offered as offeredSo, judged, step, isRefusal}
 use Rattle.shapes.proofs.Tables.{length-zeros}
 use Rattle.profile.specs.Profile.{outcomeOf}
 use Rattle.state.specs.State.{size, decode}
@@ -25,7 +25,7 @@ use Rattle.calls.specs.Calls.{memoryRefusal, callAnswer, refusalIn}
 use Rattle.calls.proofs.Armed.{refusal-unarmed}
 use Rattle.promises.proofs.Holds.{ready-holds, holds-ready}
 use Rattle.promises.proofs.Answered.{acted-answer, refused-by, by-refused, taken}
-use Rattle.bench.specs.Lent.{Memory, Text, Verdict, numbersIn, Sent, Offered, sent}
+use Rattle.bench.specs.Lent.{Memory, Text, Verdict, numbersIn, Called, Offered, called}
 use Rattle.bench.specs.Library.{Library, Meets, Unarmed, answersBy, RefusesTexts, RefusesCalls, GrantsAlways, ArmStoresNothing, StoresNoFill, CountsFirstOnly, hundred, forty}
 use Rattle.bench.proofs.One.{one}
 use Rattle.bench.proofs.Words.{below-zeros, tested-below}
@@ -35,7 +35,7 @@ use Rattle.bench.proofs.Runs.{arm-accepted, arm-leaves, call-leaves, ar
 -- a grant at verdict 0 is the machine's
 granted : (s : State) (o : Offer) (verdict grant : ℕ) (root firm : Bool) → offeredSo s o verdict .answer ≡ Judged 0 grant root firm
     → grantOf (s .log) o (s .part .accounts) ≡ grant
-unfolding offeredSo grantedSo
+unfolding offeredSo filled
 granted s o zero grant root firm e = cc
 granted s o (suc n) grant root firm e = let z : suc n ≡ 0 = cc in absurd (omega arith)
 
@@ -64,25 +64,25 @@ module _ (l : Library) (meets : Meets l) where
   -- ---- what holds on every memory
 
   -- a call is refused with a number exactly if that number's condition is the first that holds
-  pub refused-exactly : (m : Memory) (c : Sent) (n : ℕ) → (l .call m c .answer ≡ Refused (suc n)) ↔ (refusalIn (m .now) (c .call) ≡ suc n)
+  pub refused-exactly : (m : Memory) (c : Called) (n : ℕ) → (l .call m c .answer ≡ Refused (suc n)) ↔ (refusalIn (m .now) (c .call) ≡ suc n)
   refused-exactly m c n = (
     λ e. by-refused (m .now) (c .call) (suc n) (sym (meets .callAnswers m c) ∙ e),
     λ e. meets .callAnswers m c ∙ refused-by (m .now) (c .call) n e,
   )
 
   -- a grant is the largest number up to the offer that keeps every limit of a rule that covers it
-  pub grant-is-largest : (m : Memory) (o : Offered) (grant : ℕ) (root firm : Bool) → l .call m (sent o) .answer ≡ Judged 0 grant root firm
+  pub grant-is-largest : (m : Memory) (o : Offered) (grant : ℕ) (root firm : Bool) → l .call m (called o) .answer ≡ Judged 0 grant root firm
       → Largest (KeepsAll (covering (decode (m .now) .log) (o .offer) (decode (m .now) .part .accounts)) (o .offer .premium)) (o .offer .contracts) grant
   unfolding judged isRefusal
   grant-is-largest m o grant root firm e =
       let s = decode (m .now) in
       let asked = o .offer in
-      let t = taken (m .now) (offer asked) (Judged 0 grant root firm) (sym (meets .callAnswers m (sent o)) ∙ e) refl in
+      let t = taken (m .now) (offer asked) (Judged 0 grant root firm) (sym (meets .callAnswers m (called o)) ∙ e) refl in
       subst (Largest (KeepsAll (covering (s .log) asked (s .part .accounts)) (asked .premium)) (asked .contracts))
       (granted s asked (verdictOf (s .part .locks) (asked .root)) grant root firm t) (grant-largest (s .log) asked (s .part .accounts))
 
   -- the memory after a call is sound, and stands for the state that the machine leaves
-  pub stores : (m : Memory) (c : Sent) → memoryRefusal (m .now) ≡ 0
+  pub stores : (m : Memory) (c : Called) → memoryRefusal (m .now) ≡ 0
       → (memoryRefusal (l .call m c .memory .now) ≡ 0) × (decode (l .call m c .memory .now) ≡ step (decode (m .now)) (c .call) .after)
   stores m c ready = let h = call-leaves l meets m (ready-holds (m .now) ready) c in (holds-ready h, h .state)
 
@@ -92,13 +92,13 @@ module _ (l : Library) (meets : Meets l) where
   arm-stores m t u ok = let h = arm-leaves l meets m t u ok in (holds-ready h, h .state)
 
   -- Remaining is the limit less the counted amount, or 0 if that is below 0
-  pub remaining-is : (m : Memory) (c : Sent) (time rule unit : ℕ) → c .call ≡ remaining time rule unit → refusalIn (m .now) (remaining time rule unit) ≡ 0
+  pub remaining-is : (m : Memory) (c : Called) (time rule unit : ℕ) → c .call ≡ remaining time rule unit → refusalIn (m .now) (remaining time rule unit) ≡ 0
       → l .call m c .answer ≡ Left (leftOf (decode (m .now)) time (accountFor (decode (m .now) .part) rule unit))
   unfolding judged
   remaining-is m c time rule unit is e = meets .callAnswers m c ∙ ap (callAnswer (m .now)) is ∙ acted-answer (m .now) (remaining time rule unit) e
 
   -- Status is how the two words stand
-  pub status-is : (m : Memory) (c : Sent) → c .call ≡ status → refusalIn (m .now) status ≡ 0
+  pub status-is : (m : Memory) (c : Called) → c .call ≡ status → refusalIn (m .now) status ≡ 0
       → l .call m c .answer ≡ Stand (standing (decode (m .now) .part .locks))
   unfolding judged
   status-is m c is e = meets .callAnswers m c ∙ ap (callAnswer (m .now)) is ∙ acted-answer (m .now) status e
@@ -110,25 +110,25 @@ module _ (l : Library) (meets : Meets l) where
     armed = l .arm m limit .memory
 
     abbrev one-fill : Memory
-    one-fill = l .call armed (sent offered) .memory
+    one-fill = l .call armed (called offered) .memory
 
     abbrev two-fills : Memory
-    two-fills = l .call one-fill (sent offered) .memory
+    two-fills = l .call one-fill (called offered) .memory
 
-    answers : answersBy l armed (sent offered ∷ sent offered ∷ sent offered ∷ [])
+    answers : answersBy l armed (called offered ∷ called offered ∷ called offered ∷ [])
         ≡ Judged 0 40 false false ∷ Judged 0 40 false false ∷ Judged 0 20 true false ∷ []
     unfolding limit offered
     answers = armed-answers l meets m limit u hundred-read _ ∙ forties
 
-    pub first : l .call armed (sent offered) .answer ≡ Judged 0 40 false false
+    pub first : l .call armed (called offered) .answer ≡ Judged 0 40 false false
     unfolding answersBy
     first = let e = answers in cc
 
-    pub second : l .call one-fill (sent offered) .answer ≡ Judged 0 40 false false
+    pub second : l .call one-fill (called offered) .answer ≡ Judged 0 40 false false
     unfolding answersBy
     second = let e = answers in cc
 
-    pub third : l .call two-fills (sent offered) .answer ≡ Judged 0 20 true false
+    pub third : l .call two-fills (called offered) .answer ≡ Judged 0 20 true false
     unfolding answersBy
     third = let e = answers in cc
 
@@ -139,7 +139,7 @@ module _ (l : Library) (meets : Meets l) where
   unfolding isRefusal limit
   not-refusing-all = (
     λ all. all blank limit (arm-accepted l meets blank limit blank-unarmed hundred-read),
-    λ all. false≢true (sym (ap isRefusal (first blank blank-unarmed)) ∙ all (armed blank blank-unarmed) (sent offered)),
+    λ all. false≢true (sym (ap isRefusal (first blank blank-unarmed)) ∙ all (armed blank blank-unarmed) (called offered)),
   )
 
   -- one with a fixed grant
@@ -161,8 +161,8 @@ module _ (l : Library) (meets : Meets l) where
     λ none.
         let before = one-fill blank blank-unarmed in
         let after = two-fills blank blank-unarmed in
-        let same = meets .callAnswers after (sent offered) ∙ ap (λ (ys : List ℕ). callAnswer ys (sent offered .call)) (none before offered)
-        ∙ sym (meets .callAnswers before (sent offered)) in
+        let same = meets .callAnswers after (called offered) ∙ ap (λ (ys : List ℕ). callAnswer ys (called offered .call)) (none before offered)
+        ∙ sym (meets .callAnswers before (called offered)) in
         forty-twenty (sym (second blank blank-unarmed) ∙ sym same ∙ third blank blank-unarmed),
   )
 
@@ -173,16 +173,16 @@ module _ (l : Library) (meets : Meets l) where
 
 -- an invented Remaining or Status, or any other invention: two libraries that meet the contracts answer alike and leave the same memory
 module _ (l k : Library) (meets : Meets l) (too : Meets k) where
-  pub same-answer : (m : Memory) (c : Sent) → l .call m c .answer ≡ k .call m c .answer
+  pub same-answer : (m : Memory) (c : Called) → l .call m c .answer ≡ k .call m c .answer
   same-answer m c = one (meets .callAnswers m c) (too .callAnswers m c)
 
-  pub not-inventing-remaining : (m : Memory) (c : Sent) (time rule unit : ℕ) → c .call ≡ remaining time rule unit → l .call m c .answer ≡ k .call m c .answer
+  pub not-inventing-remaining : (m : Memory) (c : Called) (time rule unit : ℕ) → c .call ≡ remaining time rule unit → l .call m c .answer ≡ k .call m c .answer
   not-inventing-remaining m c time rule unit is = same-answer m c
 
-  pub not-inventing-status : (m : Memory) (c : Sent) → c .call ≡ status → l .call m c .answer ≡ k .call m c .answer
+  pub not-inventing-status : (m : Memory) (c : Called) → c .call ≡ status → l .call m c .answer ≡ k .call m c .answer
   not-inventing-status m c is = same-answer m c
 
-  pub same-memory : (m : Memory) (c : Sent) → l .call m c .memory .now ≡ k .call m c .memory .now
+  pub same-memory : (m : Memory) (c : Called) → l .call m c .memory .now ≡ k .call m c .memory .now
   same-memory m c = one (meets .callLeaves m c) (too .callLeaves m c)
 
   pub same-clear : (m : Memory) → (l .clear m .answer ≡ k .clear m .answer) × (l .clear m .memory .now ≡ k .clear m .memory .now)

@@ -24,6 +24,12 @@ use Rattle.machine.proofs.Totals.{isPaid, total-in}
 use Rattle.machine.specs.Entries.{isEntry}
 use Rattle.machine.specs.declared.Entry.{Entry}
 use Rattle.machine.specs.State.{State, rootsIn}
+use Rattle.machine.specs.Register.{isSent}
+use Rattle.machine.specs.declared.Sent.{Sent}
+use Rattle.register.specs.SentPlace.{sentWidths, sentValues, openValues, sentNumbers}
+use Rattle.register.specs.Register.{registerShape}
+use Rattle.register.proofs.Shapes.{register-written}
+use Rattle.register.proofs.SentPlace.{sent-fit, open-fit}
 use Rattle.tables.specs.RulePlace.{limitWidths, limitValues, scopeWidths, scopeValues, ruleNumbers, rulesShape}
 use Rattle.tables.specs.EntryPlace.{fillWidths, fillValues, amountWidths, amountValues, entryNumbers, logShape, flagNumber}
 use Rattle.shapes.specs.Shape.{one, both, named, word, flag, rows, table as counted}
@@ -86,6 +92,11 @@ entry-words : (roots : ℕ) → roots ≤ 64 → (e : Entry) → isEntry roots e
 unfolding entryNumbers total
 entry-words roots few e h =
     (packed-lt fillWidths (fillValues e) (fill-fit roots e few h), (packed-lt amountWidths (amountValues e) (amount-fit roots e few h), tt))
+
+sent-words : (roots : ℕ) → roots ≤ 64 → (sent : Sent) → isSent roots sent ≡ true → Below (2 ^ 64) (sentNumbers sent)
+unfolding sentNumbers total
+sent-words roots few sent h =
+    (packed-lt sentWidths (sentValues sent) (sent-fit roots sent few h), (packed-lt amountWidths (openValues sent) (open-fit roots sent few h), tt))
 
 name-word : (most n : ℕ) → most ≤ 7 → isNameNumber 1 most n ≡ true → n < 2 ^ 64
 unfolding isNameNumber nameBytes
@@ -155,6 +166,12 @@ module _ (s : State) (k : SoundState s) (m : MadeParts (s .part .profile)) where
     (flag-word (s .part .locks .firmByUser), (lt-of-lt-of-le (k .tripped) (pow-mono few), (lt-of-lt-of-le (k .byUser) (pow-mono few), tt))),
   )
 
+  register-words : Below (2 ^ 64) (registerShape n .write (s .part .register))
+  unfolding rootsIn
+  register-words =
+      subst (Below (2 ^ 64)) (sym (register-written n (s .part .register)))
+      (under (length (s .part .register)) 64 64 (k .few) tt, below-table (isSent n) sentNumbers (sent-words n few) 2 64 (s .part .register) (k .registered))
+
   log-words : Below (2 ^ 64) (logShape n .write (s .log))
   unfolding rootsIn
   log-words =
@@ -167,10 +184,13 @@ module _ (s : State) (k : SoundState s) (m : MadeParts (s .part .profile)) where
       let clock = under (s .part .clock) (times .most) 64 (k .clock .1) tt in
       let sums-then = totalsShape rules .write sums in
       let locks-then = locksShape .write (s .part .locks) in
+      let register-then = registerShape n .write (s .part .register) in
       let profile-then = profileShape .write (s .part .profile) in
+      let marks = below-append (2 ^ 64) locks-then register-then locks-words register-words in
       let rest =
-      below-append (2 ^ 64) profile-then (sums-then ++ locks-then) profile-words (below-append (2 ^ 64) sums-then locks-then sums-words locks-words) in
-      (lit< tt, (clock, below-append (2 ^ 64) (profile-then ++ (sums-then ++ locks-then)) (logShape n .write (s .log)) rest log-words))
+      below-append (2 ^ 64) profile-then (sums-then ++ (locks-then ++ register-then)) profile-words
+      (below-append (2 ^ 64) sums-then (locks-then ++ register-then) sums-words marks) in
+      (lit< tt, (clock, below-append (2 ^ 64) (profile-then ++ (sums-then ++ (locks-then ++ register-then))) (logShape n .write (s .log)) rest log-words))
 
   pub stored-words : (xs : List ℕ) → Below (2 ^ 64) xs → Below (2 ^ 64) (stored s xs)
   unfolding stored

@@ -2,6 +2,7 @@ pub mod Lent
 pub mod Library
 pub mod Rows
 pub mod Table
+pub mod Away
 pub mod Tried
 pub mod Rewritten
 pub mod Determines

@@ -13,7 +13,7 @@ use Rattle.machine.specs.Judge.{numbers}
 use Rattle.machine.specs.Offers.{windowOf}
 use Rattle.machine.specs.declared.Answer.{Answer}
 use Rattle.demand.specs.Run.{Event, runFrom}
-use Rattle.bench.specs.Lent.{Memory, Text, Sent}
+use Rattle.bench.specs.Lent.{Memory, Text, Called}
 use Rattle.bench.specs.Library.{Library, answersBy, refusalIn}
 
 -- a window of 0 stands for an absolute rule; an answer is its row of document 01's numbers, the refusal first
@@ -55,17 +55,17 @@ unfoldable pub wanted : Row → Seen
 wanted row = record { refusal = 0; windows = row .windows; answers = map (λ c. c .1) (row .day) }
 
 -- what is seen of a library that is given a memory, a text and a day of calls
-unfoldable pub seenBy : Library → Memory → Text → List Sent → Seen
+unfoldable pub seenBy : Library → Memory → Text → List Called → Seen
 seenBy l m t day = record {
   refusal = refusalIn (l .arm m t .answer);
   windows = windowsOf (decode (l .arm m t .memory .now) .part .profile .rules);
   answers = map numbers (answersBy l (l .arm m t .memory) day);
 }
 
--- a library does what a row wants: its text and its calls, sent to it, are seen so
+-- a library does what a row wants: its text and its calls are seen so
 pub record Done (l : Library) (m : Memory) (row : Row) : Type 0 where
   pub text : Text
-  pub day : List Sent
+  pub day : List Called
   pub isText : text .now ≡ bytes (row .text)
   pub isDay : map (λ c. c .call) day ≡ callsOf row
   pub right : seenBy l m text day ≡ wanted row

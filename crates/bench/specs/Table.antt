@@ -1,7 +1,7 @@
 -- Document 01's bench table, B1 to B12, the worked examples of document 001 and the slips seen at the bench. Assumes nothing.
 use Prim.Native.Nat.{ℕ, zero, suc, _+_}
 use mathlib.Core.List.{List, [], _∷_, _++_}
-use Rattle.machine.specs.Calls.{Call, order, offer, remaining}
+use Rattle.machine.specs.Calls.{Call, order, lockout, offer, remaining, status}
 use Rattle.bench.specs.Rows.{Row}
 
 -- an offer of contracts of a root's unit at a premium in ten-thousandths: the refusal, verdict, grant, root trip and firm trip that it gets
@@ -28,6 +28,26 @@ leaves time rule left = leavesOn 0 time rule left
 -- an order for root 0 with a reset, and its verdict
 abbrev pub ordered : ℕ → ℕ → ℕ → Call × List ℕ
 ordered time reset verdict = (order time 0 reset, 0 ∷ verdict ∷ 0 ∷ 0 ∷ 0 ∷ [])
+
+-- a lockout of root 0 or of the firm: verdict 0
+abbrev pub locksOut : ℕ → ℕ → Call × List ℕ
+locksOut time level = (lockout time level 0, 0 ∷ 0 ∷ 0 ∷ 0 ∷ 0 ∷ [])
+
+-- how many roots are tripped, locked by the user, locked at all, and the lowest locked root
+abbrev pub stands : ℕ → ℕ → ℕ → ℕ → Call × List ℕ
+stands tripped user locked lowest = (status, 0 ∷ tripped ∷ user ∷ locked ∷ lowest ∷ [])
+
+-- a verdict, with nothing granted and nothing tripped
+abbrev pub lockedOut : ℕ → List ℕ
+lockedOut verdict = 0 ∷ verdict ∷ 0 ∷ 0 ∷ 0 ∷ []
+
+-- a refusal
+abbrev pub refused : Call → ℕ → Call × List ℕ
+refused call number = (call, number ∷ 0 ∷ 0 ∷ 0 ∷ 0 ∷ [])
+
+-- an offer of root 0
+abbrev pub offers : ℕ → ℕ → ℕ → ℕ → Call
+offers time unit premium contracts = offer (record { time = time; root = 0; unit = unit; premium = premium; contracts = contracts })
 
 -- n fills of 1 contract at $1, one a millisecond from 0 on, all granted
 abbrev ones : ℕ → List (Call × List ℕ)

@@ -1,5 +1,5 @@
 -- Rows beyond document 01's table: rules of one unit, units that count for themselves, FIRM and BOTH, T and E, lockouts at both levels, Status,
--- verdict 1, the refusals 12 to 14, a profile of firm rules alone; and texts that Arm refuses. Assumes nothing.
+-- verdict 1, the refusals 12 to 14, a profile of firm rules alone, fills from away markets; and texts that Arm refuses. Assumes nothing.
 use Prim.Native.Nat.{ℕ, _≤_}
 use Prim.Native.String.{String}
 use mathlib.Core.Path.{_≡_}
@@ -7,31 +7,12 @@ use mathlib.Core.List.{List, [], _∷_, _++_}
 use lib.ListN.{length, drop}
 use Rattle.text.specs.Text.{bytes}
 use Rattle.capi.specs.Rows.{armRow, textRow}
-use Rattle.machine.specs.Calls.{Call, order, lockout, offer, remaining, status}
+use Rattle.machine.specs.Calls.{order, lockout, remaining}
 use Rattle.bench.specs.Lent.{Memory, Text, Verdict}
 use Rattle.bench.specs.Library.{Library}
 use Rattle.bench.specs.Rows.{Row}
-use Rattle.bench.specs.Table.{fill, at, grants, leaves, leavesOn, ordered}
-
--- a lockout of root 0 or of the firm: verdict 0
-abbrev locksOut : ℕ → ℕ → Call × List ℕ
-locksOut time level = (lockout time level 0, 0 ∷ 0 ∷ 0 ∷ 0 ∷ 0 ∷ [])
-
--- how many roots are tripped, locked by the user, locked at all, and the lowest locked root
-abbrev stands : ℕ → ℕ → ℕ → ℕ → Call × List ℕ
-stands tripped user locked lowest = (status, 0 ∷ tripped ∷ user ∷ locked ∷ lowest ∷ [])
-
--- a verdict, with nothing granted and nothing tripped
-abbrev lockedOut : ℕ → List ℕ
-lockedOut verdict = 0 ∷ verdict ∷ 0 ∷ 0 ∷ 0 ∷ []
-
--- a refusal
-abbrev refused : Call → ℕ → Call × List ℕ
-refused call number = (call, number ∷ 0 ∷ 0 ∷ 0 ∷ 0 ∷ [])
-
--- an offer of root 0
-abbrev offers : ℕ → ℕ → ℕ → ℕ → Call
-offers time unit premium contracts = offer (record { time = time; root = 0; unit = unit; premium = premium; contracts = contracts })
+use Rattle.bench.specs.Table.{fill, at, grants, leaves, leavesOn, ordered, locksOut, stands, lockedOut, refused, offers}
+use Rattle.bench.specs.Away.{away}
 
 unfoldable pub tried : List Row
 tried =
@@ -190,7 +171,7 @@ tried =
           ∷ stands 0 0 0 64
           ∷ [];
     }
-    ∷ []
+    ∷ away
 
 -- a text that Arm refuses, with the number and the line
 pub record Fault : Type 0 where

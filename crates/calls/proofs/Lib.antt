@@ -3,3 +3,4 @@ pub mod Armed
 pub mod Timed
 pub mod Steps
 pub mod Offers
+pub mod Away

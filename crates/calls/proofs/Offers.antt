@@ -1,69 +1,68 @@
 -- An offer on sound memory: refused, locked out, or granted. Assumes nothing.
-use Prim.Native.Nat.{ℕ, zero, suc, _≤_, _<_, min, zero-le}
+use Prim.Native.Nat.{ℕ, zero, suc, _+_, _-_, _≤_, _<_, min, zero-le}
 use native.Mathlib.Omega.{arith}
 use native.Mathlib.Nat.{suc-ne-zero}
-use mathlib.Core.Path.{_≡_, refl, sym, _∙_}
-use mathlib.Core.Bool.{Bool, true, false, not, cond, _&&_, and-assoc, and-false}
+use mathlib.Core.Path.{_≡_, refl, sym, ap, _∙_}
+use mathlib.Core.Bool.{Bool, true, false, not, cond, _&&_, and-assoc}
 use mathlib.Core.List.{List}
 use lib.ListN.{length}
 use lib.Dec.{eqb, leb, ltb}
-use borrow.Author.Tests.{ne-eqb, lt-leb, lt-ltb, leb-true, leb-false, ltb-true, not-false}
-use Rattle.laws.specs.Tests.{and-l, and-r}
+use borrow.Author.Tests.{ne-eqb, lt-ltb, le-ltb, le-leb, leb-true, ltb-true, ltb-false, not-false}
+use Rattle.laws.specs.Tests.{and-l, and-r, same-test}
 use Rattle.measures.specs.Ranges.{isIn, times, units, premiums, offers}
 use Rattle.measures.proofs.Determined.{test-in}
 use Rattle.rules.specs.declared.Level.the-variants.{Firm, Root}
-use Rattle.log.specs.Log.{entriesIn}
-use Rattle.machine.specs.Entries.{areOrdered, isRecent, recent}
+use Rattle.machine.specs.Entries.{areOrdered, recent}
 use Rattle.rules.specs.Valid.{hasRate}
 use Rattle.machine.specs.Calls.{offer}
-use Rattle.machine.specs.State.{rulesIn, rootsIn}
-use Rattle.machine.specs.Refusals.{firstOf, badTime, isRoot, used, logFull, refusalOf}
+use Rattle.machine.specs.State.{State, rulesIn, rootsIn}
+use Rattle.machine.specs.Register.{keptPlaces, registerAfter}
+use Rattle.machine.specs.Refusals.{firstOf, badTime, isRoot, used, logFull, noPlaces, refusalOf}
 use Rattle.machine.specs.Locks.{verdictOf}
 use Rattle.machine.specs.Offers.{grantOf, levelTrips, longest}
-use Rattle.laws.specs.Folds.{keep}
-use Rattle.machine.specs.Judge.{logPlaces, grantedSo, offered, judged, isRefusal}
+use Rattle.machine.specs.Judge.{logPlaces, filled, offered, judged, isRefusal}
 use Rattle.state.specs.State.{decode, stored}
-use Rattle.state.specs.Laid.{Laid, withClock}
-use Rattle.state.specs.Tests.{logPart}
-use Rattle.state.proofs.Laid.{laid-entries}
+use Rattle.state.specs.Laid.{withClock}
 use Rattle.state.proofs.Exactly.{sound-decode}
 use Rattle.machine.specs.declared.Offer.{Offer}
 use Rattle.machine.specs.declared.Answer.the-variants.{Judged}
 use Rattle.machine.specs.Deeds.{granted, filling, clockAfter}
 use Rattle.machine.specs.Step.{after, partAfter, accountsAfter, locksAfter, logAfter}
-use Rattle.machine.proofs.Lists.{ordered-wider, keep-le}
+use Rattle.machine.proofs.Lists.{ordered-wider}
 use Rattle.grant.specs.Grant.{Asked, AreCuts, Ready, HasRoom}
 use Rattle.grant.specs.declared.Cuts.{Cuts}
 use Rattle.grant.proofs.Trip.{grant-cuts}
-use Rattle.grant.proofs.Windows.{rate-longest}
-use Rattle.calls.specs.Calls.{memoryRefusal, timedRefusal, refusalIn, offerRefusal, callAnswer, callMemory, isFull, Met, Granting}
+use Rattle.calls.specs.Calls.{memoryRefusal, timedRefusal, refusalIn, offerRefusal, callAnswer, callMemory, isShortOf, Met, Granting}
 use Rattle.calls.proofs.Armed.{sound-memory}
 use Rattle.calls.proofs.Steps.{done, laid, acts}
-use Rattle.calls.proofs.Timed.{timed-refused, timed-met}
+use Rattle.calls.proofs.Timed.{timed-ready, timed-late, timed-refused, timed-met}
 
--- the log is full: not without a rate rule, else as the entries inside the longest window are counted
-module _ (xs : List ℕ) (h : Laid xs) (o : Offer) (n : ℕ) (e : n ≡ longest (rulesIn (decode xs))) where
-  rates : (hasRate (rulesIn (decode xs)) ≡ ltb 0 (longest (rulesIn (decode xs)))) × (longest (rulesIn (decode xs)) ≤ 86_400_000)
-  rates = rate-longest (rootsIn (decode xs)) (rulesIn (decode xs)) (h .fits .valid)
+-- so many places more pass those of the log: not without a rate rule, else by the use
+pub short-is : (s : State) (time n : ℕ) → n ≤ 512 → (b : Bool) → b ≡ ltb (used s time) (512 + 1 - n) → not b ≡ isShortOf s time n
+unfolding isShortOf used
+short-is s time n few b e = ap not e ∙ go (hasRate (rulesIn s))
+  where
+    inside : ℕ
+    inside = length (recent (longest (rulesIn s)) time (s .log)) + keptPlaces (s .part .register)
 
-  pub window-most : n ≤ 86_400_000
-  window-most = rw e (rates .1)
+    some : (b : Bool) → ltb inside (512 + 1 - n) ≡ b → not b ≡ ltb 512 (inside + n)
+    some true e = sym (le-ltb 512 (inside + n) (omega (arith, few, ltb-true inside (512 + 1 - n) e)))
+    some false e = sym (lt-ltb 512 (inside + n) (omega (arith, few, ltb-false inside (512 + 1 - n) e)))
 
-  pub full-few : (k : ℕ) → k ≡ length (decode xs .log) → k < 512 → false ≡ isFull (decode xs) o
-  unfolding isFull used recent
-  full-few k many few =
-      let es = decode xs .log in
-      let inside = keep (isRecent (longest (rulesIn (decode xs))) (o .time)) es in
-      let less : length inside < 512 = omega (arith, keep-le (isRecent (longest (rulesIn (decode xs))) (o .time)) es, many) in
-      rw (lt-leb 512 (length inside) less, and-false)
+    go : (h : Bool) → not (ltb (cond h inside 0) (512 + 1 - n)) ≡ (h && ltb 512 (cond h inside 0 + n))
+    go true = some (ltb inside (512 + 1 - n)) refl
+    go false = ap not (lt-ltb 0 (512 + 1 - n) (omega (arith, few)))
 
-  pub full-none : n ≡ 0 → false ≡ isFull (decode xs) o
-  unfolding isFull
-  full-none z = rw (rates .0, ← e, z)
+-- an order to be sent away that is not locked out asks for its places
+pub lacks-is : (s : State) (o : Offer) (reports v : ℕ) (b : Bool) → v ≡ verdictOf (s .part .locks) (o .root) → b ≡ isShortOf s (o .time) reports
+    → (eqb v 0 && b) ≡ noPlaces logPlaces s o reports
+unfolding noPlaces isShortOf
+lacks-is s o reports v b p q =
+    rw (p, q) (sym (and-assoc (eqb (verdictOf (s .part .locks) (o .root)) 0) (hasRate (rulesIn s)) (ltb logPlaces (used s (o .time) + reports))))
 
-  pub full-some : (n ≡ 0 → ⊥) → (r : ℕ) → r ≡ length (recent n (o .time) (entriesIn (logPart xs))) → leb 512 r ≡ isFull (decode xs) o
-  unfolding isFull used
-  full-some z r k = rw (rates .0, ← e, lt-ltb 0 n (omega arith), k, laid-entries h)
+-- a place more than the use is above 512 exactly if the use is 512 or more
+one-more : (n : ℕ) → leb 512 n ≡ ltb 512 (n + 1)
+one-more n = same-test (leb 512 n) (ltb 512 (n + 1)) (λ h. lt-ltb 512 (n + 1) (omega (arith, leb-true 512 n h))) (λ h. le-leb 512 n (omega (arith, ltb-true 512 (n + 1) h)))
 
 -- the log is in order of time, and has no entry later than a time that is not refused
 pub in-order : (xs : List ℕ) → memoryRefusal xs ≡ 0 → (time : ℕ) → decode xs .part .clock ≤ time → areOrdered 0 time (decode xs .log) ≡ true
@@ -71,32 +70,36 @@ in-order xs ready time le =
     let s = decode xs in
     ordered-wider 0 0 (s .part .clock) time zero-le le (s .log) (sound-decode xs (sound-memory xs ready) .ordered)
 
+-- nor has it one later than a time that the clock lets pass
+pub timed-order : (xs : List ℕ) (time : ℕ) → timedRefusal xs time ≡ 0 → areOrdered 0 time (decode xs .log) ≡ true
+unfolding badTime
+timed-order xs time e =
+    let w = not-false (isIn times time && leb (decode xs .part .clock) time) (timed-late xs time e) in
+    in-order xs (timed-ready xs time e) time (leb-true (decode xs .part .clock) time (and-r (isIn times time) (leb (decode xs .part .clock) time) w))
+
 -- an offer whose numbers are in range and that is not locked out
 module _ (xs : List ℕ) (o : Offer) (g : Granting xs o) (grant : ℕ) (is : grant ≡ grantOf (decode xs .log) o (decode xs .part .accounts)) where
-  full-is : logFull logPlaces (decode xs) o ≡ (ltb 0 grant && isFull (decode xs) o)
-  unfolding logFull isFull
-  full-is = rw (g .free, ← is) (and-assoc (ltb 0 grant) _ _)
+  full-is : logFull logPlaces (decode xs) o ≡ (ltb 0 grant && isShortOf (decode xs) (o .time) 1)
+  unfolding logFull isShortOf
+  full-is = rw (g .free, ← is, one-more (used (decode xs) (o .time))) (and-assoc (ltb 0 grant) _ _)
 
-  pub refusal-is : (b : Bool) → (ltb 0 grant && isFull (decode xs) o) ≡ b → refusalOf logPlaces (decode xs) (offer o) ≡ cond b 15 0
+  pub refusal-is : (b : Bool) → (ltb 0 grant && isShortOf (decode xs) (o .time) 1) ≡ b → refusalOf logPlaces (decode xs) (offer o) ≡ cond b 15 0
   unfolding refusalOf firstOf
   refusal-is b t = rw (g .met .timely, g .met .known, g .met .priced, full-is, t)
 
-  pub has-room : (ltb 0 grant && isFull (decode xs) o) ≡ false → HasRoom (decode xs) o grant
-  unfolding isFull used
-  has-room t r pos = leb-false logPlaces _ (go _ (rw (lt-ltb 0 grant pos, r) at t))
-    where
-      go : (b : Bool) → (true && (true && b)) ≡ false → b ≡ false
-      go b h = h
+  pub has-room : (ltb 0 grant && isShortOf (decode xs) (o .time) 1) ≡ false → HasRoom (decode xs) o grant
+  unfolding isShortOf used
+  has-room t r pos = omega (arith, ltb-false 512 (length (recent (longest (rulesIn (decode xs))) (o .time) (decode xs .log)) + keptPlaces (decode xs .part .register) + 1) (rw (lt-ltb 0 grant pos, r) at t))
 
-  pub granted-is : (a b : Bool) → a ≡ levelTrips (decode xs .log) o grant (decode xs .part .accounts) (Root (o .root))
-      → b ≡ levelTrips (decode xs .log) o grant (decode xs .part .accounts) Firm → (ltb 0 grant && isFull (decode xs) o) ≡ false
+  pub granted-is : (a b : Bool) → a ≡ levelTrips granted (decode xs .log) o grant (decode xs .part .accounts) (Root (o .root))
+      → b ≡ levelTrips granted (decode xs .log) o grant (decode xs .part .accounts) Firm → (ltb 0 grant && isShortOf (decode xs) (o .time) 1) ≡ false
       → (Judged 0 grant a b ≡ callAnswer xs (offer o)) × (stored (after (filling granted o grant) (decode xs)) xs ≡ callMemory xs (offer o))
-  unfolding judged offered grantedSo isRefusal
+  unfolding judged offered filled isRefusal
   granted-is a b p q t =
       let d = acts xs (g .met .ready) (offer o) (refusal-is false t) (rw (g .free)) in
       (rw (p, q, is) (rw (g .free) at (d .0)), rw is (rw (g .free) at (d .1)))
 
-  pub ready-is : (cuts : Cuts) → AreCuts xs o cuts → (ltb 0 grant && isFull (decode xs) o) ≡ false → Ready xs o grant cuts
+  pub ready-is : (cuts : Cuts) → AreCuts xs o cuts → (ltb 0 grant && isShortOf (decode xs) (o .time) 1) ≡ false → Ready xs o grant cuts
   ready-is cuts k t = record {
     asked = g .asked;
     totals = sound-decode xs (sound-memory xs (g .met .ready)) .totals;
@@ -189,7 +192,7 @@ module _ (xs : List ℕ) (o : Offer) (m : Met xs o) where
   -- an offer that is locked out moves the clock alone
   pub locked-out : (v : ℕ) → v ≡ verdictOf (decode xs .part .locks) (o .root) → (v ≡ 0 → ⊥)
       → (Judged v 0 false false ≡ callAnswer xs (offer o)) × (stored (withClock (decode xs) (o .time)) xs ≡ callMemory xs (offer o))
-  unfolding refusalOf firstOf logFull judged offered isRefusal after partAfter clockAfter accountsAfter locksAfter logAfter
+  unfolding refusalOf firstOf logFull judged offered isRefusal after partAfter clockAfter accountsAfter locksAfter logAfter registerAfter
   locked-out v e z =
       let r : refusalOf logPlaces (decode xs) (offer o) ≡ 0 = rw (m .timely, m .known, m .priced, ← e, ne-eqb v 0 z) in go v e z (acts xs (m .ready) (offer o) r)
     where

@@ -84,12 +84,9 @@ module _ (xs : List ℕ) (ready : memoryRefusal xs ≡ 0) where
   sound : isSound xs ≡ true
   sound = sound-memory xs ready
 
-  given-valid : (p : Profile) → Given p → every (isRule (length (p .roots))) (p .rules) ≡ true
-  given-valid p g = made-parts p (given-is-made p g) .valid
-
   step-after : (call : Call) → SoundState (step (decode xs) call .after)
   unfolding step
-  step-after call = step-sound given-valid logPlaces (omega arith) (decode xs) call (sound-decode xs sound)
+  step-after call = step-sound logPlaces (omega arith) (decode xs) call (sound-decode xs sound)
 
   module _ (call : Call) (e : refusalOf logPlaces (decode xs) call ≡ 0) where
     pub after-sound : SoundState (done xs call)

@@ -44,6 +44,9 @@ module _ (xs : List ℕ) (time : ℕ) where
   pub timed-ready : timedRefusal xs time ≡ 0 → memoryRefusal xs ≡ 0
   timed-ready e = timed-on e .0
 
+  pub timed-late : timedRefusal xs time ≡ 0 → badTime (decode xs .part) time ≡ false
+  timed-late e = timed-on e .1
+
   -- with tests after 12: these two refuse as before, and where they do not the rest decides
   module _ (rest : ℕ) where
     pub timed-refused : (n : ℕ) → n ≡ timedRefusal xs time → (n ≡ 0 → ⊥) → n ≡ memoryOr xs (cond late 12 rest)

@@ -1,5 +1,5 @@
 -- What the calls answer on lent memory, and the memory that they leave. Assumes nothing.
-use Prim.Native.Nat.{ℕ}
+use Prim.Native.Nat.{ℕ, _+_}
 use mathlib.Core.Path.{_≡_}
 use mathlib.Core.Bool.{Bool, false, not, cond, _&&_}
 use mathlib.Core.List.{List, [], _∷_, _++_}
@@ -81,9 +81,9 @@ callMemory xs call = cond (isRefusal (callAnswer xs call)) xs (stored (step (dec
 unfoldable pub offerRefusal : List ℕ → Offer → ℕ
 offerRefusal xs o = memoryOr xs (firstOf (offerFaults (decode xs .part) o))
 
--- the profile has a rate rule, and the log's places hold entries inside the longest window
-unfoldable pub isFull : State → Offer → Bool
-isFull s o = hasRate (rulesIn s) && leb logPlaces (used s (o .time))
+-- the profile has a rate rule, and the use at a time with so many places more passes the log's places
+unfoldable pub isShortOf : State → ℕ → ℕ → Bool
+isShortOf s time places = hasRate (rulesIn s) && ltb logPlaces (used s time + places)
 
 -- a sound memory, and an offer that its numbers do not refuse
 pub record Met (xs : List ℕ) (o : Offer) : Type 0 where

@@ -66,13 +66,15 @@ module _ {xs : List ℕ} (h : Laid xs) {i : ℕ} (l : i < length (decode xs .par
       ∙ counted-in (a .rule .kind) limit (numberOf (a .total)) (sumOf (entryShare (a .rule) time) log)
       ∙ ap (λ (r : Rule). amountIn (r .limit) (counted log time a)) (sym is)
 
+-- what remains of a limit, from what is counted against it
+module _ (xs : List ℕ) (i time : ℕ) {rule : Rule} (is : rule ≡ accountIn xs i .rule) {sum : Amount} (sum-is : sum ≡ amountIn (rule .limit) (counted (decode xs .log) time (accountIn xs i))) where
   pub account-measured : isOf (rule .limit) sum ≡ true
-  account-measured = ap (isOf (rule .limit)) account-counted ∙ of-in (rule .limit) _
+  account-measured = ap (isOf (rule .limit)) sum-is ∙ of-in (rule .limit) _
 
   pub account-left : {r : Amount} → r ≡ amountIn (rule .limit) (ceiling (rule .limit) - numberOf sum)
       → r ≡ amountIn (rule .limit) (leftOf (decode xs) time (accountIn xs i))
   unfolding leftOf
   account-left e =
       let n = counted (decode xs .log) time (accountIn xs i) in
-      e ∙ ap (λ (k : ℕ). amountIn (rule .limit) (ceiling (rule .limit) - k)) (ap numberOf account-counted ∙ number-in (rule .limit) n)
+      e ∙ ap (λ (k : ℕ). amountIn (rule .limit) (ceiling (rule .limit) - k)) (ap numberOf sum-is ∙ number-in (rule .limit) n)
       ∙ ap (λ (q : Rule). amountIn (rule .limit) (ceiling (q .limit) - n)) is

@@ -68,15 +68,22 @@ pub fn counted_by(m: &[u64], i: usize, rule: Rule, time: u64, memos: Two) -> Tol
     }
 }
 
+// What account i has counted at a time, with no memos kept.
+pub fn counted_at(m: &[u64], i: usize, rule: Rule, time: u64) -> Amount
+    requires { ⌜ Laid (now m) × (i < length (decode (now m) .part .accounts)) × (rule ≡ accountIn (now m) i .rule) × (areOrdered 0 time (decode (now m) .log) ≡ true) ⌝ }
+    ensures { λ r. ⌜ r ≡ amountIn (rule .limit) (counted (decode (now (m .entry)) .log) time (accountIn (now (m .entry)) i)) ⌝ }
+{
+    let limit = rule.limit;
+    let total = state::total_in(m, i, limit);
+    rule.counted(total, logged(m, rule, time))
+}
+
 // What remains of the limit of account i at a time, and 0 if more than the limit is counted.
 fn left_of(m: &[u64], time: u64, i: usize, rule: Rule) -> Amount
     requires { ⌜ Laid (now m) × (i < length (decode (now m) .part .accounts)) × (rule ≡ accountIn (now m) i .rule) × (areOrdered 0 time (decode (now m) .log) ≡ true) ⌝ }
     ensures { λ r. ⌜ r ≡ amountIn (rule .limit) (leftOf (decode (now (m .entry))) time (accountIn (now (m .entry)) i)) ⌝ }
 {
-    let limit = rule.limit;
-    let total = state::total_in(m, i, limit);
-    let counted = rule.counted(total, logged(m, rule, time));
-    rule.left(counted)
+    rule.left(counted_at(m, i, rule, time))
 }
 
 // What remains of a rule's limit for a unit at a time, and 0 if more than the limit is counted.

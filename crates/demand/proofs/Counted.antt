@@ -1,5 +1,5 @@
 -- What the state counts for a rule after a reset, and after a fill. Assumes nothing.
-use Prim.Native.Nat.{ℕ, _+_, _≤_}
+use Prim.Native.Nat.{ℕ, _+_, _≤_, min}
 use mathlib.Core.Path.{_≡_, refl, sym, ap, _∙_}
 use mathlib.Core.Bool.{Bool, true, false, not, cond, _&&_, or-true}
 use mathlib.Core.List.{List, [], _∷_, _++_, map}
@@ -7,7 +7,8 @@ use lib.Dec.{eqb, ltb}
 use borrow.Author.Tests.{ltb-false, le-ltb, eqb-true}
 use native.Mathlib.Omega.{arith}
 use Rattle.laws.specs.Tests.{and-l}
-use Rattle.rules.specs.Rules.{levelOf, covers, isRate, counts, countedOf, added, share}
+use Rattle.measures.specs.Ranges.{totals}
+use Rattle.rules.specs.Rules.{levelOf, covers, isRate, counts, countedOf, held, added, share}
 use Rattle.rules.specs.Allowance.{All}
 use Rattle.rules.specs.declared.Level.{Level}
 use Rattle.rules.specs.declared.Level.the-variants.{Firm, Root}
@@ -174,28 +175,34 @@ joined-sum rules log o grant rule w t k le has p = rw has (go (ltb 0 grant) refl
         rw (sum-append (entryShare rule t) old (entryOf o grant ∷ []), recent-sum rule w (longest rules) (o .time) t log k le p, new) (omega arith)
     go false e = let none : grant ≡ 0 = omega (arith, ltb-false 0 grant e) in rw (none, gain-none) (omega arith)
 
--- from a fill on, a rule counts what it counted before and the fill's own amount
-pub fill-counted : (rules : List Rule) (log : List Entry) (o : Offer) (grant : ℕ) (a : Account) (t : ℕ)
-    → Fits (longest rules) (hasRate rules) (a .rule .kind) → o .time ≤ t
-    → counted (joinedLog rules log o grant) t (credited o grant a) ≡ liveGain o grant (a .rule) t + counted log t a
-unfolding counted credited countedOf isRate counts Fits coversOffer
-fill-counted rules log o grant a t fits p = go (a .rule .kind) refl fits
+held-rate : (kind : Kind) (w n : ℕ) → kind ≡ Rate w → held kind n ≡ n
+unfolding held
+held-rate kind w n e = rw e
+
+-- from a fill on, a rule counts what it counted before and the fill's own amount, held
+pub fill-counted : (rules : List Rule) (log : List Entry) (o : Offer) (grant : ℕ) (a : Account) (t c : ℕ)
+    → Fits (longest rules) (hasRate rules) (a .rule .kind) → o .time ≤ t → counted log t a ≡ held (a .rule .kind) c
+    → counted (joinedLog rules log o grant) t (credited o grant a) ≡ held (a .rule .kind) (liveGain o grant (a .rule) t + c)
+unfolding counted credited countedOf isRate counts held Fits coversOffer
+fill-counted rules log o grant a t c fits p before = go (a .rule .kind) refl fits
   where
     n : ℕ
     n = added (a .rule .limit) (o .premium) grant
 
-    raised : (b : Bool) → numberOf (cond b (amountIn (a .rule .limit) (numberOf (a .total) + n)) (a .total)) ≡ cond b n 0 + numberOf (a .total)
-    raised true = rw (number-in (a .rule .limit) (numberOf (a .total) + n)) (omega arith)
-    raised false = omega arith
+    raised : (b : Bool) → numberOf (a .total) ≡ min c (totals .most)
+        → numberOf (cond b (amountIn (a .rule .limit) (min (numberOf (a .total) + n) (totals .most))) (a .total)) ≡ min (cond b n 0 + c) (totals .most)
+    raised true h = rw (number-in (a .rule .limit) (min (numberOf (a .total) + n) (totals .most))) (omega (arith, h))
+    raised false h = rw h (omega arith)
 
     by-log : (kind : Kind) (w total logged : ℕ) → kind ≡ Rate w → countedOf kind total logged ≡ logged
     by-log kind w total logged e = rw e
 
     go : (kind : Kind) → a .rule .kind ≡ kind → Fits (longest rules) (hasRate rules) kind
         → countedOf (a .rule .kind) (numberOf (credited o grant a .total)) (sumOf (entryShare (a .rule) t) (joinedLog rules log o grant))
-        ≡ liveGain o grant (a .rule) t + countedOf (a .rule .kind) (numberOf (a .total)) (sumOf (entryShare (a .rule) t) log)
+        ≡ held (a .rule .kind) (liveGain o grant (a .rule) t + c)
     go (Rate w) e f =
         by-log (a .rule .kind) w _ _ e
         ∙ (joined-sum rules log o grant (a .rule) w t e (f .0) (f .1) p
-        ∙ ap (λ m. liveGain o grant (a .rule) t + m) (sym (by-log (a .rule .kind) w _ _ e)))
-    go Absolute e f = rw e (raised (coversOffer o (a .rule)))
+        ∙ (ap (λ m. liveGain o grant (a .rule) t + m) (sym (by-log (a .rule .kind) w _ _ e) ∙ (before ∙ held-rate (a .rule .kind) w c e))
+        ∙ sym (held-rate (a .rule .kind) w _ e)))
+    go Absolute e f = rw e (raised (coversOffer o (a .rule)) (rw e at before))

@@ -24,6 +24,7 @@ use Rattle.machine.specs.Deeds.{resetting, clockAfter}
 use Rattle.machine.specs.Locks.{lifted}
 use Rattle.machine.specs.Entries.{isFlagged}
 use Rattle.machine.specs.Order.{wiped, unflagged, unflaggedLog}
+use Rattle.machine.specs.Register.{registerAfter}
 use Rattle.machine.specs.Step.{accountsAfter, locksAfter, logAfter, partAfter, after}
 use Rattle.machine.proofs.Lists.{keep-map}
 use Rattle.machine.proofs.Flags.{still-gone}
@@ -82,6 +83,7 @@ resetBy s t z y f = record {
       tripped = f (s .part .locks .tripped);
       byUser = f (s .part .locks .byUser);
     };
+    register = s .part .register;
   };
   log = unflaggedLog z (s .log);
 }
@@ -101,6 +103,7 @@ reset-reset s t z z′ y y′ f f′ =
           tripped = f′ (f (s .part .locks .tripped));
           byUser = f′ (f (s .part .locks .byUser));
         };
+        register = s .part .register;
       };
       log = log-both z′ z (s .log) i;
     }
@@ -161,7 +164,7 @@ module _ (s : State) (t : ℕ) where
       → after (resetting t root′ e′) (after (resetting t root e) s)
       ≡ resetBy s t (ofEither (zeroing e′ root′) (zeroing e root)) (lifting e′ root′ Firm || lifting e root Firm)
       (λ w. without (lifting e′ root′ (Root root′)) root′ (without (lifting e root (Root root)) root w))
-  unfolding after partAfter clockAfter accountsAfter locksAfter logAfter lifted
+  unfolding after partAfter clockAfter accountsAfter locksAfter logAfter registerAfter lifted
   two root e root′ e′ =
       reset-reset s t (zeroing e root) (zeroing e′ root′) (lifting e root Firm) (lifting e′ root′ Firm)
       (without (lifting e root (Root root)) root) (without (lifting e′ root′ (Root root′)) root′)
@@ -179,7 +182,7 @@ module _ (s : State) (t : ℕ) where
 
   -- two of one root are the one that does both
   pub joined : (root : ℕ) (e e′ : Effect) → after (resetting t root e′) (after (resetting t root e) s) ≡ after (resetting t root (both e′ e)) s
-  unfolding after partAfter clockAfter accountsAfter locksAfter logAfter lifted
+  unfolding after partAfter clockAfter accountsAfter locksAfter logAfter registerAfter lifted
   joined root e e′ =
       two root e root e′
       ∙ (λ i. resetBy s t (fun-ext (both-zeroing e′ e root) i) (both-lifting e′ e root Firm i) (fun-ext word i))

@@ -3,6 +3,7 @@ pub mod Past
 pub mod Since
 pub mod Marks
 pub mod Counted
+pub mod Orders
 pub mod Invariant
 pub mod Looked
 pub mod Amounts

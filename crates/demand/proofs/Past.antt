@@ -1,7 +1,7 @@
 -- From what each grant met to what any stretch of the history holds: lists alone, no state. Assumes nothing.
 use Prim.Native.Nat.{ℕ, zero, suc, _+_, _≤_, _<_, zero-le}
 use mathlib.Core.Path.{_≡_, refl}
-use mathlib.Core.Bool.{Bool, true, false}
+use mathlib.Core.Bool.{Bool, true, false, not, cond, _&&_}
 use mathlib.Core.List.{List, [], _∷_, _++_}
 use lib.Dec.{leb}
 use borrow.Author.Tests.{ltb-true, leb-true, lt-ltb}
@@ -12,15 +12,15 @@ use Rattle.rules.specs.declared.Kind.{Kind}
 use Rattle.rules.specs.declared.Kind.the-variants.{Rate, Absolute}
 use Rattle.rules.specs.declared.Rule.{Rule}
 use Rattle.machine.specs.Deeds.{Deed}
-use Rattle.demand.specs.History.{timeOf, amountOf, zeroes, NoneOf}
-use Rattle.demand.specs.Sums.{inStretch, sumIn, Within}
+use Rattle.demand.specs.History.{timeOf, amountOf, isAway, zeroes, NoneOf}
+use Rattle.demand.specs.Sums.{inStretch, sumBy, sumIn, awayIn, grantedIn, Within}
 use Rattle.demand.specs.Locked.{countedIn}
 
--- what a deed adds for a rule found room
+-- what a deed adds for a rule found room, unless it came back from an away market
 unfoldable pub Room : Rule → Deed → List Deed → Type 0
-Room rule deed earlier = 0 < amountOf rule deed → countedIn rule earlier (timeOf deed) + amountOf rule deed ≤ ceiling (rule .limit)
+Room rule deed earlier = isAway deed ≡ false → 0 < amountOf rule deed → countedIn rule earlier (timeOf deed) + amountOf rule deed ≤ ceiling (rule .limit)
 
--- what each deed added found room
+-- what each grant added found room
 unfoldable pub Kept : Rule → List Deed → Type 0
 Kept rule [] = Unit {0}
 Kept rule (deed ∷ earlier) = Room rule deed earlier × Kept rule earlier
@@ -40,7 +40,7 @@ stretch-counts Absolute start u t hu ht = refl
 -- so at any time of a stretch all of it is counted that lies in a part without a reset
 part-counted : (rule : Rule) (part earlier : List Deed) (start t : ℕ) → NoneOf (zeroes (levelOf (rule .scope))) part
     → inStretch (rule .kind) start t ≡ true → sumIn rule start part ≤ countedIn rule (part ++ earlier) t
-unfolding sumIn countedIn NoneOf
+unfolding sumBy countedIn NoneOf
 part-counted rule [] earlier start t none ht = zero-le
 part-counted rule (deed ∷ part) earlier start t none ht =
     go (inStretch (rule .kind) start (timeOf deed)) refl (part-counted rule part earlier start t (none .1) ht)
@@ -50,21 +50,40 @@ part-counted rule (deed ∷ part) earlier start t none ht =
     go true i ih = rw (none .0, i, stretch-counts _ _ _ _ i ht) (omega arith)
     go false i ih = rw (none .0, i) (omega arith)
 
--- the newest deed of a stretch found room beside all the others
+-- the newest grant of a stretch found room beside all that came before
 part-within : (rule : Rule) (part earlier : List Deed) (start : ℕ) → Kept rule (part ++ earlier) → NoneOf (zeroes (levelOf (rule .scope))) part
-    → sumIn rule start part ≤ ceiling (rule .limit)
-unfolding sumIn NoneOf Kept Room
+    → sumIn rule start part ≤ ceiling (rule .limit) + awayIn rule start part
+unfolding sumBy NoneOf Kept Room
 part-within rule [] earlier start k none = zero-le
 part-within rule (deed ∷ part) earlier start k none =
-    go (inStretch (rule .kind) start (timeOf deed)) refl (amountOf rule deed) refl (part-within rule part earlier start (k .1) (none .1))
+    go (isAway deed) refl (inStretch (rule .kind) start (timeOf deed)) refl (amountOf rule deed) refl
+    (part-within rule part earlier start (k .1) (none .1))
   where
-    go : (b : Bool) → inStretch (rule .kind) start (timeOf deed) ≡ b → (n : ℕ) → amountOf rule deed ≡ n
-        → sumIn rule start part ≤ ceiling (rule .limit) → sumIn rule start (deed ∷ part) ≤ ceiling (rule .limit)
-    go false i n e ih = rw i (omega arith)
-    go true i zero e ih = rw i (omega arith)
-    go true i (suc n) e ih = rw i (omega (arith, k .0 (omega arith), part-counted rule part earlier start (timeOf deed) (none .1) i))
+    go : (away : Bool) → isAway deed ≡ away → (b : Bool) → inStretch (rule .kind) start (timeOf deed) ≡ b → (n : ℕ) → amountOf rule deed ≡ n
+        → sumIn rule start part ≤ ceiling (rule .limit) + awayIn rule start part
+        → sumIn rule start (deed ∷ part) ≤ ceiling (rule .limit) + awayIn rule start (deed ∷ part)
+    go true ea b i n e ih = rw ea (omega arith)
+    go false ea false i n e ih = rw (i, ea) (omega arith)
+    go false ea true i zero e ih = rw (i, ea) (omega arith)
+    go false ea true i (suc n) e ih =
+        rw (i, ea) (omega (arith, k .0 ea (omega arith), part-counted rule part earlier start (timeOf deed) (none .1) i))
+
+-- what was filled is what was granted and what came back
+sum-both : (rule : Rule) (start : ℕ) (part : List Deed) → sumIn rule start part ≡ grantedIn rule start part + awayIn rule start part
+unfolding sumBy
+sum-both rule start [] = refl
+sum-both rule start (deed ∷ part) = go (isAway deed) (inStretch (rule .kind) start (timeOf deed)) (sum-both rule start part)
+  where
+    go : (away b : Bool) → sumIn rule start part ≡ grantedIn rule start part + awayIn rule start part
+        → cond b (amountOf rule deed) 0 + sumIn rule start part
+        ≡ cond (not away && b) (amountOf rule deed) 0 + grantedIn rule start part + (cond (away && b) (amountOf rule deed) 0 + awayIn rule start part)
+    go true true ih = omega arith
+    go true false ih = omega arith
+    go false true ih = omega arith
+    go false false ih = omega arith
 
 pub kept-within : (rule : Rule) (deeds : List Deed) → Kept rule deeds → Within rule deeds
 unfolding Within
 kept-within rule deeds k later part earlier e none start =
-    part-within rule part earlier start (kept-part rule later (part ++ earlier) (rw e at k)) none
+    let all = part-within rule part earlier start (kept-part rule later (part ++ earlier) (rw e at k)) none in
+    (all, omega (arith, all, sum-both rule start part))

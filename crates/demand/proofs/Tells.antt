@@ -16,17 +16,21 @@ use Rattle.rules.specs.declared.Level.{Level}
 use Rattle.rules.specs.declared.Level.the-variants.{Firm, Root}
 use Rattle.rules.specs.declared.Rule.{Rule}
 use Rattle.rules.specs.declared.Account.{Account}
+use Rattle.rules.proofs.Held.{held-left}
 use Rattle.machine.specs.State.{Profile, Locks, State, cellsOf, rulesIn, ruleOf}
 use Rattle.machine.specs.declared.Offer.{Offer}
-use Rattle.machine.specs.Deeds.{granted, Deed}
+use Rattle.machine.specs.declared.Sent.{Sent}
+use Rattle.machine.specs.Deeds.{Source, granted, Deed}
 use Rattle.machine.specs.Locks.{isTripped, isByUser, isLocked, verdictOf}
 use Rattle.machine.specs.Offers.{grantOf}
 use Rattle.machine.specs.Remaining.{noAccount, ruleAt, Asked, cellAt, accountAt, accountFor, leftOf, standing}
-use Rattle.machine.specs.Judge.{grantedSo, offered}
+use Rattle.machine.specs.Register.{isOpen, fillOf}
+use Rattle.machine.specs.Judge.{filled, offered}
 use Rattle.machine.proofs.Cells.{cell-place}
+use Rattle.demand.specs.Away.{fillIn}
 use Rattle.demand.specs.History.{lifts}
 use Rattle.demand.specs.Locked.{countedIn, locks, locksOut, ruleTrips}
-use Rattle.demand.specs.Answers.{trippedIn, byUserIn, lockedIn, verdictIn, one, standingIn, grantedAnswer, offerAnswer, leftIn}
+use Rattle.demand.specs.Answers.{trippedIn, byUserIn, lockedIn, verdictIn, one, standingIn, filledAnswer, offerAnswer, leftIn}
 use Rattle.demand.proofs.Lists.{all-get, get-map}
 use Rattle.demand.proofs.Since.{since-or}
 use Rattle.demand.proofs.Invariant.{Right, Inv}
@@ -93,31 +97,33 @@ module _ (p : Profile) (s : State) (h : List Deed) (i : Inv p s h) where
         lowest = first-ext (either (locks-now .tripped) (locks-now .byUser)) (λ r. one (lockedIn (p .rules) (Root r) h)) 64 (λ r l. locked-bit r) j;
       }
 
-  -- the grant, with its trips
-  granted-same : (o : Offer) (grant : ℕ) → In units (o .unit) → s .part .clock ≤ o .time
-      → grantedSo s o grant .answer ≡ grantedAnswer (p .rules) h o grant
-  unfolding grantedSo grantedAnswer
-  granted-same o grant known le =
-      rw (trips-same p s h i o known granted grant (Root (o .root)) le, trips-same p s h i o known granted grant Firm le)
+  -- a fill, with its trips
+  pub filled-same : (source : Source) (o : Offer) (n : ℕ) → In units (o .unit) → s .part .clock ≤ o .time
+      → filled s source o n .answer ≡ filledAnswer (p .rules) h source o n
+  unfolding filled filledAnswer
+  filled-same source o n known le =
+      rw (trips-same p s h i o known source n (Root (o .root)) le, trips-same p s h i o known source n Firm le)
 
   pub offered-same : (o : Offer) (verdict : ℕ) → In units (o .unit) → s .part .clock ≤ o .time
       → offered s o verdict .answer ≡ offerAnswer (p .rules) h o verdict
   unfolding offered offerAnswer
   offered-same o zero known le =
-      granted-same o (grantOf (s .log) o accounts) known le ∙ ap (grantedAnswer (p .rules) h o) (grant-same p s h i o known le)
+      filled-same granted o (grantOf (s .log) o accounts) known le ∙ ap (filledAnswer (p .rules) h granted o) (grant-same p s h i o known le)
   offered-same o (suc verdict) known le = refl
 
   -- the account that Remaining asks for counts what the deeds have for its rule on its unit
   asked-cell : (time cell : ℕ) (rule : Rule) → s .part .clock ≤ time → cell < length accounts → getD (cellsOf (p .rules)) cell (noAccount .rule) ≡ rule
       → leftOf s time (accountAt accounts cell) ≡ ceiling (rule .limit) - countedIn rule h time
-  unfolding leftOf accountAt Right
+  unfolding leftOf accountAt
   asked-cell time cell rule le low is =
       let a = getD accounts cell noAccount in
       let which : a .rule ≡ rule =
       get-map ruleOf accounts cell noAccount ∙ (ap (λ (rules : List Rule). getD rules cell (noAccount .rule)) (i .same) ∙ is)
       in
-      ap (λ (n : ℕ). ceiling (a .rule .limit) - n) (all-get (Right s h) accounts cell noAccount low (i .right) time le)
-      ∙ ap (λ (r : Rule). ceiling (r .limit) - countedIn r h time) which
+      let right : Right s h a = all-get (Right s h) accounts cell noAccount low (i .right) in
+      ap (λ (n : ℕ). ceiling (a .rule .limit) - n) (right .counts time le)
+      ∙ (held-left (ceiling (a .rule .limit)) (right .low) (a .rule .kind) (countedIn (a .rule) h time)
+      ∙ ap (λ (r : Rule). ceiling (r .limit) - countedIn r h time) which)
 
   -- what remains
   pub left-same : (time rule unit : ℕ) → s .part .clock ≤ time → Asked (rulesIn s) rule unit
@@ -129,3 +135,10 @@ module _ (p : Profile) (s : State) (h : List Deed) (i : Inv p s h) where
       ap (λ (q : Profile). leftOf s time (accountAt accounts (cellAt (q .rules) rule unit))) (i .profile)
       ∙ asked-cell time (cellAt (p .rules) rule unit) (ofUnit (ruleAt (p .rules) rule) unit) le
       (rw (← (length-map accounts ruleOf), i .same) (at .0)) (at .1)
+
+  -- a report counts as the fill that the deeds tell
+  pub fill-same : (time identity n : ℕ) → isOpen (s .part .register) identity ≡ true
+      → fillOf (s .part .register) time identity n ≡ fillIn h time identity n
+  unfolding fillOf fillIn
+  fill-same time identity n o =
+      ap (λ (sent : Sent). record { time = time; root = sent .root; unit = sent .unit; premium = sent .premium .0; contracts = n }) (i .orders identity o)

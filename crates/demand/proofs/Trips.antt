@@ -16,7 +16,7 @@ use Rattle.machine.specs.State.{Profile, State}
 use Rattle.machine.specs.declared.Offer.{Offer}
 use Rattle.machine.specs.declared.Effect.{Effect}
 use Rattle.machine.specs.Effects.{lifting}
-use Rattle.machine.specs.Deeds.{Deed, nothing, passing, filling, resetting, lockingOut}
+use Rattle.machine.specs.Deeds.{Source, Deed, nothing, passing, filling, resetting, lockingOut, sending, closing}
 use Rattle.machine.specs.Locks.{isTripped, isByUser}
 use Rattle.machine.specs.Offers.{coversOffer, sameLevel, levelTrips}
 use Rattle.machine.specs.Step.{locksAfter}
@@ -32,7 +32,7 @@ module _ (p : Profile) (s : State) (h : List Deed) (i : Inv p s h) where
   abbrev accounts : List Account
   accounts = s .part .accounts
 
-  -- only a grant trips rules
+  -- only a fill trips rules
   no-trip : (level : Level) (deed : Deed) → ((rule : Rule) → tripsOn rule deed h ≡ false) → ruleTrips (p .rules) level deed h ≡ false
   unfolding ruleTrips
   no-trip level deed none =
@@ -55,10 +55,10 @@ module _ (p : Profile) (s : State) (h : List Deed) (i : Inv p s h) where
   other-root o (WholeRoot q) r f = never (eqb q r) (eqb q (o .root)) (apart o q r f)
   other-root o (OneUnit q u) r f = never (eqb q r) (eqb q (o .root) && eqb u (o .unit)) (λ e. rw (apart o q r f e))
 
-  -- so an offer trips no other root than its own
-  trips-only : (o : Offer) (n : ℕ) → Only (o .root) (levelTrips (s .log) o n accounts)
+  -- so a fill trips no other root than its own
+  trips-only : (source : Source) (o : Offer) (n : ℕ) → Only (o .root) (levelTrips source (s .log) o n accounts)
   unfolding levelTrips coversOffer
-  trips-only o n r f = any-none _ (λ (a : Account). rw (other-root o (a .rule .scope) r f)) accounts
+  trips-only source o n r f = any-none _ (λ (a : Account). rw (other-root o (a .rule .scope) r f)) accounts
 
   -- a reset lifts the locks of no other root than its order's
   lifting-only : (effect : Effect) (root : ℕ) → Only root (lifting effect root)
@@ -72,13 +72,15 @@ module _ (p : Profile) (s : State) (h : List Deed) (i : Inv p s h) where
   tripped-after nothing level m = rw (no-trip level nothing (λ rule. refl))
   tripped-after (passing time) level m = rw (no-trip level (passing time) (λ rule. refl))
   tripped-after (filling source o n) level m =
-      tripped-tripped (s .part .locks) (o .root) (levelTrips (s .log) o n accounts) (trips-only o n) level
+      tripped-tripped (s .part .locks) (o .root) (levelTrips source (s .log) o n accounts) (trips-only source o n) level
       ∙ rw (trips-same p s h i o (m .unit) source n level (m .time .after))
   tripped-after (resetting time root effect) level m =
       rw (no-trip level (resetting time root effect) (λ rule. refl))
       (lifted-tripped (s .part .locks) root (lifting effect root) (lifting-only effect root) level)
   tripped-after (lockingOut time named) level m =
       rw (no-trip level (lockingOut time named) (λ rule. refl)) (lockedOut-tripped (s .part .locks) named level)
+  tripped-after (sending time sent) level m = rw (no-trip level (sending time sent) (λ rule. refl))
+  tripped-after (closing time identity) level m = rw (no-trip level (closing time identity) (λ rule. refl))
 
   pub byUser-after : (deed : Deed) (level : Level)
       → isByUser (locksAfter deed s) level ≡ (not (lifts level deed) && (locksOut level deed || isByUser (s .part .locks) level))
@@ -86,7 +88,9 @@ module _ (p : Profile) (s : State) (h : List Deed) (i : Inv p s h) where
   byUser-after nothing level = refl
   byUser-after (passing time) level = refl
   byUser-after (filling source o n) level =
-      tripped-byUser (s .part .locks) (o .root) (levelTrips (s .log) o n accounts) (trips-only o n) level
+      tripped-byUser (s .part .locks) (o .root) (levelTrips source (s .log) o n accounts) (trips-only source o n) level
   byUser-after (resetting time root effect) level =
       lifted-byUser (s .part .locks) root (lifting effect root) (lifting-only effect root) level
   byUser-after (lockingOut time named) level = lockedOut-byUser (s .part .locks) named level
+  byUser-after (sending time sent) level = refl
+  byUser-after (closing time identity) level = refl

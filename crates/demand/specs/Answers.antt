@@ -16,11 +16,12 @@ use Rattle.machine.specs.Judge.{isRefusal}
 use Rattle.machine.specs.declared.Answer.the-variants.{Refused, Judged, Left, Standing as Stand}
 use Rattle.machine.specs.declared.Offer.{Offer}
 use Rattle.machine.specs.Effects.{effectOf}
-use Rattle.machine.specs.Calls.{Call, order, lockout, offer, remaining, status}
-use Rattle.machine.specs.Deeds.{granted, Deed, filling, resetting, clockAfter}
+use Rattle.machine.specs.Calls.{Call, order, lockout, offer, remaining, status, send, report, close}
+use Rattle.machine.specs.Deeds.{Source, granted, reported, Deed, filling, resetting, clockAfter}
 use Rattle.machine.specs.Offers.{coversOffer}
 use Rattle.machine.specs.Remaining.{ruleAt}
 use Rattle.demand.specs.Run.{Event}
+use Rattle.demand.specs.Away.{sends, closes, fillIn}
 use Rattle.demand.specs.History.{deedOf, deedsOf, contractsOf, lifts}
 use Rattle.demand.specs.Locked.{countedIn, locksOut, ruleTrips, locks}
 
@@ -40,6 +41,10 @@ byUserIn level deeds = since (lifts level) (λ deed earlier. locksOut level deed
 -- a level is locked: `LockedBy` as a test
 abbrev pub lockedIn : List Rule → Level → List Deed → Bool
 lockedIn rules level deeds = since (lifts level) (locks rules level) deeds
+
+-- an order of an identity is open: one was sent, and none since has closed it
+abbrev pub openIn : ℕ → List Deed → Bool
+openIn identity deeds = since (closes identity) (λ deed earlier. sends identity deed) deeds
 
 -- 1 if the firm is locked, else 2 if the root is, else 0
 unfoldable pub verdictIn : List Rule → ℕ → List Deed → ℕ
@@ -66,14 +71,14 @@ standingIn rules deeds = record {
   lowest = first (λ r. one (lockedIn rules (Root r) deeds)) 64;
 }
 
--- a grant, with its trips
-unfoldable pub grantedAnswer : List Rule → List Deed → Offer → ℕ → Answer
-grantedAnswer rules deeds o grant =
-    Judged 0 grant (ruleTrips rules (Root (o .root)) (filling granted o grant) deeds) (ruleTrips rules Firm (filling granted o grant) deeds)
+-- a fill, granted or reported, with its trips
+unfoldable pub filledAnswer : List Rule → List Deed → Source → Offer → ℕ → Answer
+filledAnswer rules deeds source o n =
+    Judged 0 n (ruleTrips rules (Root (o .root)) (filling source o n) deeds) (ruleTrips rules Firm (filling source o n) deeds)
 
 -- an offer by its verdict: granted, or locked out
 unfoldable pub offerAnswer : List Rule → List Deed → Offer → ℕ → Answer
-offerAnswer rules deeds o zero = grantedAnswer rules deeds o (grantIn deeds o rules)
+offerAnswer rules deeds o zero = filledAnswer rules deeds granted o (grantIn deeds o rules)
 offerAnswer rules deeds o (suc verdict) = Judged (suc verdict) 0 false false
 
 -- what remains of a rule's limit on a unit: the limit less what counts there, 0 if more counts
@@ -88,8 +93,11 @@ answerIn rules deeds (lockout time level root) = Judged 0 0 false false
 answerIn rules deeds (offer o) = offerAnswer rules deeds o (verdictIn rules (o .root) deeds)
 answerIn rules deeds (remaining time rule unit) = Left (leftIn (ruleAt rules rule) unit deeds time)
 answerIn rules deeds status = Stand (standingIn rules deeds)
+answerIn rules deeds (send o identity reports) = Judged (verdictIn rules (o .root) deeds) 0 false false
+answerIn rules deeds (report time identity n) = filledAnswer rules deeds (reported identity) (fillIn deeds time identity n) n
+answerIn rules deeds (close time identity) = Judged 0 0 false false
 
--- the contracts that an answer grants
+-- the contracts that an answer has as its grant
 unfoldable pub grantedBy : Answer → ℕ
 grantedBy (Refused n) = 0
 grantedBy (Judged verdict grant roottrip firmtrip) = grant
@@ -103,6 +111,9 @@ setsTo (lockout time level root) clock = time
 setsTo (offer o) clock = o .time
 setsTo (remaining time rule unit) clock = clock
 setsTo status clock = clock
+setsTo (send o identity reports) clock = o .time
+setsTo (report time identity n) clock = time
+setsTo (close time identity) clock = time
 
 -- the clock that a history leaves
 unfoldable pub clockOf : List Event → ℕ
@@ -116,9 +127,9 @@ pub record Told (rules : List Rule) (event : Event) (deeds : List Deed) : Type 0
   -- it sets the clock, unless it was refused
   pub timed :
       (clock : ℕ)
-      → clockAfter (deedOf (event .call) (event .answer)) clock ≡ cond (isRefusal (event .answer)) clock (setsTo (event .call) clock)
-  -- what it granted is in the deeds that are summed
-  pub summed : contractsOf (deedOf (event .call) (event .answer)) ≡ grantedBy (event .answer)
+      → clockAfter (deedOf deeds (event .call) (event .answer)) clock ≡ cond (isRefusal (event .answer)) clock (setsTo (event .call) clock)
+  -- what it answered as grant is in the deeds that are summed
+  pub summed : contractsOf (deedOf deeds (event .call) (event .answer)) ≡ grantedBy (event .answer)
 
 -- each event of a history, with what was done before it
 unfoldable pub Each : (Event → List Deed → Type 0) → List Event → Type 0

@@ -1,4 +1,5 @@
 pub mod Run
+pub mod Away
 pub mod History
 pub mod Sums
 pub mod Locked

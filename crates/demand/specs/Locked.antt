@@ -6,11 +6,10 @@ use mathlib.Core.List.{List, [], _∷_, _++_}
 use Rattle.laws.specs.Folds.{anyOf}
 use Rattle.rules.specs.Rules.{levelOf, counts}
 use Rattle.rules.specs.Units.{ofUnit}
-use Rattle.rules.specs.Allowance.{trips}
 use Rattle.rules.specs.declared.Level.{Level}
 use Rattle.rules.specs.declared.Rule.{Rule}
-use Rattle.machine.specs.Deeds.{Deed, nothing, passing, filling, resetting, lockingOut}
-use Rattle.machine.specs.Offers.{coversOffer, sameLevel}
+use Rattle.machine.specs.Deeds.{Deed, nothing, passing, filling, resetting, lockingOut, sending, closing}
+use Rattle.machine.specs.Offers.{coversOffer, sameLevel, tripsBy}
 use Rattle.demand.specs.History.{timeOf, amountOf, zeroes, lifts, NoneOf}
 
 -- what counts for a rule at a time: what was filled since the last reset that zeroed its level, and is still inside its window; of a rule that
@@ -26,9 +25,11 @@ unfoldable pub tripsOn : Rule → Deed → List Deed → Bool
 tripsOn rule nothing earlier = false
 tripsOn rule (passing time) earlier = false
 tripsOn rule (filling source o n) earlier =
-    coversOffer o rule && trips rule (countedIn (ofUnit rule (o .unit)) earlier (o .time)) (o .premium) (o .contracts) n
+    coversOffer o rule && tripsBy source o n rule (countedIn (ofUnit rule (o .unit)) earlier (o .time))
 tripsOn rule (resetting time root effect) earlier = false
 tripsOn rule (lockingOut time level) earlier = false
+tripsOn rule (sending time sent) earlier = false
+tripsOn rule (closing time identity) earlier = false
 
 -- a deed is a lockout of a level
 unfoldable pub locksOut : Level → Deed → Bool
@@ -37,6 +38,8 @@ locksOut level (passing time) = false
 locksOut level (filling source o n) = false
 locksOut level (resetting time root effect) = false
 locksOut level (lockingOut time other) = sameLevel other level
+locksOut level (sending time sent) = false
+locksOut level (closing time identity) = false
 
 -- one of a level's rules trips on a deed: on whichever unit that is, it is the whole level that is locked
 unfoldable pub ruleTrips : List Rule → Level → Deed → List Deed → Bool

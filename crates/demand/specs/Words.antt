@@ -7,7 +7,7 @@ use mathlib.Core.List.{List, _∷_, map, List·Memᴰ}
 use Rattle.laws.specs.Folds.{keep}
 use Rattle.bits.specs.Locks.{count}
 use Rattle.bits.specs.declared.Standing.{Standing}
-use Rattle.rules.specs.Rules.{levelOf}
+use Rattle.rules.specs.Rules.{levelOf, ceiling}
 use Rattle.rules.specs.Units.{ofUnit}
 use Rattle.rules.specs.Allowance.{Largest, KeepsAll}
 use Rattle.rules.specs.declared.Level.{Level}
@@ -18,11 +18,12 @@ use Rattle.machine.specs.declared.Answer.{Answer}
 use Rattle.machine.specs.declared.Answer.the-variants.{Judged, Left, Standing as Stand}
 use Rattle.machine.specs.declared.Offer.{Offer}
 use Rattle.machine.specs.Effects.{effectOf}
-use Rattle.machine.specs.Calls.{Call, order, lockout, offer, remaining, status}
-use Rattle.machine.specs.Deeds.{granted, Deed, filling, resetting}
+use Rattle.machine.specs.Calls.{Call, order, lockout, offer, remaining, status, send, report, close}
+use Rattle.machine.specs.Deeds.{granted, reported, Deed, filling, resetting}
 use Rattle.machine.specs.Offers.{coversOffer}
 use Rattle.machine.specs.Remaining.{ruleAt}
 use Rattle.demand.specs.Run.{Event}
+use Rattle.demand.specs.Away.{sentIn, fillIn}
 use Rattle.demand.specs.History.{lifts}
 use Rattle.demand.specs.Locked.{countedIn, tripsOn, locksOut, ruleTrips, Since, LockedBy}
 use Rattle.demand.specs.Answers.{one, leftIn}
@@ -99,6 +100,33 @@ pub record Words (rules : List Rule) (event : Event) (deeds : List Deed) : Type 
   pub firmTrips :
       {o : Offer} {grant : ℕ} {roottrip firmtrip : Bool} → event ≡ (offer o answered Judged 0 grant roottrip firmtrip)
       → (firmtrip ≡ true) ↔ TripsBy rules Firm (filling granted o grant) deeds
+  -- where something is granted, all that each of these rules then counts on the offer's unit, reports included, is within its limit
+  pub within :
+      {o : Offer} {grant : ℕ} {roottrip firmtrip : Bool} → event ≡ (offer o answered Judged 0 grant roottrip firmtrip) → 0 < grant
+      → (rule : Rule) → List·Memᴰ rule rules → coversOffer o rule ≡ true
+      → countedIn (ofUnit rule (o .unit)) (filling granted o grant ∷ deeds) (o .time) ≤ ceiling (rule .limit)
+  -- an order sent away is judged as an order without reset is, with grant 0 and no trips
+  pub sendings :
+      {o : Offer} {identity reports verdict grant : ℕ} {roottrip firmtrip : Bool}
+      → event ≡ (send o identity reports answered Judged verdict grant roottrip firmtrip)
+      → VerdictBy rules (o .root) deeds verdict × Nothing grant roottrip firmtrip
+  -- a report has verdict 0, locked or not, and its contracts as grant
+  pub reports :
+      {time identity n verdict grant : ℕ} {roottrip firmtrip : Bool}
+      → event ≡ (report time identity n answered Judged verdict grant roottrip firmtrip) → (verdict ≡ 0) × (grant ≡ n)
+  -- and the two trips are exactly those that it brings on, at the root, unit and premium that were sent
+  pub reportRootTrips :
+      {time identity n verdict grant : ℕ} {roottrip firmtrip : Bool}
+      → event ≡ (report time identity n answered Judged verdict grant roottrip firmtrip)
+      → (roottrip ≡ true) ↔ TripsBy rules (Root (sentIn identity deeds .root)) (filling (reported identity) (fillIn deeds time identity n) n) deeds
+  pub reportFirmTrips :
+      {time identity n verdict grant : ℕ} {roottrip firmtrip : Bool}
+      → event ≡ (report time identity n answered Judged verdict grant roottrip firmtrip)
+      → (firmtrip ≡ true) ↔ TripsBy rules Firm (filling (reported identity) (fillIn deeds time identity n) n) deeds
+  -- a closing has verdict 0, grant 0 and no trips
+  pub closings :
+      {time identity verdict grant : ℕ} {roottrip firmtrip : Bool}
+      → event ≡ (close time identity answered Judged verdict grant roottrip firmtrip) → (verdict ≡ 0) × Nothing grant roottrip firmtrip
   -- what remains is the limit less what counts for the rule on the unit asked for, 0 if more counts
   pub remains : {time rule unit left : ℕ} → event ≡ (remaining time rule unit answered Left left) → left ≡ leftIn (ruleAt rules rule) unit deeds time
   -- Status' four numbers

@@ -5,7 +5,7 @@ use mathlib.Core.Bool.{Bool, true, false, cond, not, _&&_, false≢true}
 use mathlib.Core.List.{List}
 use lib.ListN.{length}
 use lib.Dec.{eqb}
-use Rattle.rules.specs.Rules.{covers, isRate, added, ceiling, levelOf}
+use Rattle.rules.specs.Rules.{covers, isRate, added, ceiling, levelOf, held}
 use Rattle.rules.specs.Amounts.{numberOf, amountIn, isOf}
 use Rattle.rules.specs.declared.Level.{Level}
 use Rattle.rules.specs.declared.Rule.{Rule}
@@ -21,6 +21,7 @@ use Rattle.state.specs.State.{stored, decode}
 use Rattle.state.specs.Laid.{accountIn, withTotal}
 use Rattle.state.proofs.Done.{isMeasured, Fair, changeAt}
 use Rattle.grant.specs.Grant.{concerns, fills, areTotals}
+use Rattle.rules.specs.declared.Kind.the-variants.{Absolute}
 
 -- a rule, as the code finds it: whether it is absolute, and whether it covers the offer
 module _ (o : Offer) (grant : ℕ) (a : Account) {rule : Rule} {x y : Bool} (is : rule ≡ a .rule) (absolute : x ≡ not (isRate (rule .kind)))
@@ -42,7 +43,7 @@ module _ (o : Offer) (grant : ℕ) (a : Account) {rule : Rule} {x y : Bool} (is 
   pub credited-off : not (x && y) ≡ true → credited o grant a ≡ a
   unfolding credited
   credited-off out =
-      λ k. record { rule = a .rule; total = go (isRate (a .rule .kind)) (coversOffer o (a .rule)) (a .total) (amountIn (a .rule .limit) (numberOf (a .total) + added (a .rule .limit) (o .premium) grant)) (both false out) k }
+      λ k. record { rule = a .rule; total = go (isRate (a .rule .kind)) (coversOffer o (a .rule)) (a .total) (amountIn (a .rule .limit) (held Absolute (numberOf (a .total) + added (a .rule .limit) (o .premium) grant))) (both false out) k }
     where
       go : (r i : Bool) (t n : Amount) → (not r && i) ≡ false → cond r t (cond i n t) ≡ t
       go true i t n h = refl
@@ -60,11 +61,11 @@ module _ (o : Offer) (grant : ℕ) (a : Account) {rule : Rule} {x y : Bool} (is 
       go false i r n h = refl
 
   -- an absolute rule that covers the offer
-  pub credited-on : not (x && y) ≡ false → credited o grant a .total ≡ amountIn (a .rule .limit) (numberOf (a .total) + added (a .rule .limit) (o .premium) grant)
+  pub credited-on : not (x && y) ≡ false → credited o grant a .total ≡ amountIn (a .rule .limit) (held Absolute (numberOf (a .total) + added (a .rule .limit) (o .premium) grant))
   unfolding credited
   credited-on h =
       go (isRate (a .rule .kind)) (coversOffer o (a .rule)) (a .total)
-      (amountIn (a .rule .limit) (numberOf (a .total) + added (a .rule .limit) (o .premium) grant)) (both true h)
+      (amountIn (a .rule .limit) (held Absolute (numberOf (a .total) + added (a .rule .limit) (o .premium) grant))) (both true h)
     where
       go : (r i : Bool) (t n : Amount) → (not r && i) ≡ true → cond r t (cond i n t) ≡ n
       go true i t n h = absurd (false≢true h)
@@ -90,11 +91,11 @@ module _ (o : Offer) (grant : ℕ) where
   same-measure a h = go (isRate (a .rule .kind)) (coversOffer o (a .rule))
     where
       more : Amount
-      more = amountIn (a .rule .limit) (numberOf (a .total) + added (a .rule .limit) (o .premium) grant)
+      more = amountIn (a .rule .limit) (held Absolute (numberOf (a .total) + added (a .rule .limit) (o .premium) grant))
 
       go : (r i : Bool) → isOf (a .rule .limit) (cond r (a .total) (cond i more (a .total))) ≡ true
       go true i = h
-      go false true = of-in (a .rule .limit) (numberOf (a .total) + added (a .rule .limit) (o .premium) grant)
+      go false true = of-in (a .rule .limit) (held Absolute (numberOf (a .total) + added (a .rule .limit) (o .premium) grant))
       go false false = h
 
   pub credit-fair : Fair (credited o grant)

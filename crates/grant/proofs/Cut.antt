@@ -67,7 +67,7 @@ module _ (o : Offer) (a : Account) {rule : Rule} {b : Bool} (is : rule ≡ a .ru
   unfolding coversOffer
   found = test ∙ ap (λ (r : Rule). covers (r .scope) (o .root) (o .unit)) is
 
-  concerns-off : (level : Level) → not b ≡ true → concerns o level a ≡ false
+  pub concerns-off : (level : Level) → not b ≡ true → concerns o level a ≡ false
   unfolding concerns
   concerns-off level out =
       let same = sameLevel (levelOf (a .rule .scope)) level in

@@ -18,7 +18,7 @@ use Rattle.state.specs.Laid.{Fits, withLog}
 use Rattle.machine.specs.declared.Offer.{Offer}
 use Rattle.machine.proofs.Lists.{every-keep, every-join}
 use Rattle.grant.specs.Grant.{Asked, HasRoom}
-use Rattle.grant.proofs.Windows.{rate-longest}
+use Rattle.machine.proofs.Windows.{rate-longest}
 
 -- whether a fill joins the log, by the longest window
 module _ (s : State) (f : Fits s) {window : ℕ} (is : window ≡ longest (rulesIn s)) where
@@ -81,6 +81,8 @@ fits-joined {o = o} {grant = grant} s f a r most room = go (hasRate (rulesIn s))
           fitting = f .fitting;
           measured = f .measured;
           valid = f .valid;
+          few = f .few;
+          sent = f .sent;
           entries =
               every-join (isEntry (rootsIn s)) kept (entryOf o grant) (every-keep (isEntry (rootsIn s)) _ (s .log) (f .entries))
               (entry-in (rootsIn s) a r pos most);

@@ -1,6 +1,7 @@
 pub mod Cut
-pub mod Windows
 pub mod Trip
+pub mod Tested
+pub mod Reports
 pub mod Credits
 pub mod Accounts
 pub mod Joined

@@ -18,10 +18,11 @@ use Rattle.rules.specs.declared.Account.{Account}
 use Rattle.machine.specs.declared.Entry.{Entry}
 use Rattle.machine.specs.Entries.{entryShare}
 use Rattle.laws.specs.Folds.{sumOf, anyOf}
-use Rattle.machine.specs.Offers.{counted, coversOffer, sameLevel, grantOf, levelTrips}
+use Rattle.machine.specs.Offers.{counted, coversOffer, sameLevel, grantOf, levelTrips, tripsBy}
 use Rattle.machine.specs.declared.Offer.{Offer}
 use Rattle.grant.specs.Grant.{concerns, allowedBy, lowered, leastAt, fills, reachedAt}
 use Rattle.grant.proofs.Cut.{level-of, lowered-le}
+use Rattle.machine.specs.Deeds.{granted}
 
 module _ (log : List Entry) (o : Offer) where
   -- one rule: what it leaves of the grant is what it leaves of the lesser cut
@@ -119,9 +120,9 @@ module _ (log : List Entry) (o : Offer) (grant : ℕ) where
 
   -- A LEVEL TRIPS if one of its absolute rules is filled, or if the grant is below the offer and is what the level allows
   pub level-trips : (accounts : List Account) (level : Level) → grant ≤ leastAt log o accounts level
-      → levelTrips log o grant accounts level
+      → levelTrips granted log o grant accounts level
       ≡ (reachedAt o grant accounts level || (ltb grant (o .contracts) && eqb (leastAt log o accounts level) grant))
-  unfolding levelTrips reachedAt concerns
+  unfolding levelTrips tripsBy reachedAt concerns
   level-trips accounts level h =
       any-either (concerns o level) cutBy (fills o grant) (λ a. trips (a .rule) (counted log (o .time) a) (o .premium) (o .contracts) grant) trips-so accounts
       ∙ ap (λ (b : Bool). reachedAt o grant accounts level || b) (level-cut accounts level h)

@@ -1,5 +1,6 @@
--- What each level allows of an offer, which absolute rules it fills, and what the functions ask of a memory and an offer. Assumes nothing.
-use Prim.Native.Nat.{ℕ, _+_, _<_, min}
+-- What each level allows of an offer, which absolute rules it fills, which levels a report trips, and what the functions ask of a memory and an
+-- offer. Assumes nothing.
+use Prim.Native.Nat.{ℕ, _+_, _≤_, _<_, min}
 use mathlib.Core.Path.{_≡_}
 use mathlib.Core.Bool.{Bool, true, false, cond, _&&_, _||_}
 use mathlib.Core.List.{List, [], _∷_, map}
@@ -8,7 +9,7 @@ use lib.Dec.{eqb}
 use Rattle.measures.specs.Ranges.{In, times, units, premiums, offers}
 use Rattle.rules.specs.Amounts.{numberOf}
 use Rattle.rules.specs.Rules.{levelOf, isRate, added, ceiling}
-use Rattle.rules.specs.Allowance.{allowance}
+use Rattle.rules.specs.Allowance.{allowance, overruns}
 use Rattle.rules.specs.declared.Level.{Level}
 use Rattle.rules.specs.declared.Level.the-variants.{Firm, Root}
 use Rattle.rules.specs.declared.Account.{Account}
@@ -21,8 +22,10 @@ use Rattle.machine.specs.Offers.{counted, coversOffer, sameLevel, grantOf, leve
 use Rattle.state.specs.State.{stored, decode}
 use Rattle.state.specs.Laid.{Laid, accountIn, withClock, withLocks, withAccounts}
 use Rattle.locks.specs.Locks.{tripping}
+use Rattle.register.specs.Register.{sentIn}
 use Rattle.machine.specs.declared.Offer.{Offer}
-use Rattle.machine.specs.Deeds.{granted, filling}
+use Rattle.machine.specs.Deeds.{granted, reported, filling}
+use Rattle.machine.specs.Register.{areDifferent}
 use Rattle.machine.specs.Locks.{trippedBy}
 use Rattle.machine.specs.Step.{after}
 use Rattle.grant.specs.declared.Cuts.{Cuts}
@@ -45,6 +48,10 @@ lowered log o level a n = cond (concerns o level a) (min (allowedBy log o a) n) 
 unfoldable pub leastAt : List Entry → Offer → List Account → Level → ℕ
 leastAt log o [] level = o .contracts
 leastAt log o (a ∷ rest) level = lowered log o level a (leastAt log o rest level)
+
+-- a rule of this level that covers the report and whose limit is passed after it
+unfoldable pub overrunAt : List Entry → Offer → Level → Account → Bool
+overrunAt log o level a = concerns o level a && overruns (a .rule) (counted log (o .time) a) (o .premium) (o .contracts)
 
 -- an absolute rule whose total after the grant equals its limit
 unfoldable pub fills : Offer → ℕ → Account → Bool
@@ -79,6 +86,16 @@ pub record AreCuts (xs : List ℕ) (o : Offer) (cuts : Cuts) : Type 0 where
   pub root : cuts .root ≡ leastAt (decode xs .log) o (decode xs .part .accounts) (Root (o .root))
   pub firm : cuts .firm ≡ leastAt (decode xs .log) o (decode xs .part .accounts) Firm
 
+-- what account i adds to the trips of a report
+pub record Overrun (xs : List ℕ) (o : Offer) (i : ℕ) (before after : Trips) : Type 0 where
+  pub root : after .root ≡ (before .root || overrunAt (decode xs .log) o (Root (o .root)) (accountIn xs i))
+  pub firm : after .firm ≡ (before .firm || overrunAt (decode xs .log) o Firm (accountIn xs i))
+
+-- the levels that a report of all the offer's contracts trips, for whichever order it is
+pub record AreTrips (xs : List ℕ) (o : Offer) (trips : Trips) : Type 0 where
+  pub root : (identity : ℕ) → trips .root ≡ levelTrips (reported identity) (decode xs .log) o (o .contracts) (decode xs .part .accounts) (Root (o .root))
+  pub firm : (identity : ℕ) → trips .firm ≡ levelTrips (reported identity) (decode xs .log) o (o .contracts) (decode xs .part .accounts) Firm
+
 -- account i of a memory is credited with a grant, and after tells whether it, or one before, stands at its limit
 pub record Credited (o : Offer) (grant i : ℕ) (xs ys : List ℕ) (before after : Reached) : Type 0 where
   pub memory : ys ≡ stored (withAccounts (decode xs) (set (decode xs .part .accounts) i (credited o grant (accountIn xs i)))) xs
@@ -110,5 +127,21 @@ pub record Ready (xs : List ℕ) (o : Offer) (grant : ℕ) (cuts : Cuts) : Type 
 -- the memory after a grant, and the levels that it trips
 pub record Filled (xs : List ℕ) (o : Offer) (grant : ℕ) (ys : List ℕ) (trips : Trips) : Type 0 where
   pub memory : ys ≡ stored (after (filling granted o grant) (decode xs)) xs
-  pub root : trips .root ≡ levelTrips (decode xs .log) o grant (decode xs .part .accounts) (Root (o .root))
-  pub firm : trips .firm ≡ levelTrips (decode xs .log) o grant (decode xs .part .accounts) Firm
+  pub root : trips .root ≡ levelTrips granted (decode xs .log) o grant (decode xs .part .accounts) (Root (o .root))
+  pub firm : trips .firm ≡ levelTrips granted (decode xs .log) o grant (decode xs .part .accounts) Firm
+
+-- a report of contracts for the order at place i of the register, which it does not overdraw and for which the log has a place
+pub record Returning (xs : List ℕ) (o : Offer) (i : ℕ) : Type 0 where
+  pub asked : Asked xs o
+  pub totals : areTotals (decode xs) ≡ true
+  pub different : areDifferent (decode xs .part .register) ≡ true
+  pub placed : i < length (decode xs .part .register)
+  pub within : o .contracts ≤ sentIn (decode xs .part .register) i .contracts .0
+  pub allowed : 0 < sentIn (decode xs .part .register) i .reports
+  pub room : HasRoom (decode xs) o (o .contracts)
+
+-- the memory after a report for the order of an identity, and the levels that it trips
+pub record Returned (xs : List ℕ) (o : Offer) (identity : ℕ) (ys : List ℕ) (trips : Trips) : Type 0 where
+  pub memory : ys ≡ stored (after (filling (reported identity) o (o .contracts)) (decode xs)) xs
+  pub root : trips .root ≡ levelTrips (reported identity) (decode xs .log) o (o .contracts) (decode xs .part .accounts) (Root (o .root))
+  pub firm : trips .firm ≡ levelTrips (reported identity) (decode xs .log) o (o .contracts) (decode xs .part .accounts) Firm

@@ -1,4 +1,4 @@
-// An offer's grant: what the rules of each level allow of it, and what a fill leaves in memory.
+// An offer's grant: what the rules of each level allow of it, and what a fill leaves in memory, be it granted or reported from away.
 ghost use mathlib.Core.Path.{_≡_};
 ghost use mathlib.Core.Bool.{true, not};
 ghost use Prim.Native.Nat.{_≤_, _<_};
@@ -6,13 +6,17 @@ ghost use lib.ListN.{length};
 ghost use Rattle.measures.specs.Ranges.{premiums, offers};
 ghost use Rattle.rules.specs.Rules.{levelOf, isRate};
 ghost use Rattle.rules.specs.declared.Level.the-variants.{Firm};
-ghost use Rattle.machine.specs.Offers.{sameLevel, windowOf, longest, joinedLog};
+ghost use Rattle.machine.specs.Offers.{sameLevel, joinedLog};
 ghost use Rattle.log.specs.Memo.{RightTwo};
 ghost use Rattle.rules.specs.Valid.{isTotal};
 ghost use Rattle.machine.specs.State.{rulesIn};
 ghost use Rattle.state.specs.State.{stored, decode};
 ghost use Rattle.state.specs.Laid.{Laid, accountIn, withLog};
-ghost use Rattle.grant.specs.Grant.{Asked, areTotals, Lowered, AreCuts, Credited, AllCredited, HasRoom, marked, Ready, Filled};
+ghost use Rattle.register.specs.Register.{sentIn};
+ghost use Rattle.grant.specs.Grant.{Asked, areTotals, Lowered, AreCuts, Credited, AllCredited, HasRoom, marked, Ready, Filled, Returning, Returned};
+
+mod overruns;
+
 use log::Two;
 use machine::Entry;
 use machine::Offer;
@@ -60,17 +64,6 @@ fn is_absolute(rule: Rule) -> bool
     match kind {
         Kind::Rate(_) => false,
         Kind::Absolute => true,
-    }
-}
-
-// A rate rule's window, 0 for an absolute rule.
-fn window(rule: Rule) -> u64
-    ensures { λ r. ⌜ r ≡ windowOf (rule .kind) ⌝ }
-{
-    let kind = rule.kind;
-    match kind {
-        Kind::Rate(window) => window,
-        Kind::Absolute => 0,
     }
 }
 
@@ -137,22 +130,6 @@ pub fn cuts_of(m: &[u64], o: Offer) -> Cuts
     cuts
 }
 
-// The longest window of the rules, 0 if none is a rate rule.
-pub fn longest_window(m: &[u64]) -> u64
-    requires { ⌜ Laid (now m) ⌝ }
-    ensures { λ r. ⌜ r ≡ longest (rulesIn (decode (now (m .entry)))) ⌝ }
-{
-    let rules = state::rules_in(m);
-    let mut longest: u64 = 0;
-    let mut i: usize = 0;
-    while i < rules {
-        let rule = state::rule_in(m, i);
-        longest = numbers::greatest(window(rule), longest);
-        i += 1;
-    }
-    longest
-}
-
 // Account i, which has this rule, is credited with a grant: its total rises if the rule is absolute and covers the offer.
 fn credit_one(m: &mut [u64], o: Offer, grant: u64, i: usize, rule: Rule, before: Reached) -> Reached
     requires { ⌜ Laid (now m) × (i < length (decode (now m) .part .accounts)) × (rule ≡ accountIn (now m) i .rule) × (isTotal (accountIn (now m) i .rule) (accountIn (now m) i .total) ≡ true) × (o .premium ≤ premiums .most) × (grant ≤ offers .most) ⌝ }
@@ -201,7 +178,7 @@ fn join_log(m: &mut [u64], o: Offer, grant: u64)
     requires { ⌜ Asked (now m) o × (grant ≤ offers .most) × HasRoom (decode (now m)) o grant ⌝ }
     ensures { λ _. ⌜ now (m .exit) ≡ stored (withLog (decode (now (m .entry))) (joinedLog (rulesIn (decode (now (m .entry)))) (decode (now (m .entry)) .log) o grant)) (now (m .entry)) ⌝ }
 {
-    let longest = longest_window(m);
+    let longest = state::longest_window(m);
     if !((0 < longest) & (0 < grant)) {
         return;
     }
@@ -224,7 +201,7 @@ fn mark(m: &mut [u64], o: Offer, trips: Trips)
 {
     state::put_clock(m, o.time);
     locks::trip(
-        &mut m[state::LOCKS..state::LOG],
+        &mut m[state::LOCKS..state::REGISTER],
         o.root,
         trips.root,
         trips.firm,
@@ -243,6 +220,19 @@ pub fn fill(m: &mut [u64], o: Offer, grant: u64, cuts: Cuts) -> Trips
         root: reached.root | (less & (cuts.root == grant)),
         firm: reached.firm | (less & (cuts.firm == grant)),
     };
+    mark(m, o, trips);
+    trips
+}
+
+// Memory after a report of the offer's contracts for the order at place i of the register: totals, log, register, clock and trips. Returns the trips.
+pub fn come_back(m: &mut [u64], o: Offer, i: usize) -> Trips
+    requires { ⌜ Returning (now m) o i ⌝ }
+    ensures { λ r. ⌜ Returned (now (m .entry)) o (sentIn (decode (now (m .entry)) .part .register) i .identity) (now (m .exit)) r ⌝ }
+{
+    let trips = overruns::trips_of(m, o);
+    credit(m, o, o.contracts);
+    join_log(m, o, o.contracts);
+    register::use_up(&mut m[state::REGISTER..state::LOG], i, o.contracts);
     mark(m, o, trips);
     trips
 }

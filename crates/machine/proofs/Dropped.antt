@@ -9,7 +9,6 @@ use Rattle.laws.specs.Folds.{keep, anyOf}
 use Rattle.rules.specs.Amounts.{numberOf}
 use Rattle.rules.specs.Rules.{levelOf, countedOf}
 use Rattle.rules.specs.Valid.{hasRate}
-use Rattle.rules.specs.Allowance.{trips}
 use Rattle.rules.specs.declared.Level.{Level}
 use Rattle.rules.specs.declared.Rule.{Rule}
 use Rattle.rules.specs.declared.Account.{Account}
@@ -19,15 +18,16 @@ use Rattle.machine.specs.declared.Answer.the-variants.{Refused}
 use Rattle.machine.specs.State.{Profile, State, rulesIn, armed}
 use Rattle.machine.specs.Entries.{isFlagged, isRecent, recent}
 use Rattle.machine.specs.Effects.{zeroing}
-use Rattle.machine.specs.Calls.{Call, order, lockout, offer, remaining, status}
-use Rattle.machine.specs.Deeds.{Deed, nothing, passing, filling, resetting, lockingOut}
+use Rattle.machine.specs.Calls.{Call, order, lockout, offer, remaining, status, send, report, close}
+use Rattle.machine.specs.Deeds.{Source, granted, reported, Deed, nothing, passing, filling, resetting, lockingOut, sending, closing}
 use Rattle.machine.specs.Locks.{verdictOf}
 use Rattle.machine.specs.Order.{unflagged, unflaggedLog}
-use Rattle.machine.specs.Offers.{counted, coversOffer, grantOf, sameLevel, levelTrips, longest, entryOf, joinedLog}
+use Rattle.machine.specs.Offers.{counted, coversOffer, grantOf, sameLevel, tripsBy, levelTrips, longest, entryOf, joinedLog}
 use Rattle.machine.specs.Remaining.{leftOf}
-use Rattle.machine.specs.Refusals.{logFull, firstOf, refusalOf}
+use Rattle.machine.specs.Register.{fillOf}
+use Rattle.machine.specs.Refusals.{logFull, noPlaces, firstOf, refusalOf}
 use Rattle.machine.specs.Step.{locksAfter, logAfter, partAfter, after}
-use Rattle.machine.specs.Judge.{Judgement, grantedSo, offered, ordered, judged, unless, judge, stepIn}
+use Rattle.machine.specs.Judge.{Judgement, filled, offered, ordered, judged, unless, judge, stepIn}
 use Rattle.machine.specs.Kept.{dropped, keptLog, keptAfter, keptStep, answersOf, Roomy}
 use Rattle.machine.proofs.Lists.{keep-append, keep-swap, keep-map}
 use Rattle.machine.proofs.Flags.{still-gone, sum-flagged}
@@ -43,13 +43,13 @@ module _ (log : List Entry) where
   grant-dropped o [] = refl
   grant-dropped o (a ∷ rest) = rw (counted-dropped (o .time) a, grant-dropped o rest)
 
-  trips-dropped : (o : Offer) (n : ℕ) (accounts : List Account) (level : Level)
-      → levelTrips (keep isFlagged log) o n accounts level ≡ levelTrips log o n accounts level
+  trips-dropped : (source : Source) (o : Offer) (n : ℕ) (accounts : List Account) (level : Level)
+      → levelTrips source (keep isFlagged log) o n accounts level ≡ levelTrips source log o n accounts level
   unfolding levelTrips
-  trips-dropped o n accounts level =
+  trips-dropped source o n accounts level =
       ap (λ (test : Account → Bool). anyOf test accounts)
       (fun-ext (λ a. ap
-      (λ (m : ℕ). sameLevel (levelOf (a .rule .scope)) level && coversOffer o (a .rule) && trips (a .rule) m (o .premium) (o .contracts) n)
+      (λ (m : ℕ). sameLevel (levelOf (a .rule .scope)) level && coversOffer o (a .rule) && tripsBy source o n (a .rule) m)
       (counted-dropped (o .time) a)))
 
   -- a fill joins it as it joins the other
@@ -76,25 +76,32 @@ module _ (s : State) where
   log-dropped (filling source o n) = joined-dropped (s .log) (rulesIn s) o n
   log-dropped (resetting time root effect) = keep-map isFlagged (unflagged (zeroing effect root)) (still-gone (zeroing effect root)) (s .log)
   log-dropped (lockingOut time level) = refl
+  log-dropped (sending time sent) = refl
+  log-dropped (closing time identity) = refl
 
   locks-dropped : (deed : Deed) → locksAfter deed (dropped s) ≡ locksAfter deed s
   unfolding locksAfter dropped
   locks-dropped nothing = refl
   locks-dropped (passing time) = refl
-  locks-dropped (filling source o n) = rw (fun-ext (trips-dropped (s .log) o n (s .part .accounts)))
+  locks-dropped (filling source o n) = rw (fun-ext (trips-dropped (s .log) source o n (s .part .accounts)))
   locks-dropped (resetting time root effect) = refl
   locks-dropped (lockingOut time level) = refl
+  locks-dropped (sending time sent) = refl
+  locks-dropped (closing time identity) = refl
 
   -- a deed leaves of the one what it leaves of the other
   after-dropped : (deed : Deed) → after deed (dropped s) ≡ dropped (keptAfter deed s)
   unfolding after partAfter rulesIn dropped
   after-dropped deed = rw (locks-dropped deed, log-dropped deed)
 
+  filled-dropped : (source : Source) (o : Offer) (n : ℕ) → filled (dropped s) source o n ≡ filled s source o n
+  unfolding filled dropped
+  filled-dropped source o n = rw (fun-ext (trips-dropped (s .log) source o n (s .part .accounts)))
+
   offered-dropped : (o : Offer) (verdict : ℕ) → offered (dropped s) o verdict ≡ offered s o verdict
-  unfolding offered grantedSo dropped
+  unfolding offered dropped
   offered-dropped o zero =
-      rw
-      (grant-dropped (s .log) o (s .part .accounts), fun-ext (trips-dropped (s .log) o (grantOf (s .log) o (s .part .accounts)) (s .part .accounts)))
+      filled-dropped granted o _ ∙ ap (λ (n : ℕ). filled s granted o n) (grant-dropped (s .log) o (s .part .accounts))
   offered-dropped o (suc verdict) = refl
 
   judged-dropped : (call : Call) → judged (dropped s) call ≡ judged s call
@@ -104,18 +111,26 @@ module _ (s : State) where
   judged-dropped (offer o) = offered-dropped o (verdictOf (s .part .locks) (o .root))
   judged-dropped (remaining time rule unit) = rw (counted-dropped (s .log) time _)
   judged-dropped status = refl
+  judged-dropped (send o identity reports) = refl
+  judged-dropped (report time identity n) = filled-dropped (reported identity) (fillOf (s .part .register) time identity n) n
+  judged-dropped (close time identity) = refl
 
--- the last of several tests does not hold, of the one nor of the other
-last-alike : (a b c x y : Bool)
-    → (firstOf ((a, 12) ∷ (b, 13) ∷ (c, 14) ∷ (x, 15) ∷ []) ≡ 15 → ⊥) → (firstOf ((a, 12) ∷ (b, 13) ∷ (c, 14) ∷ (y, 15) ∷ []) ≡ 15 → ⊥)
-    → firstOf ((a, 12) ∷ (b, 13) ∷ (c, 14) ∷ (x, 15) ∷ []) ≡ firstOf ((a, 12) ∷ (b, 13) ∷ (c, 14) ∷ (y, 15) ∷ [])
+-- the last of several refusals, where it is not 15, of the one nor of the other
+last-alike : (earlier : List (Bool × ℕ)) (x y : Bool)
+    → (firstOf (earlier ++ ((x, 15) ∷ [])) ≡ 15 → ⊥) → (firstOf (earlier ++ ((y, 15) ∷ [])) ≡ 15 → ⊥)
+    → firstOf (earlier ++ ((x, 15) ∷ [])) ≡ firstOf (earlier ++ ((y, 15) ∷ []))
 unfolding firstOf
-last-alike true b c x y f g = refl
-last-alike false true c x y f g = refl
-last-alike false false true x y f g = refl
-last-alike false false false true y f g = absurd (f refl)
-last-alike false false false false true f g = absurd (g refl)
-last-alike false false false false false f g = refl
+last-alike [] true y f g = absurd (f refl)
+last-alike [] false true f g = absurd (g refl)
+last-alike [] false false f g = refl
+last-alike (test ∷ earlier) x y f g = go (test .0) f g (last-alike earlier x y)
+  where
+    go : (b : Bool) → (cond b (test .1) (firstOf (earlier ++ ((x, 15) ∷ []))) ≡ 15 → ⊥) → (cond b (test .1) (firstOf (earlier ++ ((y, 15) ∷ []))) ≡ 15 → ⊥)
+        → ((firstOf (earlier ++ ((x, 15) ∷ [])) ≡ 15 → ⊥) → (firstOf (earlier ++ ((y, 15) ∷ [])) ≡ 15 → ⊥)
+        → firstOf (earlier ++ ((x, 15) ∷ [])) ≡ firstOf (earlier ++ ((y, 15) ∷ [])))
+        → cond b (test .1) (firstOf (earlier ++ ((x, 15) ∷ []))) ≡ cond b (test .1) (firstOf (earlier ++ ((y, 15) ∷ [])))
+    go true f g next = refl
+    go false f g next = next f g
 
 module _ (room : ℕ) where
   -- where neither is told that the log is full, both are refused by the same number, or neither is
@@ -124,9 +139,13 @@ module _ (room : ℕ) where
   unfolding refusalOf dropped rulesIn
   refusal-dropped s (order time root reset) f g = refl
   refusal-dropped s (lockout time level root) f g = refl
-  refusal-dropped s (offer o) f g = last-alike _ _ _ (logFull room (dropped s) o) (logFull room s o) f g
+  refusal-dropped s (offer o) f g = last-alike (_ ∷ _ ∷ _ ∷ []) (logFull room (dropped s) o) (logFull room s o) f g
   refusal-dropped s (remaining time rule unit) f g = refl
   refusal-dropped s status f g = refl
+  refusal-dropped s (send o identity reports) f g =
+      last-alike (_ ∷ _ ∷ _ ∷ _ ∷ _ ∷ []) (noPlaces room (dropped s) o reports) (noPlaces room s o reports) f g
+  refusal-dropped s (report time identity n) f g = refl
+  refusal-dropped s (close time identity) f g = refl
 
   full-told : (s : State) (call : Call) → (judge room s call .answer ≡ Refused 15 → ⊥) → refusalOf room s call ≡ 15 → ⊥
   unfolding judge unless

@@ -3,10 +3,11 @@ use Prim.Native.Nat.{ℕ, zero, suc}
 use mathlib.Core.Path.{_≡_, refl, ap, _∙_}
 use mathlib.Core.List.{List, map, map-map}
 use Rattle.rules.specs.declared.Account.{Account}
-use Rattle.machine.specs.State.{Part, State, ruleOf, Fitting}
-use Rattle.machine.specs.Deeds.{Deed, nothing, passing, filling, resetting, lockingOut, clockAfter}
+use Rattle.machine.specs.State.{State, ruleOf, Fitting}
+use Rattle.machine.specs.Deeds.{Deed, nothing, passing, filling, resetting, lockingOut, sending, closing, clockAfter}
 use Rattle.machine.specs.Order.{wiped}
 use Rattle.machine.specs.Offers.{credited}
+use Rattle.machine.specs.Register.{registerAfter}
 use Rattle.machine.specs.Calls.{Call, remaining, status}
 use Rattle.machine.specs.Refusals.{refusalOf}
 use Rattle.machine.specs.Step.{accountsAfter, locksAfter, logAfter, partAfter, after}
@@ -20,6 +21,8 @@ same-rules (passing time) accounts = refl
 same-rules (filling source o n) accounts = rw map-map
 same-rules (resetting time root effect) accounts = rw map-map
 same-rules (lockingOut time level) accounts = refl
+same-rules (sending time sent) accounts = refl
+same-rules (closing time identity) accounts = refl
 
 pub fitting-after : (deed : Deed) (s : State) → Fitting (s .part) → Fitting (partAfter deed s)
 unfolding Fitting partAfter
@@ -32,7 +35,7 @@ step-profile room s call = refl
 
 -- doing nothing leaves the state as it was
 pub nothing-same : (s : State) → after nothing s ≡ s
-unfolding after partAfter clockAfter accountsAfter locksAfter logAfter
+unfolding after partAfter clockAfter accountsAfter locksAfter logAfter registerAfter
 nothing-same s = refl
 
 -- and that is what a refusal does, Remaining, and Status

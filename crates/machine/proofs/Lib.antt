@@ -7,8 +7,13 @@ pub mod Walk
 pub mod Keeps
 pub mod Totals
 pub mod Effects
+pub mod Register
+pub mod Orders
 pub mod Meets
+pub mod Places
 pub mod Logged
 pub mod Sound
 pub mod Flags
 pub mod Dropped
+pub mod Bounds
+pub mod Windows

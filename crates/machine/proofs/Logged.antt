@@ -17,9 +17,9 @@ use Rattle.machine.specs.declared.Entry.{Entry}
 use Rattle.machine.specs.declared.Offer.{Offer}
 use Rattle.machine.specs.State.{State, rulesIn, rootsIn}
 use Rattle.machine.specs.Entries.{isEntry, areOrdered, isFlagged, recent}
+use Rattle.machine.specs.Deeds.{Source}
 use Rattle.machine.specs.Order.{unflagged, unflaggedLog}
 use Rattle.machine.specs.Offers.{longest, entryOf, joinedLog}
-use Rattle.machine.specs.Refusals.{used}
 use Rattle.machine.specs.Judge.{logPlaces}
 use Rattle.machine.proofs.Lists.{every-map, every-keep, keep-every, keep-le, every-join, ordered-wider, ordered-map, ordered-keep, ordered-join}
 use Rattle.machine.proofs.Meets.{Fillable}
@@ -61,7 +61,7 @@ logged-reset {roots = roots} {clock = clock} {log = log} zeroes l = record {
     fewer : length (keep isFlagged cleared) ≤ length log
     fewer = rw (← (length-map log (unflagged zeroes))) (keep-le isFlagged cleared)
 
-module _ (s : State) (o : Offer) (n : ℕ) (f : Fillable s o n) where
+module _ (s : State) (source : Source) (o : Offer) (n : ℕ) (f : Fillable s source o n) where
   -- the entry of a fill has all numbers in range
   pub new-entry : 0 < n → isEntry (rootsIn s) (entryOf o n) ≡ true
   unfolding isEntry entryOf
@@ -69,11 +69,12 @@ module _ (s : State) (o : Offer) (n : ℕ) (f : Fillable s o n) where
       rw (in-test times (o .time) (f .time .range), lt-ltb (o .root) (rootsIn s) (f .root), in-test units (o .unit) (f .unit), in-test premiums (o .premium) (f .premium))
       (in-test offers n (pos, f .contracts))
 
-  -- the log after the fill
-  pub joined-logged : Logged (rulesIn s) (rootsIn s) (s .part .clock) (s .log)
+  -- the log after the fill, for which there is a place
+  pub joined-logged : (hasRate (rulesIn s) ≡ true → 0 < n → length (recent (longest (rulesIn s)) (o .time) (s .log)) < logPlaces)
+      → Logged (rulesIn s) (rootsIn s) (s .part .clock) (s .log)
       → Logged (rulesIn s) (rootsIn s) (o .time) (joinedLog (rulesIn s) (s .log) o n)
-  unfolding joinedLog recent entryOf used isFlagged
-  joined-logged l = go (hasRate (rulesIn s)) refl (ltb 0 n) refl
+  unfolding joinedLog recent entryOf isFlagged
+  joined-logged place l = go (hasRate (rulesIn s)) refl (ltb 0 n) refl
     where
       kept : List Entry
       kept = recent (longest (rulesIn s)) (o .time) (s .log)
@@ -91,7 +92,7 @@ module _ (s : State) (o : Offer) (n : ℕ) (f : Fillable s o n) where
       go true eb true ec =
           let pos = ltb-true 0 n ec in
           record {
-            number = simp length-append (omega (arith, f .place eb pos));
+            number = simp length-append (omega (arith, place eb pos));
             none = λ e. absurd (false≢true (sym e ∙ eb));
             ordered =
                 ordered-join 0 (s .part .clock) kept (entryOf o n) (omega arith) (f .time .after) (ordered-keep test 0 (s .part .clock) (s .log) (l .ordered));

@@ -8,12 +8,13 @@ use Rattle.machine.specs.declared.Answer.{Answer}
 use Rattle.machine.specs.declared.Answer.the-variants.{Refused, Judged, Left, Standing}
 use Rattle.machine.specs.State.{State}
 use Rattle.machine.specs.Effects.{effectOf}
-use Rattle.machine.specs.Deeds.{Deed, granted, nothing, passing, filling, resetting, lockingOut}
+use Rattle.machine.specs.Deeds.{Source, granted, reported, Deed, nothing, passing, filling, resetting, lockingOut, sending, closing}
 use Rattle.machine.specs.Locks.{verdictOf}
 use Rattle.machine.specs.Order.{levelNamed}
 use Rattle.machine.specs.Offers.{grantOf, levelTrips}
 use Rattle.machine.specs.Remaining.{accountFor, leftOf, standing}
-use Rattle.machine.specs.Calls.{Call, order, lockout, offer, remaining, status}
+use Rattle.machine.specs.Calls.{Call, order, lockout, offer, remaining, status, send, report, close}
+use Rattle.machine.specs.Register.{fillOf, sentOf}
 use Rattle.machine.specs.Refusals.{refusalOf}
 use Rattle.machine.specs.Step.{locksAfter, after}
 
@@ -22,22 +23,27 @@ pub record Judgement : Type 0 where
   pub answer : Answer
   pub deed : Deed
 
--- an offer is granted so much
-unfoldable pub grantedSo : State → Offer → ℕ → Judgement
-grantedSo s o grant = record {
+-- so much is filled, of an offer or by a report
+unfoldable pub filled : State → Source → Offer → ℕ → Judgement
+filled s source o n = record {
   answer =
-      Judged 0 grant (levelTrips (s .log) o grant (s .part .accounts) (Root (o .root))) (levelTrips (s .log) o grant (s .part .accounts) Firm);
-  deed = filling granted o grant;
+      Judged 0 n (levelTrips source (s .log) o n (s .part .accounts) (Root (o .root))) (levelTrips source (s .log) o n (s .part .accounts) Firm);
+  deed = filling source o n;
 }
 
 -- an offer by its verdict: granted, or locked out
 unfoldable pub offered : State → Offer → ℕ → Judgement
-offered s o zero = grantedSo s o (grantOf (s .log) o (s .part .accounts))
+offered s o zero = filled s granted o (grantOf (s .log) o (s .part .accounts))
 offered s o (suc verdict) = record { answer = Judged (suc verdict) 0 false false; deed = passing (o .time) }
 
 -- an order: the reset comes first, then the verdict
 unfoldable pub ordered : State → ℕ → Deed → Judgement
 ordered s root deed = record { answer = Judged (verdictOf (locksAfter deed s) root) 0 false false; deed = deed }
+
+-- a sending by its verdict: the order enters the register, or is locked out
+unfoldable pub sentAway : Offer → ℕ → ℕ → ℕ → Judgement
+sentAway o identity reports zero = record { answer = Judged 0 0 false false; deed = sending (o .time) (sentOf o identity reports) }
+sentAway o identity reports (suc verdict) = record { answer = Judged (suc verdict) 0 false false; deed = passing (o .time) }
 
 -- a call that is not refused
 unfoldable pub judged : State → Call → Judgement
@@ -46,6 +52,9 @@ judged s (lockout time level root) = record { answer = Judged 0 0 false false; d
 judged s (offer o) = offered s o (verdictOf (s .part .locks) (o .root))
 judged s (remaining time rule unit) = record { answer = Left (leftOf s time (accountFor (s .part) rule unit)); deed = nothing }
 judged s status = record { answer = Standing (standing (s .part .locks)); deed = nothing }
+judged s (send o identity reports) = sentAway o identity reports (verdictOf (s .part .locks) (o .root))
+judged s (report time identity n) = filled s (reported identity) (fillOf (s .part .register) time identity n) n
+judged s (close time identity) = record { answer = Judged 0 0 false false; deed = closing time identity }
 
 -- a refusal does nothing at all
 unfoldable pub unless : ℕ → Judgement → Judgement

@@ -12,7 +12,7 @@ use Rattle.machine.specs.State.{State, rulesIn}
 use Rattle.machine.specs.Entries.{isFlagged}
 use Rattle.machine.specs.Effects.{zeroing}
 use Rattle.machine.specs.Calls.{Call}
-use Rattle.machine.specs.Deeds.{Deed, nothing, passing, filling, resetting, lockingOut}
+use Rattle.machine.specs.Deeds.{Deed, nothing, passing, filling, resetting, lockingOut, sending, closing}
 use Rattle.machine.specs.Order.{unflagged}
 use Rattle.machine.specs.Offers.{joinedLog}
 use Rattle.machine.specs.Step.{partAfter}
@@ -29,6 +29,8 @@ keptLog (passing time) rules log = log
 keptLog (filling source o n) rules log = joinedLog rules log o n
 keptLog (resetting time root effect) rules log = map (unflagged (zeroing effect root)) log
 keptLog (lockingOut time level) rules log = log
+keptLog (sending time sent) rules log = log
+keptLog (closing time identity) rules log = log
 
 -- the state that it leaves
 abbrev pub keptAfter : Deed → State → State

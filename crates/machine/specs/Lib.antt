@@ -7,6 +7,7 @@ pub mod Locks
 pub mod Order
 pub mod Offers
 pub mod Remaining
+pub mod Register
 pub mod Refusals
 pub mod Step
 pub mod Judge

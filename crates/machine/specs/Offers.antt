@@ -1,13 +1,13 @@
--- An offer: what is counted, the grant, the trips, and what a fill leaves of an account and of the log. Assumes nothing.
+-- An offer or a report: what is counted, the grant, the trips, and what a fill leaves of an account and of the log. Assumes nothing.
 use Prim.Native.Nat.{ℕ, _+_, min, max}
 use mathlib.Core.Bool.{Bool, true, false, cond, _&&_}
 use mathlib.Core.List.{List, [], _∷_, _++_, map}
 use lib.Dec.{ltb, eqb}
 use Rattle.laws.specs.Folds.{keep, sumOf, anyOf}
 use Rattle.rules.specs.Amounts.{numberOf, amountIn}
-use Rattle.rules.specs.Rules.{levelOf, covers, isRate, countedOf, added}
+use Rattle.rules.specs.Rules.{levelOf, covers, isRate, countedOf, held, added}
 use Rattle.rules.specs.Valid.{hasRate}
-use Rattle.rules.specs.Allowance.{allowance, trips}
+use Rattle.rules.specs.Allowance.{allowance, trips, overruns}
 use Rattle.rules.specs.declared.Level.{Level}
 use Rattle.rules.specs.declared.Level.the-variants.{Firm, Root}
 use Rattle.rules.specs.declared.Limit.{Limit}
@@ -18,6 +18,7 @@ use Rattle.rules.specs.declared.Account.{Account}
 use Rattle.machine.specs.declared.Entry.{Entry}
 use Rattle.machine.specs.declared.Offer.{Offer}
 use Rattle.machine.specs.Entries.{entryShare, recent}
+use Rattle.machine.specs.Deeds.{Source, granted, reported}
 
 -- a rule's counted amount at a time
 unfoldable pub counted : List Entry → ℕ → Account → ℕ
@@ -49,19 +50,25 @@ sameLevel Firm (Root r) = false
 sameLevel (Root r) Firm = false
 sameLevel (Root r) (Root q) = eqb r q
 
--- a rule of this level that covers the offer trips at the grant
-unfoldable pub levelTrips : List Entry → Offer → ℕ → List Account → Level → Bool
-levelTrips log o grant accounts level =
-    anyOf (λ a. sameLevel (levelOf (a .rule .scope)) level && coversOffer o (a .rule)
-    && trips (a .rule) (counted log (o .time) a) (o .premium) (o .contracts) grant) accounts
+-- a rule that covers a fill of so much trips on it, by what it counted before and by where the fill comes from
+unfoldable pub tripsBy : Source → Offer → ℕ → Rule → ℕ → Bool
+tripsBy granted o n rule counted = trips rule counted (o .premium) (o .contracts) n
+tripsBy (reported identity) o n rule counted = overruns rule counted (o .premium) n
 
--- the total of an absolute rule that covers the offer rises
+-- a rule of this level that covers the fill trips on it
+unfoldable pub levelTrips : Source → List Entry → Offer → ℕ → List Account → Level → Bool
+levelTrips source log o n accounts level =
+    anyOf (λ a. sameLevel (levelOf (a .rule .scope)) level && coversOffer o (a .rule)
+    && tripsBy source o n (a .rule) (counted log (o .time) a)) accounts
+
+-- the total of an absolute rule that covers the fill rises, and is held
 unfoldable pub credited : Offer → ℕ → Account → Account
-credited o grant a = record {
+credited o n a = record {
   rule = a .rule;
   total =
       cond (isRate (a .rule .kind)) (a .total)
-      (cond (coversOffer o (a .rule)) (amountIn (a .rule .limit) (numberOf (a .total) + added (a .rule .limit) (o .premium) grant)) (a .total));
+      (cond (coversOffer o (a .rule))
+      (amountIn (a .rule .limit) (held Absolute (numberOf (a .total) + added (a .rule .limit) (o .premium) n))) (a .total));
 }
 
 -- the longest window of the profile's rate rules
@@ -85,7 +92,7 @@ entryOf o grant = record {
   forfirm = true;
 }
 
--- the log after a grant: with one above 0, and if the profile has a rate rule, old entries leave and the new one joins
+-- the log after a fill: with one above 0, and if the profile has a rate rule, old entries leave and the new one joins
 unfoldable pub joinedLog : List Rule → List Entry → Offer → ℕ → List Entry
 joinedLog rules log o grant =
     cond (hasRate rules && ltb 0 grant) (recent (longest rules) (o .time) log ++ (entryOf o grant ∷ [])) log

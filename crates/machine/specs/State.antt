@@ -9,6 +9,7 @@ use Rattle.rules.specs.Units.{unitsOf, ofUnit}
 use Rattle.rules.specs.declared.Rule.{Rule}
 use Rattle.rules.specs.declared.Account.{Account}
 use Rattle.machine.specs.declared.Entry.{Entry}
+use Rattle.machine.specs.declared.Sent.{Sent}
 
 -- the firm's name, the roots' names in order of first appearance, and the rules by line; a rule's scope has its root's number
 pub record Profile : Type 0 where
@@ -23,12 +24,13 @@ pub record Locks : Type 0 where
   pub tripped : ℕ
   pub byUser : ℕ
 
--- a firm's part
+-- a firm's part; the register has the orders sent away that are not closed, in the order of their sending
 pub record Part : Type 0 where
   pub clock : ℕ
   pub profile : Profile
   pub accounts : List Account
   pub locks : Locks
+  pub register : List Sent
 
 -- what one firm sees
 pub record State : Type 0 where
@@ -66,9 +68,9 @@ noLocks = record { firmTripped = false; firmByUser = false; tripped = 0; byUser 
 unfoldable pub fresh : Rule → Account
 fresh rule = record { rule = rule; total = amountIn (rule .limit) 0 }
 
--- a unit that was just armed: the clock at 0, all else counted or locked at 0
+-- a unit that was just armed: the clock at 0, all else counted or locked at 0, and no order sent away
 unfoldable pub armed : Profile → State
 armed profile = record {
-  part = record { clock = 0; profile = profile; accounts = map fresh (cellsOf (profile .rules)); locks = noLocks };
+  part = record { clock = 0; profile = profile; accounts = map fresh (cellsOf (profile .rules)); locks = noLocks; register = [] };
   log = [];
 }

@@ -1,15 +1,14 @@
 -- Names from the last one on, marked by a remainder: a name whose remainder is not marked stands among none of them. Assumes nothing.
 use Prim.Native.Nat.{ℕ, zero, suc, _+_, _-_, _%_, _≤_, _<_}
 use mathlib.Core.Path.{_≡_, refl, sym, ap, _∙_}
-use mathlib.Core.Bool.{Bool, true, false, not, _&&_, and-true, and-false}
+use mathlib.Core.Bool.{Bool, true, false, _&&_, and-true, and-false}
 use mathlib.Core.List.{List, _∷_}
 use native.Mathlib.Omega.{arith}
 use native.Mathlib.Numerals.{add-one}
 use lib.ListN.{length, getD, drop, set, replicate, length-set}
 use lib.Seq.{getD-set-same, getD-set-other}
-use lib.Dec.{eqb}
-use borrow.Author.Tests.{eqb-true, eqb-false, ne-eqb}
 use Rattle.laws.specs.Lists.{from}
+use Rattle.laws.specs.Marks.{unmarked}
 use Rattle.tables.specs.Tables.{allZero}
 use Rattle.made.specs.Names.{isNameNumber}
 use Rattle.made.specs.Made.{isFresh, areRoots}
@@ -28,18 +27,12 @@ marked-more : {marks names : List ℕ} → Marked marks names → (y : ℕ) → 
 unfolding isFresh
 marked-more {marks} {names} m y = record {
   long = length-set marks (y % 229) 1 ∙ m .long;
-  new = λ name h. go name h (eqb (y % 229) (name % 229)) refl;
+  new = λ name h.
+      let u =
+      unmarked 229 y (λ r. getD marks r 0) (λ r. getD (set marks (y % 229) 1) r 0) (getD-set-same marks (y % 229) 1 0 (omega (arith, m .long)))
+      (λ r apart. getD-set-other marks (y % 229) r 1 0 apart) name h in
+      rw (u .0) (m .new name (u .1));
 }
-  where
-    go : (name : ℕ) → getD (set marks (y % 229) 1) (name % 229) 0 ≡ 0 → (b : Bool) → eqb (y % 229) (name % 229) ≡ b
-        → (not (eqb y name) && isFresh name names) ≡ true
-    go name h true e =
-        let same : y % 229 ≡ name % 229 = eqb-true (y % 229) (name % 229) e in
-        let one = getD-set-same marks (y % 229) 1 0 (omega (arith, m .long)) in
-        absurd (omega (arith, one, rw (sym same) at h))
-    go name h false e =
-        let apart : name % 229 ≡ y % 229 → ⊥ = λ p. eqb-false (y % 229) (name % 229) e (sym p) in
-        rw (ne-eqb y name (λ p. apart (ap (λ (k : ℕ). k % 229) (sym p)))) (m .new name (sym (getD-set-other marks (y % 229) (name % 229) 1 0 apart) ∙ h))
 
 module _ (n : ℕ) (xs : List ℕ) (within : n ≤ length xs) where
   module _ (j i : ℕ) (e : i ≡ j + 1) (more : j < n) where

@@ -1,5 +1,5 @@
 -- The tests of the roots' and the totals' places, and of the kinds of the rules, one rule more. Assumes nothing.
-use Prim.Native.Nat.{ℕ, _+_, _*_, _-_, _≤_, _<_}
+use Prim.Native.Nat.{ℕ, _+_, _*_, _-_, _≤_, _<_, max}
 use native.Mathlib.Nat.{sub-zero}
 use native.Mathlib.Omega.{arith}
 use mathlib.Core.Path.{_≡_, refl, sym, ap, _∙_}
@@ -14,6 +14,7 @@ use Rattle.rules.specs.Units.{unitsOf, ofUnit}
 use Rattle.rules.specs.declared.Scope.the-variants.{WholeRoot}
 use Rattle.rules.specs.declared.Rule.{Rule}
 use Rattle.machine.specs.State.{cellsBy, cellsOf}
+use Rattle.machine.specs.Offers.{windowOf, longest}
 use Rattle.machine.proofs.Cells.{cells-self}
 use Rattle.tables.specs.Tables.{allZero, places}
 use Rattle.tables.specs.RulePlace.{ruleAt}
@@ -127,6 +128,19 @@ module _ (k : ℕ) (xs : List ℕ) (i : ℕ) (more : i < k) (rule : Rule) (is : 
   pub rate-off : isRate (rule .kind) ≡ true → hasRate (rulesFrom k xs i) ≡ true
   unfolding hasRate
   rate-off h = rw (rules-on k xs i more, ← is, h)
+
+-- the longest window of all rules, from what was found and the rules from place i on
+pub span-start : (k : ℕ) (xs : List ℕ) → longest (places 2 ruleAt k xs) ≡ max 0 (longest (rulesFrom k xs 0))
+span-start k xs = rw (← (rules-start k xs)) (omega arith)
+
+pub span-on : (k : ℕ) (xs : List ℕ) (i : ℕ) → i < k → (rule : Rule) → rule ≡ ruleAt (drop (i * 2) xs) → (w n : ℕ) → w ≡ windowOf (rule .kind) → (m : ℕ) → m ≡ max w n
+    → max n (longest (rulesFrom k xs i)) ≡ max m (longest (rulesFrom k xs (i + 1)))
+unfolding longest
+span-on k xs i more rule is w n e m f = rw (rules-on k xs i more, ← is, ← e, f) (omega arith)
+
+pub span-end : (k : ℕ) (xs : List ℕ) (i n : ℕ) → k ≤ i → max n (longest (rulesFrom k xs i)) ≡ n
+unfolding longest
+span-end k xs i n h = rw (rules-end k xs i h) (omega arith)
 
 pub totals-end : (k : ℕ) (xs : List ℕ) (i : ℕ) (totals : List ℕ) → k ≤ i → totalsHold (cellsOf (rulesFrom k xs i)) totals ≡ allZero totals
 unfolding totalsHold cellsOf

@@ -16,13 +16,13 @@ use Rattle.machine.specs.Calls.{Call}
 use Rattle.calls.specs.Calls.{armAnswer}
 use Rattle.calls.proofs.Cases.{arm-marked, clear-done}
 use Rattle.demand.specs.Run.{Event, runOf}
-use Rattle.demand.specs.Demand.{Demand3}
+use Rattle.demand.specs.Demand.{Ranged, Demand3}
 use Rattle.promises.proofs.Marked.{sound-marked}
 use Rattle.promises.specs.Day.{Day, callsOn, dayOf, NeverRefused, Promised, DayPromised}
 use Rattle.promises.specs.AnyDay.{AnyCall, anyDayOf, stateCalls, stateEvents, AnyPromised}
 use Rattle.demand.proofs.Theorem.{demand3}
 use Rattle.demand.proofs.Words.{demand-words}
-use Rattle.promises.proofs.Holds.{arm-holds}
+use Rattle.promises.proofs.Holds.{arm-holds, arm-ranged}
 use Rattle.promises.proofs.Follows.{Follows, follows-on}
 use Rattle.promises.proofs.Moved.{lent-moves}
 use Rattle.promises.proofs.Goes.{goes-on}
@@ -30,16 +30,16 @@ use Rattle.promises.proofs.Never.{run-never}
 use Rattle.promises.proofs.Unarmed.{cleared-idle}
 
 -- WHAT FOLLOWS THE MACHINE IS PROMISED: a day whose memory and answers are those of the machine's run
-pub follows-promised : (memory text : List ℕ) (calls : List Call) (day : Day) → Follows (drop size memory) (runOf (outcomeOf text .profile) calls) day
+pub follows-promised : (memory text : List ℕ) → Ranged (outcomeOf text .profile) → (calls : List Call) (day : Day) → Follows (drop size memory) (runOf (outcomeOf text .profile) calls) day
     → Promised memory text calls day
 unfolding runOf NeverRefused
-follows-promised memory text calls day f =
+follows-promised memory text ranged calls day f =
     let profile = outcomeOf text .profile in
     let t = taken-apart (day .memory) (f .holds .sound) in
     let done = clear-done (day .memory) (t .long) in
     let demand =
     subst⁻¹ (λ (now : State). Demand3 (profile .rules) now (day .history)) (f .holds .state)
-    (subst⁻¹ (λ (history : List Event). Demand3 (profile .rules) (runOf profile calls .now) history) (f .same) (demand3 profile calls)) in
+    (subst⁻¹ (λ (history : List Event). Demand3 (profile .rules) (runOf profile calls .now) history) (f .same) (demand3 profile ranged calls)) in
     record {
       demand = demand;
       words = demand-words (profile .rules) (decode (day .memory)) (day .history) demand;
@@ -67,7 +67,7 @@ module _ (memory text : List ℕ) (firm rules roots : ℕ) (ok : armAnswer memor
   pub day-promised : (calls : List Call) → DayPromised memory text calls
   unfolding DayPromised runOf dayOf callsOn
   day-promised calls =
-      follows-promised memory text calls (dayOf memory text calls)
+      follows-promised memory text (arm-ranged memory text firm rules roots ok) calls (dayOf memory text calls)
       (follows-on (record { holds = arm-holds memory text firm rules roots ok; same = refl }) calls)
 
   -- AND EVERY DAY WITH ANY CALLS AT ALL up to the next Clear
@@ -76,6 +76,6 @@ module _ (memory text : List ℕ) (firm rules roots : ℕ) (ok : armAnswer memor
   any-day-promised calls =
       let g = goes-on (record { holds = arm-holds memory text firm rules roots ok; same = refl; usual = tt }) calls in
       record {
-        promised = follows-promised memory text (stateCalls calls) _ (record { holds = g .holds; same = g .same });
+        promised = follows-promised memory text (arm-ranged memory text firm rules roots ok) (stateCalls calls) _ (record { holds = g .holds; same = g .same });
         usual = g .usual;
       }

@@ -5,7 +5,7 @@ use native.Mathlib.Omega.{arith}
 use mathlib.Core.Path.{_≡_, refl, sym, ap, _∙_, subst}
 use mathlib.Core.Bool.{Bool, true, false, cond, false≢true}
 use mathlib.Core.List.{List}
-use lib.ListN.{drop}
+use lib.ListN.{length, drop}
 use lib.Dec.{eqb}
 use borrow.Author.Tests.{eqb-true}
 use Rattle.profile.specs.Profile.{outcomeOf, readingOf}
@@ -19,12 +19,14 @@ use Rattle.state.proofs.Exactly.{taken-apart}
 use Rattle.state.proofs.Stored.{stored-rest, decode-stored}
 use Rattle.state.proofs.Exactly.{made-parts, sound-fits, given-is-made, sound-stored}
 use Rattle.machine.specs.declared.Answer.the-variants.{Refused}
-use Rattle.machine.specs.Calls.{Call, order, lockout, offer, remaining, status}
+use Rattle.machine.specs.Calls.{Call, order, lockout, offer, remaining, status, send, report, close}
 use Rattle.machine.specs.Locks.{verdictOf}
 use Rattle.machine.specs.Refusals.{refusalOf}
 use Rattle.machine.specs.Step.{after}
-use Rattle.machine.specs.Judge.{logPlaces, grantedSo, offered, ordered, judged, unless, judge, stepIn, step, isRefusal}
+use Rattle.machine.specs.Judge.{logPlaces, filled, offered, ordered, sentAway, judged, unless, judge, stepIn, step, isRefusal}
 use Rattle.machine.proofs.Keeps.{nothing-same}
+use Rattle.demand.specs.Demand.{Ranged}
+use Rattle.demand.proofs.Theorem.{ranged-valid}
 use Rattle.calls.specs.Calls.{memoryRefusal, armRefusal, armAnswer, armMemory, callAnswer, callMemory}
 use Rattle.calls.proofs.Armed.{refusal-none, sound-memory, call-taken}
 use Rattle.calls.proofs.Steps.{done, refused, acts, after-sound}
@@ -71,6 +73,12 @@ module _ (memory text : List ℕ) (firm rules roots : ℕ) (ok : armAnswer memor
   text-accepted : outcomeOf text .refusal ≡ 0
   text-accepted = reading-accepted (outcomeOf text) firm rules roots (arm-accepts .1) .0
 
+  -- every limit of that text lies below what totals are held at
+  pub arm-ranged : Ranged (outcomeOf text .profile)
+  arm-ranged =
+      let p = outcomeOf text .profile in
+      ranged-valid (length (p .roots)) (p .rules) (made-parts p (accepted-made text text-accepted) .valid)
+
   armed-is : stored (armed (outcomeOf text .profile)) memory ≡ armMemory memory text
   unfolding armMemory
   armed-is = rw (arm-accepts .0, text-accepted)
@@ -86,7 +94,7 @@ module _ (memory text : List ℕ) (firm rules roots : ℕ) (ok : armAnswer memor
 
 -- where the machine acts, it does not answer with a refusal
 pub acts-answered : (s : State) (call : Call) → isRefusal (judged s call .answer) ≡ false
-unfolding judged ordered offered grantedSo isRefusal
+unfolding judged ordered offered filled sentAway isRefusal
 acts-answered s (order time root reset) = refl
 acts-answered s (lockout time level root) = refl
 acts-answered s (offer o) = go (verdictOf (s .part .locks) (o .root))
@@ -96,6 +104,13 @@ acts-answered s (offer o) = go (verdictOf (s .part .locks) (o .root))
     go (suc verdict) = refl
 acts-answered s (remaining time rule unit) = refl
 acts-answered s status = refl
+acts-answered s (send o identity reports) = go (verdictOf (s .part .locks) (o .root))
+  where
+    go : (verdict : ℕ) → isRefusal (sentAway o identity reports verdict .answer) ≡ false
+    go zero = refl
+    go (suc verdict) = refl
+acts-answered s (report time identity n) = refl
+acts-answered s (close time identity) = refl
 
 pub acts-unrefused : (s : State) (call : Call) (n : ℕ) → judged s call .answer ≡ Refused n → ⊥
 unfolding isRefusal

@@ -5,7 +5,7 @@ use mathlib.Core.Path.{_≡_, refl}
 use mathlib.Core.List.{List, [], _∷_}
 use Rattle.machine.specs.State.{State}
 use Rattle.machine.specs.declared.Answer.the-variants.{Refused}
-use Rattle.machine.specs.Calls.{Call, order, lockout, offer, remaining, status}
+use Rattle.machine.specs.Calls.{Call, order, lockout, offer, remaining, status, send, report, close}
 use Rattle.machine.specs.Refusals.{refusalOf}
 use Rattle.machine.specs.Judge.{logPlaces, judged, unless, judge, stepIn, step}
 use Rattle.demand.specs.Run.{Run, afterCall, runFrom}
@@ -20,6 +20,9 @@ refusal-least s (lockout time level root) n e = first-least 12 _ (tt, (tt, tt)) 
 refusal-least s (offer o) n e = first-least 12 _ (tt, (tt, (tt, (tt, tt)))) n e
 refusal-least s (remaining time rule unit) n e = first-least 12 _ (tt, (tt, tt)) n e
 refusal-least s status n e = absurd (omega arith)
+refusal-least s (send o identity reports) n e = first-least 12 _ (tt, (tt, (tt, (tt, (tt, (tt, tt)))))) n e
+refusal-least s (report time identity k) n e = first-least 12 _ (tt, (tt, (tt, (tt, (tt, tt))))) n e
+refusal-least s (close time identity) n e = first-least 12 _ (tt, (tt, (tt, tt))) n e
 
 -- a number below 12 is the answer to no call of the machine
 module _ (k : ℕ) (low : k < 12) where

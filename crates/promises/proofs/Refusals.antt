@@ -5,10 +5,10 @@ use mathlib.Core.Path.{_≡_, refl, sym, ap, _∙_, subst⁻¹}
 use mathlib.Core.Logic.{_↔_, Iff·trans, Iff·symm}
 use mathlib.Core.Bool.{Bool, true, false, not, cond}
 use mathlib.Core.List.{List, [], _∷_, _++_}
-use lib.ListN.{length}
-use lib.Dec.{eqb}
+use lib.ListN.{length, take}
+use lib.Dec.{T, eqb}
 use borrow.Author.Tests.{ltb-true, ltb-false, lt-ltb, le-ltb, ne-eqb, eqb-true, eq-eqb, not-false}
-use Rattle.machine.specs.State.{State, Fitting}
+use Rattle.machine.specs.State.{State}
 use Rattle.machine.specs.Calls.{Call}
 use Rattle.machine.specs.Refusals.{firstOf}
 use Rattle.machine.specs.Judge.{numbers}
@@ -19,9 +19,9 @@ use Rattle.state.proofs.Stored.{is-stored, decode-stored}
 use Rattle.state.proofs.Exactly.{made-parts, sound-fits, given-is-made, sound-decode, exactly}
 use Rattle.calls.specs.Calls.{isShort, markOf, memoryRefusal, callAnswer, refusalIn}
 use Rattle.promises.proofs.Marked.{sound-marked}
-use Rattle.promises.specs.Refusals.{refusalRow, Short, Held, Holding, Untimely, Unknown, Unpriced, LogFull, CallRefusals}
-use Rattle.promises.proofs.Tests.{Tells, tells-not, not-tells, NonePass, first-at, first-none}
-use Rattle.promises.proofs.Judged.{late, strange, unpriced, full, machineTests, machine-tests, late-tells, strange-tells, unpriced-tells, full-tells}
+use Rattle.promises.specs.Refusals.{refusalRow, Short, Held, Holding, Untimely, Unknown, Unpriced, RegisterFull, Misnamed, Overdrawn, LogFull, Timely, Known, Priced, Placed, Named, Covered, CallRefusals}
+use Rattle.promises.proofs.Tests.{Tells, tells-not, not-tells, NonePass, NoneIs, first-at, first-none, none-more}
+use Rattle.promises.proofs.Judged.{late, strange, unpriced, crowded, misnamed, drained, full, machineTests, machine-tests, late-tells, strange-tells, unpriced-tells, crowded-tells, misnamed-tells, drained-tells, full-tells}
 use Rattle.promises.proofs.Answered.{unrefused, row-by}
 
 -- a memory that holds a sound state decodes to it
@@ -85,22 +85,6 @@ module _ (xs : List ℕ) where
     row-first : (n : ℕ) → (numbers (callAnswer xs call) ≡ refusalRow (suc n)) ↔ (firstOf (memoryTests ++ machineTests now call) ≡ suc n)
     row-first n = let r = row-by xs call n in (λ e. sym by-tests ∙ r .0 e, λ e. r .1 (by-tests ∙ e))
 
-    fits : isSound xs ≡ true → Fitting (now .part)
-    fits h = sound-decode xs h .fitting
-
-    -- the machine's tests on a sound memory
-    timely : (late now call ≡ false) ↔ (Untimely now call → ⊥)
-    timely = tells-not (late now call) (late-tells now call)
-
-    known : isSound xs ≡ true → (strange now call ≡ false) ↔ (Unknown now call → ⊥)
-    known h = tells-not (strange now call) (strange-tells now call)
-
-    priced : (unpriced now call ≡ false) ↔ (Unpriced now call → ⊥)
-    priced = tells-not (unpriced now call) (unpriced-tells now call)
-
-    roomy : (full now call ≡ false) ↔ (LogFull now call → ⊥)
-    roomy = tells-not (full now call) (full-tells now call)
-
     -- tests of the machine behind those of the memory
     firsts : (more : List (Bool × ℕ)) → NonePass (memoryTests ++ more) → isSound xs ≡ true
     firsts more h = not-false (isSound xs) (h .1 .1 .0)
@@ -108,74 +92,87 @@ module _ (xs : List ℕ) where
     behind : (more : List (Bool × ℕ)) → isSound xs ≡ true → NonePass more → NonePass (memoryTests ++ more)
     behind more k h = let m = sound-passes k in (m .0, (m .1 .0, (m .1 .1 .0, h)))
 
-    -- EACH REFUSAL, AS DOCUMENT 01 HAS IT
+    -- the machine's tests before the one at a place
+    abbrev upTo : ℕ → List (Bool × ℕ)
+    upTo n = take n (machineTests now call)
+
+    -- and what it means that none of them passed
+    timely : NonePass (upTo 1) ↔ Timely now call
+    timely = let t = tells-not (late now call) (late-tells now call) in (λ h. t .0 (h .0), λ h. (t .1 h, tt))
+
+    known : NonePass (upTo 2) ↔ Known now call
+    known = none-more (upTo 1) (strange now call) 13 timely (strange-tells now call)
+
+    priced : NonePass (upTo 3) ↔ Priced now call
+    priced = none-more (upTo 2) (unpriced now call) 14 known (unpriced-tells now call)
+
+    placed : NonePass (upTo 4) ↔ Placed now call
+    placed = none-more (upTo 3) (crowded now call) 17 priced (crowded-tells now call)
+
+    named : NonePass (upTo 5) ↔ Named now call
+    named = none-more (upTo 4) (misnamed now call) 18 placed (misnamed-tells now call)
+
+    covered : NonePass (upTo 6) ↔ Covered now call
+    covered = none-more (upTo 5) (drained now call) 19 named (drained-tells now call)
+
+    -- a number of the machine's: those before it did not apply, and it does
+    at-number : (before : List (Bool × ℕ)) (b : Bool) (n : ℕ) (more : List (Bool × ℕ)) (P Q : State → Type 0)
+        → machineTests now call ≡ before ++ ((b, suc n) ∷ more) → NoneIs (suc n) (memoryTests ++ before) → NoneIs (suc n) more → T (not (eqb (suc n) 0))
+        → NonePass before ↔ P now → Tells b (Q now) → (numbers (callAnswer xs call) ≡ refusalRow (suc n)) ↔ Holding xs (λ s. P s × Q s)
+    at-number before b n more P Q tests other later some none tells =
+        let same = ap (λ (l : List (Bool × ℕ)). firstOf (memoryTests ++ l)) tests in
+        Iff·trans (row-first n)
+        (Iff·trans (λ e. sym same ∙ e, λ e. same ∙ e)
+        (Iff·trans (first-at (memoryTests ++ before) b (suc n) more other later some)
+        (Iff·trans (
+          λ h. (firsts before (h .0), (none .0 (h .0 .1 .1 .1), tells .0 (h .1))),
+          λ h. (behind before (h .0) (none .1 (h .1 .0)), tells .1 (h .1 .1)),
+        )
+        (on-held (λ s. P s × Q s)))))
+
+    -- EACH REFUSAL, AS DOCUMENTS 01 AND 02 HAVE IT
     pub call-refusals : CallRefusals xs call
     unfolding Sound
     call-refusals = record {
       one =
           Iff·trans (row-first 0)
-          (Iff·trans (first-at [] (isShort xs) 1 _ tt (tt, (tt, (tt, (tt, (tt, (tt, tt)))))) tt)
+          (Iff·trans (first-at [] (isShort xs) 1 _ tt (tt, (tt, (tt, (tt, (tt, (tt, (tt, (tt, (tt, tt))))))))) tt)
           (λ h. short-tells .0 (h .1), λ h. (tt, short-tells .1 h)));
       four =
           Iff·trans (row-first 3)
-          (Iff·trans (first-at ((isShort xs, 1) ∷ []) (eqb (markOf xs) 0) 4 _ (tt, tt) (tt, (tt, (tt, (tt, (tt, tt))))) tt)
+          (Iff·trans (first-at ((isShort xs, 1) ∷ []) (eqb (markOf xs) 0) 4 _ (tt, tt) (tt, (tt, (tt, (tt, (tt, (tt, (tt, (tt, tt)))))))) tt)
           (λ h. (long-tells .0 (h .0 .0), unmarked-tells .0 (h .1)), λ h. ((long-tells .1 (h .0), tt), unmarked-tells .1 (h .1))));
       two =
           Iff·trans (row-first 1)
-          (Iff·trans (first-at ((isShort xs, 1) ∷ (eqb (markOf xs) 0, 4) ∷ []) (not (isSound xs)) 2 _ (tt, (tt, tt)) (tt, (tt, (tt, (tt, tt)))) tt) (
+          (Iff·trans (first-at ((isShort xs, 1) ∷ (eqb (markOf xs) 0, 4) ∷ []) (not (isSound xs)) 2 _ (tt, (tt, tt)) (tt, (tt, (tt, (tt, (tt, (tt, (tt, tt))))))) tt) (
             λ h. ((long-tells .0 (h .0 .0), marked-tells .0 (h .0 .1 .0)), unsound-tells .0 (h .1)),
             λ h. ((long-tells .1 (h .0 .0), (marked-tells .1 (h .0 .1), tt)), unsound-tells .1 (h .1)),
           ));
       twelve =
           Iff·trans (row-first 11)
-          (Iff·trans (first-at memoryTests (late now call) 12 _ (tt, (tt, (tt, tt))) (tt, (tt, (tt, tt))) tt)
+          (Iff·trans (first-at memoryTests (late now call) 12 _ (tt, (tt, (tt, tt))) (tt, (tt, (tt, (tt, (tt, (tt, tt)))))) tt)
           (Iff·trans (λ h. (firsts [] (h .0), late-tells now call .0 (h .1)), λ h. (sound-passes (h .0), late-tells now call .1 (h .1)))
           (on-held (λ s. Untimely s call))));
-      thirteen =
-          Iff·trans (row-first 12)
-          (Iff·trans (first-at (memoryTests ++ ((late now call, 12) ∷ [])) (strange now call) 13 _ (tt, (tt, (tt, (tt, tt)))) (tt, (tt, tt)) tt)
-          (Iff·trans (
-            λ h. let k = firsts ((late now call, 12) ∷ []) (h .0) in (k, (timely .0 (h .0 .1 .1 .1 .0), strange-tells now call .0 (h .1))),
-            λ h. (behind ((late now call, 12) ∷ []) (h .0) (timely .1 (h .1 .0), tt), strange-tells now call .1 (h .1 .1)),
-          )
-          (on-held (λ s. (Untimely s call → ⊥) × Unknown s call))));
-      fourteen =
-          Iff·trans (row-first 13)
-          (Iff·trans
-          (first-at (memoryTests ++ ((late now call, 12) ∷ (strange now call, 13) ∷ [])) (unpriced now call) 14 _ (tt, (tt, (tt, (tt, (tt, tt))))) (tt, tt) tt)
-          (Iff·trans (
-            λ h. let k = firsts ((late now call, 12) ∷ (strange now call, 13) ∷ []) (h .0) in
-                (k, (timely .0 (h .0 .1 .1 .1 .0), known k .0 (h .0 .1 .1 .1 .1 .0), unpriced-tells now call .0 (h .1))),
-            λ h. (
-              behind ((late now call, 12) ∷ (strange now call, 13) ∷ []) (h .0) (timely .1 (h .1 .0), (known (h .0) .1 (h .1 .1), tt)),
-              unpriced-tells now call .1 (h .1 .2),
-            ),
-          )
-          (on-held (λ s. (Untimely s call → ⊥) × (Unknown s call → ⊥) × Unpriced s call))));
-      fifteen =
-          Iff·trans (row-first 14)
-          (Iff·trans
-          (first-at (memoryTests ++ ((late now call, 12) ∷ (strange now call, 13) ∷ (unpriced now call, 14) ∷ [])) (full now call) 15 []
-          (tt, (tt, (tt, (tt, (tt, (tt, tt)))))) tt tt)
-          (Iff·trans (
-            λ h. let k = firsts ((late now call, 12) ∷ (strange now call, 13) ∷ (unpriced now call, 14) ∷ []) (h .0) in
-                let m = h .0 .1 .1 .1 in (k, (timely .0 (m .0), known k .0 (m .1 .0), priced .0 (m .1 .1 .0), full-tells now call .0 (h .1))),
-            λ h. (
-              behind ((late now call, 12) ∷ (strange now call, 13) ∷ (unpriced now call, 14) ∷ []) (h .0)
-                  (timely .1 (h .1 .0), (known (h .0) .1 (h .1 .1), (priced .1 (h .1 .2), tt))),
-              full-tells now call .1 (h .1 .3),
-            ),
-          )
-          (on-held (λ s. (Untimely s call → ⊥) × (Unknown s call → ⊥) × (Unpriced s call → ⊥) × LogFull s call))));
+      thirteen = at-number (upTo 1) (strange now call) 12 _ (λ s. Timely s call) (λ s. Unknown s call) refl
+          (tt, (tt, (tt, (tt, tt)))) (tt, (tt, (tt, (tt, (tt, tt))))) tt timely (strange-tells now call);
+      fourteen = at-number (upTo 2) (unpriced now call) 13 _ (λ s. Known s call) (λ s. Unpriced s call) refl
+          (tt, (tt, (tt, (tt, (tt, tt))))) (tt, (tt, (tt, (tt, tt)))) tt known (unpriced-tells now call);
+      seventeen = at-number (upTo 3) (crowded now call) 16 _ (λ s. Priced s call) (λ s. RegisterFull s call) refl
+          (tt, (tt, (tt, (tt, (tt, (tt, tt)))))) (tt, (tt, (tt, tt))) tt priced (crowded-tells now call);
+      eighteen = at-number (upTo 4) (misnamed now call) 17 _ (λ s. Placed s call) (λ s. Misnamed s call) refl
+          (tt, (tt, (tt, (tt, (tt, (tt, (tt, tt))))))) (tt, (tt, tt)) tt placed (misnamed-tells now call);
+      nineteen = at-number (upTo 5) (drained now call) 18 _ (λ s. Named s call) (λ s. Overdrawn s call) refl
+          (tt, (tt, (tt, (tt, (tt, (tt, (tt, (tt, tt)))))))) (tt, tt) tt named (drained-tells now call);
+      fifteen = at-number (upTo 6) (full now call) 14 [] (λ s. Covered s call) (λ s. LogFull s call) refl
+          (tt, (tt, (tt, (tt, (tt, (tt, (tt, (tt, (tt, tt))))))))) tt tt covered (full-tells now call);
       accepted =
+          let roomy = none-more (upTo 6) (full now call) 15 covered (full-tells now call) in
           Iff·trans (unrefused xs call)
           (Iff·trans (λ e. sym by-tests ∙ e, λ e. by-tests ∙ e)
-          (Iff·trans (first-none (memoryTests ++ machineTests now call) (tt, (tt, (tt, (tt, (tt, (tt, (tt, tt))))))))
+          (Iff·trans (first-none (memoryTests ++ machineTests now call) (tt, (tt, (tt, (tt, (tt, (tt, (tt, (tt, (tt, (tt, tt)))))))))))
           (Iff·trans (
-            λ h. let k = firsts (machineTests now call) h in
-                let m = h .1 .1 .1 in (k, (timely .0 (m .0), known k .0 (m .1 .0), priced .0 (m .1 .1 .0), roomy .0 (m .1 .1 .1 .0))),
-            λ h. behind (machineTests now call) (h .0)
-                (timely .1 (h .1 .0), (known (h .0) .1 (h .1 .1), (priced .1 (h .1 .2), (roomy .1 (h .1 .3), tt)))),
+            λ h. (firsts (machineTests now call) h, roomy .0 (h .1 .1 .1)),
+            λ h. behind (machineTests now call) (h .0) (roomy .1 (h .1)),
           )
-          (on-held (λ s. (Untimely s call → ⊥) × (Unknown s call → ⊥) × (Unpriced s call → ⊥) × (LogFull s call → ⊥))))));
+          (on-held (λ s. Covered s call × (LogFull s call → ⊥))))));
     }

@@ -3,7 +3,7 @@ use Prim.Native.Nat.{ℕ, suc, _≤_, _<_}
 use native.Mathlib.Omega.{arith}
 use mathlib.Core.Path.{_≡_, refl, sym, ap, _∙_, subst}
 use mathlib.Core.Logic.{_↔_, _⊎_, inl, inr, ⊎-elim}
-use mathlib.Core.Bool.{Bool, true, false, not, cond, _&&_, false≢true}
+use mathlib.Core.Bool.{Bool, true, false, not, cond, _&&_, _||_, false≢true}
 use mathlib.Core.List.{List, [], _∷_, _++_}
 use lib.Dec.{T, leb, ltb, eqb, lit≤}
 use borrow.Author.Tests.{ltb-true, ltb-false, leb-true, leb-false, eqb-true, lt-ltb, le-ltb, le-leb, lt-leb, eq-eqb, not-true}
@@ -31,6 +31,18 @@ and-tells false b t u = (λ e. absurd (false≢true e), λ h. absurd (false≢tr
 pub or-tells : {P Q : Type 0} (a b : Bool) → Tells (not a) P → Tells (not b) Q → Tells (not (a && b)) (P ⊎ Q)
 or-tells true b t u = (λ e. inr (u .0 e), ⊎-elim (λ p. absurd (false≢true (t .1 p))) (u .1))
 or-tells false b t u = (λ e. inl (t .0 refl), λ h. refl)
+
+pub three-tells : {P Q R : Type 0} (a b c : Bool) → Tells (not a) P → Tells (not b) Q → Tells (not c) R → Tells (not (a && b && c)) (P ⊎ Q ⊎ R)
+three-tells true b c t u v = (
+  λ e. inr (or-tells b c u v .0 e),
+  ⊎-elim (λ p. absurd (false≢true (t .1 p))) (or-tells b c u v .1),
+)
+three-tells false b c t u v = (λ e. inl (t .0 refl), λ h. refl)
+
+-- a disjunction passes if one of its parts does
+pub either-tells : {P Q : Type 0} (a b : Bool) → Tells a P → Tells b Q → Tells (a || b) (P ⊎ Q)
+either-tells true b t u = (λ e. inl (t .0 refl), λ h. refl)
+either-tells false b t u = (λ e. inr (u .0 e), ⊎-elim (λ p. absurd (false≢true (t .1 p))) (u .1))
 
 pub tells-as : {P Q : Type 0} {a : Bool} → Tells a P → P ↔ Q → Tells a Q
 tells-as t h = (λ e. h .0 (t .0 e), λ q. t .1 (h .1 q))
@@ -94,6 +106,23 @@ first-none (t ∷ rest) diff = go (t .0) refl (first-none rest (diff .1))
     go : (a : Bool) → t .0 ≡ a → (firstOf rest ≡ 0) ↔ NonePass rest → (cond a (t .1) (firstOf rest) ≡ 0) ↔ NonePass (t ∷ rest)
     go true is later = (λ e. absurd (differs (t .1) 0 (diff .0) e), λ h. absurd (false≢true (sym (h .0) ∙ is)))
     go false is later = (λ e. (is, later .0 e), λ h. later .1 (h .1))
+
+-- none of these and none of one test more passes exactly if both sentences say so
+pub none-more : {P Q : Type 0} (before : List (Bool × ℕ)) (b : Bool) (n : ℕ) → NonePass before ↔ P → Tells b Q
+    → NonePass (before ++ ((b, n) ∷ [])) ↔ (P × (Q → ⊥))
+none-more before b n none tells =
+    let fails = tells-not b tells in (
+      λ h. let k = split before h in (none .0 (k .0), fails .0 (k .1)),
+      λ h. join before (none .1 (h .0)) (fails .1 (h .1)),
+    )
+  where
+    split : (tests : List (Bool × ℕ)) → NonePass (tests ++ ((b, n) ∷ [])) → NonePass tests × (b ≡ false)
+    split [] h = (tt, h .0)
+    split (t ∷ rest) h = let k = split rest (h .1) in ((h .0, k .0), k .1)
+
+    join : (tests : List (Bool × ℕ)) → NonePass tests → b ≡ false → NonePass (tests ++ ((b, n) ∷ []))
+    join [] h e = (e, tt)
+    join (t ∷ rest) h e = (h .0, join rest (h .1) e)
 
 -- the first test that passes has a number at or above a bound, where all have
 pub first-least : (least : ℕ) (tests : List (Bool × ℕ)) → All (λ t. T (leb least (t .1))) tests → (n : ℕ) → firstOf tests ≡ suc n → least ≤ suc n

@@ -15,6 +15,7 @@ use Rattle.machine.specs.Locks.{lifted}
 use Rattle.machine.specs.Step.{locksAfter, logAfter, partAfter, after}
 use Rattle.machine.proofs.Effects.{totals-stay, log-stays}
 use Rattle.state.specs.Laid.{withClock}
+use Rattle.machine.specs.Register.{registerAfter}
 
 -- it zeroes no counter
 none-zeroed : ZeroesNone (effectOf 0)
@@ -38,13 +39,14 @@ module _ (root : ℕ) where
   }
 
   none-ticks : (s : State) (time : ℕ) → every isFlagged (s .log) ≡ true → withClock s time ≡ after (resetting time root (effectOf 0)) s
-  unfolding after partAfter clockAfter locksAfter logAfter
+  unfolding after partAfter clockAfter locksAfter logAfter registerAfter
   none-ticks s time flagged = sym (λ i. record {
     part = record {
       clock = time;
       profile = s .part .profile;
       accounts = totals-stay (effectOf 0) none-zeroed root time (s .part .accounts) i;
       locks = locks-stay (s .part .locks) i;
+      register = s .part .register;
     };
     log = log-stays (effectOf 0) none-zeroed root (s .log) flagged i;
   })

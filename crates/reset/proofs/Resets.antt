@@ -18,6 +18,7 @@ use Rattle.state.proofs.Done.{fits-all}
 use Rattle.locks.specs.Locks.{locksIn}
 use Rattle.locks.proofs.Laid.{locks-after}
 use Rattle.reset.proofs.Wipes.{wiped-fair}
+use Rattle.machine.specs.Register.{registerAfter}
 
 module _ {xs ys : List ℕ} (h : Laid xs) (time : ℕ) (clock : ys ≡ stored (withClock (decode xs) time) xs) where
   -- the clock moved
@@ -30,7 +31,7 @@ module _ {xs ys : List ℕ} (h : Laid xs) (time : ℕ) (clock : ys ≡ stored (w
   -- a lockout: then the locks
   pub locked : (level root : ℕ) {part : List ℕ} → part ≡ locksNumbers (lockedOut (levelNamed level root) (locksIn (locksPart ys)))
       → putLocks ys part ≡ stored (after (lockingOut time (levelNamed level root)) (decode xs)) xs
-  unfolding after partAfter clockAfter accountsAfter locksAfter logAfter
+  unfolding after partAfter clockAfter accountsAfter locksAfter logAfter registerAfter
   locked level root e =
       let change = lockedOut (levelNamed level root) in step-on moved (λ s. withLocks s (change (s .part .locks))) (locks-after moved-laid change e)
 
@@ -62,6 +63,6 @@ module _ {xs ys : List ℕ} (h : Laid xs) (time : ℕ) (clock : ys ≡ stored (w
 
       pub reset-stored : {log : List ℕ} → log ≡ logNumbers (unflaggedLog (zeroing effect root) (entriesIn (logPart zs)))
           → putLog zs log ≡ stored (after (resetting time root effect) (decode xs)) xs
-      unfolding after partAfter clockAfter accountsAfter locksAfter logAfter lightened
+      unfolding after partAfter clockAfter accountsAfter locksAfter logAfter registerAfter lightened
       reset-stored e =
           let change = unflaggedLog (zeroing effect root) in step-on emptied (λ s. withLog s (change (s .log))) (log-after emptied-laid change e)

@@ -25,7 +25,7 @@ pub fn lock_out(m: &mut [u64], time: u64, level: u64, root: u64)
     ensures { λ _. ⌜ now (m .exit) ≡ stored (after (Deed.lockingOut time (levelNamed level root)) (decode (now (m .entry)))) (now (m .entry)) ⌝ }
 {
     state::put_clock(m, time);
-    locks::lock(&mut m[state::LOCKS..state::LOG], level, root);
+    locks::lock(&mut m[state::LOCKS..state::REGISTER], level, root);
 }
 
 // What a reset does, by its number: 1 is SYMBOL, 2 FIRM, 3 BOTH; 4 is T, 5 E and 6 both of these, which lift and zero nothing.
@@ -96,7 +96,7 @@ fn carry_out(m: &mut [u64], time: u64, root: u64, effect: Effect)
     ensures { λ _. ⌜ now (m .exit) ≡ stored (after (Deed.resetting time root effect) (decode (now (m .entry)))) (now (m .entry)) ⌝ }
 {
     state::put_clock(m, time);
-    locks::lift(&mut m[state::LOCKS..state::LOG], root, effect);
+    locks::lift(&mut m[state::LOCKS..state::REGISTER], root, effect);
     wipe(m, root, effect);
     log::unflag(&mut m[state::LOG..state::SIZE], root, effect);
 }

@@ -45,7 +45,7 @@ unfoldable pub hasRate : List Rule → Bool
 hasRate [] = false
 hasRate (rule ∷ rest) = isRate (rule .kind) || hasRate rest
 
--- what an absolute rule may have counted is at most 10^15; a rate rule has no total, so it stays 0
+-- what an absolute rule may have counted is at most 10^18; a rate rule has no total, so it stays 0
 unfoldable pub isTotalNumber : Rule → ℕ → Bool
 isTotalNumber rule n = cond (isRate (rule .kind)) (eqb n 0) (isIn totals n)
 

@@ -8,11 +8,14 @@ use Rattle.machine.specs.declared.Entry.{Entry}
 use Rattle.machine.specs.State.{State, Locks, rulesIn, rootsIn, Fitting}
 use Rattle.log.specs.Log.{entriesIn, logNumbers}
 use Rattle.state.specs.State.{size, encode, stored, decode}
-use Rattle.state.specs.Laid.{Fits, Laid, withClock, withLocks, withLog}
-use Rattle.state.specs.Tests.{logPart, putLog}
+use Rattle.state.specs.Laid.{Fits, Laid, withClock, withLocks, withLog, withRegister}
+use Rattle.state.specs.Tests.{logPart, putLog, putRegister}
 use Rattle.state.proofs.Stored.{encode-long, decode-stored, stored-laid, stored-again}
-use Rattle.state.proofs.Stores.{put-log}
+use Rattle.state.proofs.Stores.{put-log, put-register}
 use Rattle.state.proofs.Laid.{laid-entries}
+use Rattle.register.specs.Register.{registerNumbers}
+use Rattle.machine.specs.declared.Sent.{Sent}
+use Rattle.machine.proofs.Register.{Registered}
 
 -- ys holds the state s, and what xs holds past the state
 pub record Holds (s : State) (xs ys : List ℕ) : Type 0 where
@@ -44,6 +47,11 @@ log-after {xs} h change {ys} e =
     let entries : ys ≡ logNumbers (change (decode xs .log)) = e ∙ ap (λ (l : List Entry). logNumbers (change l)) (laid-entries h) in
     (λ i. putLog (h .is i) (entries i)) ∙ put-log (decode xs) (h .fits) xs (change (decode xs .log))
 
+-- the register's part after a change of the orders that it holds
+pub register-after : {xs : List ℕ} → Laid xs → (register : List Sent) {ys : List ℕ} → ys ≡ registerNumbers register
+    → putRegister xs ys ≡ stored (withRegister (decode xs) register) xs
+register-after {xs} h register e = (λ i. putRegister (h .is i) (e i)) ∙ put-register (decode xs) (h .fits) xs register
+
 -- neither the clock nor the locks have to do with whether a state fits
 module _ {s : State} (f : Fits s) where
   pub fits-clock : (time : ℕ) → Fits (withClock s time)
@@ -56,6 +64,8 @@ module _ {s : State} (f : Fits s) where
     measured = f .measured;
     valid = f .valid;
     entries = f .entries;
+    few = f .few;
+    sent = f .sent;
   }
 
   pub fits-locks : (locks : Locks) → Fits (withLocks s locks)
@@ -68,4 +78,21 @@ module _ {s : State} (f : Fits s) where
     measured = f .measured;
     valid = f .valid;
     entries = f .entries;
+    few = f .few;
+    sent = f .sent;
+  }
+
+  -- another register still fits if it is one that a sound state may have
+  pub fits-register : {register : List Sent} → Registered (rootsIn s) register → Fits (withRegister s register)
+  unfolding rulesIn rootsIn Fitting
+  fits-register r = record {
+    roots = f .roots;
+    rules = f .rules;
+    log = f .log;
+    fitting = f .fitting;
+    measured = f .measured;
+    valid = f .valid;
+    entries = f .entries;
+    few = r .few;
+    sent = r .registered;
   }

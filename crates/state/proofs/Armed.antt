@@ -17,6 +17,7 @@ use Rattle.made.specs.Parts.{totalsSize}
 use Rattle.state.specs.State.{size, number, locksShape, marksOf, profileShape, linesOf, totalsShape, partShape, numbersShape, totalsIn, numbersOf, encode, stored, restSize}
 use Rattle.state.proofs.Accounts.{map-length}
 use Rattle.machine.proofs.Cells.{cells-bound}
+use Rattle.register.proofs.Shapes.{register-written}
 
 -- the totals of fresh accounts are 0
 fresh-flat : (rules : List Rule) → flat (λ x. x ∷ []) (totalsIn (map fresh rules)) ≡ zeros (length rules)
@@ -36,11 +37,11 @@ fresh-written rules few =
 -- the numbers of an armed state, part by part
 armed-written : (p : Profile) → encode (armed p)
     ≡ 1 ∷ ((0 ∷ ((p .firm ∷ ((length (p .roots) ∷ rootsTable (p .roots)) ++ (length (p .rules) ∷ rulesTable (p .rules))))
-    ++ (totalsShape (p .rules) .write (totalsIn (map fresh (cellsOf (p .rules)))) ++ zeros 4))) ++ zeros 1025)
+    ++ (totalsShape (p .rules) .write (totalsIn (map fresh (cellsOf (p .rules)))) ++ (zeros 4 ++ zeros 129)))) ++ zeros 1025)
 unfolding encode armed noLocks numbersOf numbersShape partShape profileShape linesOf locksShape marksOf both named table rows one word flag number rootsTable filled flat zeros
 armed-written p =
     λ i. 1 ∷ ((0 ∷ ((p .firm ∷ ((length (p .roots) ∷ rootsTable (p .roots)) ++ rules-written (length (p .roots)) (p .rules) i))
-    ++ (totalsShape (p .rules) .write (totalsIn (map fresh (cellsOf (p .rules)))) ++ zeros 4))) ++ log-written (length (p .roots)) [] i)
+    ++ (totalsShape (p .rules) .write (totalsIn (map fresh (cellsOf (p .rules)))) ++ (zeros 4 ++ register-written (length (p .roots)) [] i)))) ++ log-written (length (p .roots)) [] i)
 
 -- the same numbers, taken from the front on
 joined-parts : (names count places totals locks log rest : List ℕ)
@@ -55,9 +56,9 @@ pub armed-stored : (p : Profile) (xs : List ℕ) → length (p .rules) ≤ 256
 unfolding stored
 armed-stored p xs few =
     let totals = totalsShape (p .rules) .write (totalsIn (map fresh (cellsOf (p .rules)))) in
-    let all : totals ++ (zeros 4 ++ zeros 1025) ≡ zeros restSize =
-    ap₂ (λ (a b : List ℕ). a ++ b) (fresh-written (p .rules) few) (zeros-add 4 1025) ∙ zeros-add totalsSize 1029 in
+    let all : totals ++ ((zeros 4 ++ zeros 129) ++ zeros 1025) ≡ zeros restSize =
+    ap₂ (λ (a b : List ℕ). a ++ b) (fresh-written (p .rules) few) (ap (λ (l : List ℕ). l ++ zeros 1025) (zeros-add 4 129) ∙ zeros-add 133 1025) ∙ zeros-add totalsSize 1158 in
     sym (ap (λ (l : List ℕ). l ++ drop size xs) (armed-written p)
     ∙ ap (λ (l : List ℕ). 1 ∷ 0 ∷ p .firm ∷ length (p .roots) ∷ l)
-    (joined-parts (rootsTable (p .roots)) (length (p .rules) ∷ []) (rulesTable (p .rules)) totals (zeros 4) (zeros 1025) (drop size xs)
+    (joined-parts (rootsTable (p .roots)) (length (p .rules) ∷ []) (rulesTable (p .rules)) totals (zeros 4 ++ zeros 129) (zeros 1025) (drop size xs)
     ∙ ap (λ (l : List ℕ). rootsTable (p .roots) ++ ((length (p .rules) ∷ []) ++ (rulesTable (p .rules) ++ (l ++ drop size xs)))) all))

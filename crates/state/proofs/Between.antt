@@ -90,6 +90,8 @@ module _ {f : Account → Account} (k : Fair f) where
     measured = between-measured p q (s .part .accounts) l (h .measured);
     valid = h .valid;
     entries = h .entries;
+    few = h .few;
+    sent = h .sent;
   }
 
   -- of the state in xs the accounts from p up to j went through f in ys

@@ -93,6 +93,8 @@ module _ {f : Account → Account} (k : Fair f) {s : State} (h : Fits s) where
     measured = done-every f isMeasured (k .measured) i (s .part .accounts) (h .measured);
     valid = h .valid;
     entries = h .entries;
+    few = h .few;
+    sent = h .sent;
   }
 
   pub fits-all : Fits (withAccounts s (map f (s .part .accounts)))

@@ -13,6 +13,7 @@ use Rattle.tables.proofs.Shapes.{rules-exact, log-exact}
 use Rattle.machine.specs.State.{Profile}
 use Rattle.made.specs.Parts.{totalsSize}
 use Rattle.state.specs.State.{number, locksOf, marksOf, locksShape, profileOf, linesOf, profileShape, totalsShape, partShape, PartNumbers, numbersShape}
+use Rattle.register.proofs.Shapes.{register-exact}
 
 pub number-exact : Exact number
 unfolding number
@@ -36,14 +37,14 @@ pub totals-exact : (rules : List Rule) → Exact (totalsShape rules)
 unfolding totalsShape
 totals-exact rules = rows-exact totalsSize _ _ number-exact
 
-pub part-exact : Exact partShape
-unfolding partShape
-part-exact = both-exact _ _ number-exact (λ _ _. both-exact _ _ profile-exact (λ p _. both-exact _ _ (totals-exact (p .rules)) (λ _ _. locks-exact)))
-
--- a valid part has at most 64 roots
+-- a valid profile, and so a valid part, has at most 64 roots
 pub profile-few : (p : Profile) → profileShape .ok p ≡ true → length (p .roots) ≤ 64
 unfolding profileShape named both linesOf number one
 profile-few p h = table-few 64 number (p .roots) (and-l (table 64 number .ok (p .roots)) _ h)
+
+pub part-exact : Exact partShape
+unfolding partShape
+part-exact = both-exact _ _ number-exact (λ _ _. both-exact _ _ profile-exact (λ p h. both-exact _ _ (totals-exact (p .rules)) (λ _ _. both-exact _ _ locks-exact (λ _ _. register-exact (length (p .roots)) (profile-few p h)))))
 
 pub part-few : (p : PartNumbers) → partShape .ok p ≡ true → length (p .1 .0 .roots) ≤ 64
 unfolding partShape both number one

@@ -57,6 +57,8 @@ sound-fits s k m = record {
   measured = every-imp isPaid (λ a. isOf (a .rule .limit) (a .total)) (λ a h. total-in (a .rule) (a .total) h .0) (s .part .accounts) (k .totals);
   valid = m .valid;
   entries = k .entries;
+  few = k .few;
+  sent = k .registered;
 }
 
 or-none : (a : Bool) (n : ℕ) → (a || eqb n 0) ≡ true → a ≡ false → n ≡ 0
@@ -83,7 +85,8 @@ sound-passes s k =
     let clock = and-i (le-leb _ _ (k .clock .0)) (le-leb _ _ (k .clock .1)) in
     let made = given-is-made (s .part .profile) (k .given) in
     let words = and-i (and-i (and-i (and-i clock made) (k .totals)) (lt-ltb _ _ (k .tripped))) (lt-ltb _ _ (k .byUser)) in
-    and-i (and-i words (none-or (hasRate (rulesIn s)) (length (s .log)) (k .none))) (and-i (k .ordered) (k .flagged))
+    and-i (and-i (and-i (and-i words (none-or (hasRate (rulesIn s)) (length (s .log)) (k .none))) (and-i (k .ordered) (k .flagged)))
+    (k .different)) (le-leb _ _ (k .inUse))
 
 pub passes-sound : (s : State) → Fits s → isSoundState s ≡ true → SoundState s
 unfolding isSoundState
@@ -99,6 +102,10 @@ passes-sound s f h = record {
   ordered = search tests depth 20;
   entries = f .entries;
   flagged = search tests depth 20;
+  few = f .few;
+  registered = f .sent;
+  different = search tests depth 20;
+  inUse = leb-true _ _ (search tests depth 20);
 }
 
 -- what the test says

@@ -4,16 +4,16 @@ use native.Mathlib.Omega.{arith}
 use native.Mathlib.Numerals.{add-one}
 use mathlib.Core.Path.{_≡_, sym, ap, _∙_, subst}
 use mathlib.Core.Bool.{true}
-use mathlib.Core.List.{List, _∷_}
+use mathlib.Core.List.{List, _∷_, [], append-nil}
 use lib.ListN.{length, getD, take, drop, set, length-drop, List·getD-map}
-use lib.Seq.{getD-take, getD-drop, drop-drop}
+use lib.Seq.{getD-take, getD-drop, drop-drop, take-all, length-take-le}
 use Rattle.rules.specs.Amounts.{numberOf, amountIn, isOf}
 use Rattle.rules.specs.Rules.{InRange, InDay}
 use Rattle.rules.specs.Valid.{isRule}
 use Rattle.rules.specs.declared.Amount.{Amount}
 use Rattle.rules.specs.declared.Rule.{Rule}
 use Rattle.rules.proofs.Amounts.{in-number}
-use Rattle.tables.specs.RulePlace.{ruleAt, rulesTable}
+use Rattle.tables.specs.RulePlace.{ruleAt, rulesTable, rulesShape, ruleShape}
 use Rattle.laws.specs.Every.{every-at}
 use Rattle.tables.proofs.Tables.{read-table}
 use Rattle.tables.proofs.RulePlace.{rule-codec, rule-in-range, rule-wider}
@@ -25,16 +25,24 @@ use Rattle.machine.proofs.Lists.{every-imp}
 use Rattle.log.specs.Log.{HeldIn, entriesIn, logNumbers}
 use Rattle.log.proofs.Logs.{numbers-held, numbers-entries}
 use Rattle.made.specs.Parts.{totalsSize}
-use Rattle.state.specs.State.{number, locksNumbers, stored, decode, logAt, totalsAt}
+use Rattle.state.specs.State.{number, locksNumbers, stored, decode, logAt, registerAt, totalsAt}
 use Rattle.state.specs.Laid.{Fits, Laid, accountIn, withClock, withTotal}
-use Rattle.state.specs.Tests.{rulesPart, locksPart, logPart}
+use Rattle.state.specs.Tests.{rulesPart, locksPart, logPart, registerPart}
 use Rattle.state.proofs.Accounts.{map-length}
-use Rattle.shapes.specs.Shape.{one, both, named, rows, table}
+use Rattle.shapes.specs.Shape.{one, both, named, rows, table, coded}
 use Rattle.tables.specs.Tables.{places}
 use Rattle.state.proofs.Map.{decode-is}
 use Rattle.state.proofs.Lent.{ones-places}
-use Rattle.state.proofs.Stores.{stored-rules, stored-roots, stored-locks, stored-log, stored-total, put-clock, put-account}
+use Rattle.state.proofs.Stores.{stored-rules, stored-roots, stored-locks, stored-log, stored-total, put-clock, put-account, stored-register}
 use Rattle.machine.proofs.Cells.{cells-bound, cells-valid}
+use Rattle.register.specs.Register.{registerNumbers, registerIn, RegisterHeld}
+use Rattle.register.proofs.Registers.{numbers-held as numbers-held-so, numbers-register}
+use Rattle.register.proofs.SentPlace.{sent-wider}
+use Rattle.machine.specs.Register.{isSent}
+use Rattle.made.specs.Parts.{rulesOf}
+use Rattle.tables.proofs.Shapes.{rules-read, rules-written, rules-exact}
+use Rattle.shapes.proofs.Valid.{table-ok}
+use Rattle.laws.specs.Folds.{every}
 
 -- a state that fits has the accounts of its rules, and the entries of any 64 roots
 module _ {s : State} (f : Fits s) where
@@ -53,6 +61,16 @@ module _ {s : State} (f : Fits s) where
   log-held : HeldIn (logNumbers (s .log))
   unfolding rootsIn
   log-held = numbers-held (s .log) (f .log) (every-imp (isEntry (rootsIn s)) (isEntry 64) (λ e h. entry-wider (rootsIn s) 64 e (f .roots) h) (s .log) (f .entries))
+
+  wide-sent : every (isSent 64) (s .part .register) ≡ true
+  unfolding rootsIn
+  wide-sent = every-imp (isSent (rootsIn s)) (isSent 64) (λ e h. sent-wider (rootsIn s) 64 e (f .roots) h) (s .part .register) (f .sent)
+
+  register-held : RegisterHeld (registerNumbers (s .part .register))
+  register-held = numbers-held-so (s .part .register) (f .few) wide-sent
+
+  register-orders : registerIn (registerNumbers (s .part .register)) ≡ s .part .register
+  register-orders = numbers-register (s .part .register) wide-sent
 
   log-entries : entriesIn (logNumbers (s .log)) ≡ s .log
   unfolding rootsIn
@@ -92,6 +110,21 @@ module _ {xs : List ℕ} (h : Laid xs) where
   pub laid-few : length (decode xs .part .accounts) ≤ totalsSize
   laid-few = few-accounts (h .fits)
 
+  pub laid-count : getD (rulesPart xs) 0 0 ≤ 256
+  unfolding rulesIn
+  laid-count = omega (arith, ap (λ (l : List ℕ). getD l 0 0) rules-laid, h .fits .rules)
+
+  -- the rules of the table
+  pub laid-table : rulesOf (rulesPart xs) ≡ rulesIn (decode xs)
+  unfolding rulesIn rootsIn rulesShape ruleShape coded
+  laid-table =
+      let n = length (decode xs .part .profile .roots) in
+      let long : length (rulesPart xs) ≡ 513 = length-take-le 513 (drop 68 xs) (omega (arith, length-drop 68 xs, h .long)) in
+      ap (places 2 ruleAt (getD (rulesPart xs) 0 0)) (take-all 512 (drop 1 (rulesPart xs)) (omega (arith, length-drop 1 (rulesPart xs), long)))
+      ∙ sym (rules-read n (rulesPart xs))
+      ∙ ap (rulesShape n .read) (rules-laid ∙ sym (rules-written n (decode xs .part .profile .rules)) ∙ sym (append-nil _))
+      ∙ rules-exact n (h .fits .roots) .back (decode xs .part .profile .rules) [] (table-ok 256 _ _ (h .fits .rules) (h .fits .valid))
+
   -- rule i
   pub laid-rule : {i : ℕ} → i < length (rulesIn (decode xs)) → ruleAt (drop (i * 2 + 1) (rulesPart xs)) ≡ ruleIn (rulesIn (decode xs)) i
   unfolding rootsIn rulesIn ruleIn
@@ -102,6 +135,19 @@ module _ {xs : List ℕ} (h : Laid xs) where
   -- the locks, and the log
   pub laid-locks : locksPart xs ≡ locksNumbers (decode xs .part .locks)
   laid-locks = ap locksPart (h .is) ∙ stored-locks (decode xs) (h .fits) xs
+
+  -- the register of orders sent away
+  laid-register : registerPart xs ≡ registerNumbers (decode xs .part .register)
+  laid-register = ap registerPart (h .is) ∙ stored-register (decode xs) (h .fits) xs
+
+  pub laid-orders : RegisterHeld (registerPart xs)
+  laid-orders = subst RegisterHeld (sym laid-register) (register-held (h .fits))
+
+  pub laid-sent : registerIn (registerPart xs) ≡ decode xs .part .register
+  laid-sent = ap registerIn laid-register ∙ register-orders (h .fits)
+
+  pub laid-open : getD xs registerAt 0 ≡ length (decode xs .part .register)
+  laid-open = sym (getD-take 129 (drop registerAt xs) 0 0 (omega arith) ∙ getD-drop registerAt xs 0 0) ∙ ap (λ (l : List ℕ). getD l 0 0) laid-register
 
   pub laid-log : logPart xs ≡ logNumbers (decode xs .log)
   laid-log = ap logPart (h .is) ∙ stored-log (decode xs) (h .fits) xs

@@ -29,6 +29,10 @@ use Rattle.log.proofs.Logs.{areLogged, holds-parts}
 use Rattle.state.specs.State.{number, locksOf, locksShape, totalsShape, accountsOf}
 use Rattle.state.specs.Tests.{locksHold}
 use Rattle.machine.proofs.Cells.{cells-bound}
+use Rattle.register.specs.Register.{registerShape, registerHolds}
+use Rattle.register.proofs.Shapes.{register-read}
+use Rattle.machine.specs.Register.{areDifferent}
+use Rattle.machine.specs.declared.Sent.{Sent}
 
 -- the same tests in another order
 shuffle : (b p o z : Bool) → (b && ((p && o) && z)) ≡ ((b && ((b && p) && z)) && o)
@@ -162,3 +166,8 @@ locks-lent n zs =
 
     fourth : getD zs 3 0 ≡ getD (drop 1 (drop 1 (drop 1 zs))) 0 0
     fourth = sym (getD-drop 3 zs 0 0) ∙ ap (λ (q : List ℕ). getD q 0 0) (sym (drop-drop 1 2 zs) ∙ ap (drop 1) (sym (drop-drop 1 1 zs)))
+
+-- the register's table, lent alone
+pub register-lent : (n : ℕ) (zs : List ℕ) → registerHolds n zs ≡ (registerShape n .test zs && areDifferent (registerShape n .read zs))
+unfolding registerHolds
+register-lent n zs = ap (λ (register : List Sent). registerShape n .test zs && areDifferent register) (sym (register-read n zs))

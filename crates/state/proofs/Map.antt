@@ -12,7 +12,8 @@ use Rattle.rules.specs.declared.Rule.{Rule}
 use Rattle.tables.specs.RulePlace.{rulesShape}
 use Rattle.tables.specs.EntryPlace.{logShape}
 use Rattle.machine.specs.State.{cellsOf}
-use Rattle.state.specs.State.{number, locksShape, profileOf, profileShape, totalsShape, partShape, numbersShape, accountsOf, stateOf, decode, locksAt, logAt, totalsAt}
+use Rattle.state.specs.State.{number, locksShape, profileOf, profileShape, totalsShape, partShape, numbersShape, accountsOf, stateOf, decode, locksAt, logAt, totalsAt, registerAt}
+use Rattle.register.specs.Register.{registerShape}
 
 -- the roots and the rules that memory tells
 abbrev pub rootsTold : List ℕ → List ℕ
@@ -26,7 +27,7 @@ roots-told xs = table-many 64 number (drop 3 xs) ∙ getD-drop 3 xs 0 0
 
 pub map-test : (xs : List ℕ) → numbersShape .test xs
     ≡ (eqb (getD xs 0 0) 1 && ((table 64 number .test (drop 3 xs) && rulesShape (length (rootsTold xs)) .test (drop 68 xs))
-    && (totalsShape (rulesTold xs) .test (drop totalsAt xs) && locksShape .test (drop locksAt xs)) && logShape (length (rootsTold xs)) .test (drop logAt xs)))
+    && (totalsShape (rulesTold xs) .test (drop totalsAt xs) && (locksShape .test (drop locksAt xs) && registerShape (length (rootsTold xs)) .test (drop registerAt xs))) && logShape (length (rootsTold xs)) .test (drop logAt xs)))
 unfolding numbersShape partShape profileShape both named profileOf number one
 map-test xs = simp (drop-drop)
 
@@ -36,6 +37,7 @@ pub decode-is : (xs : List ℕ) → decode xs ≡ record {
     profile = record { firm = getD xs 2 0; roots = rootsTold xs; rules = rulesTold xs };
     accounts = accountsOf (cellsOf (rulesTold xs)) (totalsShape (rulesTold xs) .read (drop totalsAt xs));
     locks = locksShape .read (drop locksAt xs);
+    register = registerShape (length (rootsTold xs)) .read (drop registerAt xs);
   };
   log = logShape (length (rootsTold xs)) .read (drop logAt xs);
 }

@@ -22,11 +22,14 @@ use Rattle.made.specs.Made.{areRoots}
 use Rattle.made.specs.Parts.{rootsHold, rulesOf, rulesHold, totalsHold, totalsSize}
 use Rattle.log.specs.Log.{logHolds}
 use Rattle.log.proofs.Logs.{areLogged}
-use Rattle.state.specs.State.{size, number, locksShape, totalsShape, accountsOf, locksAt, logAt, totalsAt}
-use Rattle.state.specs.Tests.{rootsPart, rulesPart, totalsPart, locksPart, logPart, locksHold}
+use Rattle.state.specs.State.{size, number, locksShape, totalsShape, accountsOf, locksAt, logAt, totalsAt, registerAt}
+use Rattle.state.specs.Tests.{rootsPart, rulesPart, totalsPart, locksPart, logPart, locksHold, registerPart}
 use Rattle.state.proofs.Exact.{number-exact, totals-exact, locks-exact}
-use Rattle.state.proofs.Lent.{roots-lent, rules-lent, totals-lent, locks-lent, log-lent}
+use Rattle.state.proofs.Lent.{roots-lent, rules-lent, totals-lent, locks-lent, log-lent, register-lent}
 use Rattle.state.proofs.Map.{rootsTold}
+use Rattle.register.specs.Register.{registerShape, registerHolds}
+use Rattle.register.proofs.Shapes.{register-exact}
+use Rattle.machine.specs.Register.{areDifferent}
 
 module _ (xs : List ℕ) (long : size ≤ length xs) where
   room : (at n : ℕ) → at + n ≤ size → n ≤ length (drop at xs)
@@ -75,6 +78,11 @@ module _ (xs : List ℕ) (long : size ≤ length xs) where
     log-held clock =
         log-lent n clock (logPart xs) (part-long logAt 1025 (omega arith))
         ∙ first-decide (logShape n) (log-exact n few) (areLogged clock) (drop logAt xs) (room logAt 1025 (omega arith))
+
+    pub register-held : registerHolds n (registerPart xs) ≡ (registerShape n .test (drop registerAt xs) && areDifferent (registerShape n .read (drop registerAt xs)))
+    register-held =
+        register-lent n (registerPart xs)
+        ∙ first-decide (registerShape n) (register-exact n few) areDifferent (drop registerAt xs) (room registerAt 129 (omega arith))
 
 -- how many entries the log says that it has
 pub log-many : (n : ℕ) (xs : List ℕ) → length (logShape n .read (drop logAt xs)) ≡ getD xs logAt 0

@@ -1,8 +1,8 @@
 -- Where the parts of the map stand, by the shapes that it is put together of. Assumes nothing.
 use Prim.Native.Nat.{ℕ, _+_, _*_, _<_}
-use mathlib.Core.Path.{_≡_, refl, sym, _∙_}
+use mathlib.Core.Path.{_≡_, refl, sym, ap, _∙_}
 use mathlib.Core.Bool.{true}
-use mathlib.Core.List.{List}
+use mathlib.Core.List.{List, _++_}
 use lib.ListN.{length, getD, set}
 use lib.Dec.{eqb}
 use Rattle.shapes.specs.Shape.{Shape, one, both, named, rows, table}
@@ -15,8 +15,11 @@ use Rattle.tables.proofs.Shapes.{rules-written, log-written}
 use Rattle.machine.specs.declared.Entry.{Entry}
 use Rattle.machine.specs.State.{Profile, Locks, cellsOf}
 use Rattle.made.specs.Parts.{totalsSize}
-use Rattle.state.specs.State.{number, locksShape, profileOf, linesOf, profileShape, totalsShape, PartNumbers, partShape, Numbers, numbersShape, locksAt, logAt, totalsAt}
-use Rattle.state.proofs.Exact.{number-exact, profile-exact, totals-exact, part-exact}
+use Rattle.state.specs.State.{number, locksShape, profileOf, linesOf, profileShape, totalsShape, PartNumbers, partShape, Numbers, numbersShape, locksAt, logAt, totalsAt, registerAt}
+use Rattle.state.proofs.Exact.{number-exact, profile-exact, totals-exact, part-exact, locks-exact}
+use Rattle.register.specs.Register.{registerShape}
+use Rattle.register.proofs.Shapes.{register-written}
+use Rattle.machine.specs.declared.Sent.{Sent}
 
 -- the log of a part
 abbrev logOf : PartNumbers → Shape 1025 (List Entry)
@@ -36,8 +39,11 @@ pub log-in : PartOf numbersShape (λ n. logOf (n .1 .0)) logAt (λ n. n .1 .1) (
 log-in = part-part whole (λ n. second-part partShape logOf (part-exact .long)) (λ n o. whole .ok n o)
 
 -- within a firm's part
-abbrev restOf : Profile → Shape 1028 (List ℕ × Locks)
-restOf p = both (totalsShape (p .rules)) (λ _. locksShape)
+abbrev marksOf : Profile → Shape 133 (Locks × List Sent)
+marksOf p = both locksShape (λ _. registerShape (length (p .roots)))
+
+abbrev restOf : Profile → Shape 1157 (List ℕ × (Locks × List Sent))
+restOf p = both (totalsShape (p .rules)) (λ _. marksOf p)
 
 clock-there : PartOf partShape (λ p. number) 0 (λ p. p .0) (λ p t. (t, p .1))
 unfolding partShape
@@ -51,11 +57,19 @@ after-profile : PartOf partShape (λ p. restOf (p .1 .0)) 580 (λ p. p .1 .1) (�
 after-profile = part-part after-clock (λ p. second-part profileShape restOf (profile-exact .long)) (λ p o. after-clock .ok p o)
 
 totals-there : PartOf partShape (λ p. totalsShape (p .1 .0 .rules)) 580 (λ p. p .1 .1 .0) (λ p t. (p .0, (p .1 .0, (t, p .1 .1 .1))))
-totals-there = part-part after-profile (λ p. first-part (totalsShape (p .1 .0 .rules)) (λ _. locksShape) (λ a b x. refl)) (λ p o. after-profile .ok p o)
+totals-there = part-part after-profile (λ p. first-part (totalsShape (p .1 .0 .rules)) (λ _. marksOf (p .1 .0)) (λ a b x. refl)) (λ p o. after-profile .ok p o)
 
-locks-there : PartOf partShape (λ p. locksShape) 1604 (λ p. p .1 .1 .1) (λ p l. (p .0, (p .1 .0, (p .1 .1 .0, l))))
-locks-there =
-    part-part after-profile (λ p. second-part (totalsShape (p .1 .0 .rules)) (λ _. locksShape) (totals-exact (p .1 .0 .rules) .long)) (λ p o. after-profile .ok p o)
+after-totals : PartOf partShape (λ p. marksOf (p .1 .0)) 1604 (λ p. p .1 .1 .1) (λ p q. (p .0, (p .1 .0, (p .1 .1 .0, q))))
+after-totals =
+    part-part after-profile (λ p. second-part (totalsShape (p .1 .0 .rules)) (λ _. marksOf (p .1 .0)) (totals-exact (p .1 .0 .rules) .long)) (λ p o. after-profile .ok p o)
+
+locks-there : PartOf partShape (λ p. locksShape) 1604 (λ p. p .1 .1 .1 .0) (λ p l. (p .0, (p .1 .0, (p .1 .1 .0, (l, p .1 .1 .1 .1)))))
+locks-there = part-part after-totals (λ p. first-part locksShape (λ _. registerShape (length (p .1 .0 .roots))) (λ a b x. refl)) (λ p o. after-totals .ok p o)
+
+register-there : PartOf partShape (λ p. registerShape (length (p .1 .0 .roots))) 1608 (λ p. p .1 .1 .1 .1)
+    (λ p r. (p .0, (p .1 .0, (p .1 .1 .0, (p .1 .1 .1 .0, r)))))
+register-there =
+    part-part after-totals (λ p. second-part locksShape (λ _. registerShape (length (p .1 .0 .roots))) (locks-exact .long)) (λ p o. after-totals .ok p o)
 
 -- in the whole
 pub clock-in : PartOf numbersShape (λ n. number) 1 (λ n. n .1 .0 .0) (λ n t. (n .0, ((t, n .1 .0 .1), n .1 .1)))
@@ -65,9 +79,13 @@ pub totals-in : PartOf numbersShape (λ n. totalsShape (n .1 .0 .1 .0 .rules)) t
     (λ n t. (n .0, ((n .1 .0 .0, (n .1 .0 .1 .0, (t, n .1 .0 .1 .1 .1))), n .1 .1)))
 totals-in = part-part firm-in (λ n. totals-there) (λ n o. firm-in .ok n o)
 
-pub locks-in : PartOf numbersShape (λ n. locksShape) locksAt (λ n. n .1 .0 .1 .1 .1)
-    (λ n l. (n .0, ((n .1 .0 .0, (n .1 .0 .1 .0, (n .1 .0 .1 .1 .0, l))), n .1 .1)))
+pub locks-in : PartOf numbersShape (λ n. locksShape) locksAt (λ n. n .1 .0 .1 .1 .1 .0)
+    (λ n l. (n .0, ((n .1 .0 .0, (n .1 .0 .1 .0, (n .1 .0 .1 .1 .0, (l, n .1 .0 .1 .1 .1 .1)))), n .1 .1)))
 locks-in = part-part firm-in (λ n. locks-there) (λ n o. firm-in .ok n o)
+
+pub register-in : PartOf numbersShape (λ n. registerShape (length (n .1 .0 .1 .0 .roots))) registerAt (λ n. n .1 .0 .1 .1 .1 .1)
+    (λ n r. (n .0, ((n .1 .0 .0, (n .1 .0 .1 .0, (n .1 .0 .1 .1 .0, (n .1 .0 .1 .1 .1 .0, r)))), n .1 .1)))
+register-in = part-part firm-in (λ n. register-there) (λ n o. firm-in .ok n o)
 
 -- one total
 abbrev pub HasTotal : ℕ → Numbers → Type 0
@@ -100,9 +118,9 @@ rules-there =
     renamed (part-part a (λ p. second-part (table 64 number) (λ roots. rulesShape (length roots)) (table-exact 64 number number-exact .long)) (λ p o. a .ok p o)) profileOf linesOf
     (λ a. refl)
 
-rest-same : (a b : Profile) (x : List ℕ × Locks) → restOf a .write x ≡ restOf b .write x
+rest-same : (a b : Profile) (x : List ℕ × (Locks × List Sent)) → restOf a .write x ≡ restOf b .write x
 unfolding both totalsShape rows
-rest-same a b x = refl
+rest-same a b x = ap (λ (r : List ℕ). totalsShape (b .rules) .write (x .0) ++ (locksShape .write (x .1 .0) ++ r)) (register-written _ (x .1 .1) ∙ sym (register-written _ (x .1 .1)))
 
 profile-there : PartOf partShape (λ p. profileShape) 1 (λ p. p .1 .0) (λ p q. (p .0, (q, p .1 .1)))
 profile-there = part-part after-clock (λ p. first-part profileShape restOf rest-same) (λ p o. after-clock .ok p o)

@@ -7,7 +7,7 @@ use mathlib.Core.List.{List, []}
 use lib.ListN.{length, getD, drop}
 use lib.Dec.{eqb, leb, ltb}
 use borrow.Author.Tests.{le-leb, lt-leb}
-use Rattle.laws.specs.Tests.{and-l, and-i, and-on, same-test, tests}
+use Rattle.laws.specs.Tests.{and-l, and-i, and-on, same-test, tests, and-r}
 use Rattle.laws.specs.Folds.{every}
 use Rattle.measures.specs.Ranges.{isIn, times}
 use Rattle.shapes.specs.Shape.{table}
@@ -22,12 +22,14 @@ use Rattle.made.specs.Made.{areRoots}
 use Rattle.made.specs.Parts.{rulesHold, totalsHold}
 use Rattle.log.specs.Log.{logHolds}
 use Rattle.log.proofs.Logs.{areLogged}
-use Rattle.state.specs.State.{size, number, locksShape, totalsShape, accountsOf, locksAt, logAt, totalsAt}
+use Rattle.state.specs.State.{size, number, locksShape, totalsShape, accountsOf, locksAt, logAt, totalsAt, registerAt}
 use Rattle.state.specs.Sound.{isSound}
-use Rattle.state.specs.Tests.{rulesPart, totalsPart, locksPart, logPart, frontHolds, locksHold, partsHold, soundParts}
+use Rattle.state.specs.Tests.{rulesPart, totalsPart, locksPart, logPart, frontHolds, locksHold, partsHold, soundParts, registerPart, useHolds}
 use Rattle.state.proofs.Map.{rootsTold, rulesTold, roots-told}
-use Rattle.state.proofs.Parts.{roots-held, rules-held, rules-are, totals-held, locks-held, log-held, log-many}
-use Rattle.state.proofs.Said.{Said, sound-said, said-sound, few-told, rules-few}
+use Rattle.state.proofs.Parts.{roots-held, rules-held, rules-are, totals-held, locks-held, log-held, log-many, register-held}
+use Rattle.state.proofs.Said.{Said, sound-said, said-sound, few-told, rules-few, Parted}
+use Rattle.register.specs.Register.{registerShape, registerHolds}
+use Rattle.machine.specs.Register.{areDifferent}
 
 -- the tests of the parts where they stand: the front, the rules, and what is left
 abbrev toldFront : List ℕ → Bool
@@ -45,8 +47,9 @@ toldRest xs =
     && (ltb (locksShape .read (drop locksAt xs) .tripped) (2 ^ length (rootsTold xs)) && ltb (locksShape .read (drop locksAt xs) .byUser) (2 ^ length (rootsTold xs))))
     && (hasRate (rulesTold xs) || eqb (length (logShape (length (rootsTold xs)) .read (drop logAt xs))) 0)
     && (logShape (length (rootsTold xs)) .test (drop logAt xs) && areLogged (getD xs 1 0) (logShape (length (rootsTold xs)) .read (drop logAt xs)))
+    && (registerShape (length (rootsTold xs)) .test (drop registerAt xs) && areDifferent (registerShape (length (rootsTold xs)) .read (drop registerAt xs)))
 
-parts-said : (xs : List ℕ) → (toldFront xs && toldRules xs && toldRest xs) ≡ true → Said xs
+parts-said : (xs : List ℕ) → (toldFront xs && toldRules xs && toldRest xs) ≡ true → Parted xs
 parts-said xs h = record {
   mark = search tests depth 40;
   clock = search tests depth 40;
@@ -65,14 +68,17 @@ parts-said xs h = record {
   log = search tests depth 40;
   ordered = search tests depth 40;
   flagged = search tests depth 40;
+  register = search tests depth 40;
+  different = search tests depth 40;
 }
 
-said-parts : (xs : List ℕ) → Said xs → (toldFront xs && toldRules xs && toldRest xs) ≡ true
+said-parts : (xs : List ℕ) → Parted xs → (toldFront xs && toldRules xs && toldRest xs) ≡ true
 said-parts xs s =
     let front = and-i (and-i (and-i (s .mark) (s .clock)) (s .firm)) (and-i (s .roots) (s .names)) in
     let rules = and-i (s .rules) (and-i (le-leb _ _ (s .some)) (s .order)) in
     let locks = and-i (s .locks) (and-i (s .tripped) (s .byUser)) in
-    and-i (and-i front rules) (and-i (and-i (and-i (and-i (s .totals) (s .paid)) locks) (s .rate)) (and-i (s .log) (and-i (s .ordered) (s .flagged))))
+    and-i (and-i front rules)
+    (and-i (and-i (and-i (and-i (and-i (s .totals) (s .paid)) locks) (s .rate)) (and-i (s .log) (and-i (s .ordered) (s .flagged)))) (and-i (s .register) (s .different)))
 
 -- the tests that the code runs over the parts are these
 module _ (xs : List ℕ) (long : size ≤ length xs) where
@@ -98,22 +104,28 @@ module _ (xs : List ℕ) (long : size ≤ length xs) where
       let n = sym (roots-told xs) in
       let r = rules-are xs long many few rules in
       (λ i. totalsHold (cellsOf (r i)) (totalsPart xs) && locksHold (n i) (locksPart xs) && (hasRate (r i) || eqb (sym (log-many many xs) i) 0)
-      && logHolds (n i) (getD xs 1 0) (logPart xs))
+      && logHolds (n i) (getD xs 1 0) (logPart xs) && registerHolds (n i) (registerPart xs))
       ∙ (λ i. totals-held xs long (rulesTold xs) (rules-few xs long roots rules) i && locks-held xs long many i
-      && (hasRate (rulesTold xs) || eqb (length (logShape many .read (drop logAt xs))) 0) && log-held xs long many few (getD xs 1 0) i)
+      && (hasRate (rulesTold xs) || eqb (length (logShape many .read (drop logAt xs))) 0) && log-held xs long many few (getD xs 1 0) i && register-held xs long many few i)
 
-  parts-told : soundParts xs ≡ (toldFront xs && toldRules xs && toldRest xs)
-  unfolding soundParts
+  parts-told : (frontHolds xs && rulesHold (getD xs 3 0) (rulesPart xs) && partsHold xs) ≡ (toldFront xs && toldRules xs && toldRest xs)
   parts-told =
       let first : (frontHolds xs && rulesHold (getD xs 3 0) (rulesPart xs)) ≡ (toldFront xs && toldRules xs) =
       ap (λ (b : Bool). b && rulesHold (getD xs 3 0) (rulesPart xs)) front-told ∙ and-on (toldFront xs) rules-told in
       ap (λ (b : Bool). b && partsHold xs) first ∙ and-on (toldFront xs && toldRules xs) rest-told
 
-  -- memory that is long enough is sound exactly if the tests of its parts say so
+  -- what the tests of the parts say
+  pub parts-parted : (frontHolds xs && rulesHold (getD xs 3 0) (rulesPart xs) && partsHold xs) ≡ true → Parted xs
+  parts-parted h = parts-said xs (sym parts-told ∙ h)
+
+  -- memory that is long enough is sound exactly if the tests of its parts and of its use say so
   pub sound-is : isSound xs ≡ soundParts xs
+  unfolding soundParts
   sound-is =
-      same-test (isSound xs) (soundParts xs) (λ h. parts-told ∙ said-parts xs (sound-said xs h))
-      (λ h. said-sound xs long (parts-said xs (sym parts-told ∙ h)))
+      let parts = frontHolds xs && rulesHold (getD xs 3 0) (rulesPart xs) && partsHold xs in
+      same-test (isSound xs) (parts && useHolds xs)
+      (λ h. let s = sound-said xs h in and-i (parts-told ∙ said-parts xs (s .parted)) (s .inUse))
+      (λ h. said-sound xs long (record { parted = parts-parted (and-l parts (useHolds xs) h); inUse = and-r parts (useHolds xs) h }))
 
 -- what the code answers on the way, and what it knows when it goes on
 pub sound-short : (xs : List ℕ) → length xs < size → false ≡ isSound xs
@@ -123,7 +135,7 @@ sound-short xs h = rw (lt-leb _ _ h)
 module _ (xs : List ℕ) (long : size ≤ length xs) where
   pub sound-front : frontHolds xs ≡ false → false ≡ isSound xs
   unfolding soundParts
-  sound-front h = sym (sound-is xs long ∙ ap (λ (a : Bool). a && rulesHold (getD xs 3 0) (rulesPart xs) && partsHold xs) h)
+  sound-front h = sym (sound-is xs long ∙ ap (λ (a : Bool). a && rulesHold (getD xs 3 0) (rulesPart xs) && partsHold xs && useHolds xs) h)
 
   module _ (front : frontHolds xs ≡ true) where
     pub roots-fit : getD xs 3 0 ≤ 64
@@ -131,13 +143,20 @@ module _ (xs : List ℕ) (long : size ≤ length xs) where
 
     pub sound-rules : rulesHold (getD xs 3 0) (rulesPart xs) ≡ false → false ≡ isSound xs
     unfolding soundParts
-    sound-rules h = sym (sound-is xs long ∙ ap₂ (λ (a b : Bool). a && b && partsHold xs) front h)
+    sound-rules h = sym (sound-is xs long ∙ ap₂ (λ (a b : Bool). a && b && partsHold xs && useHolds xs) front h)
 
     module _ (rules : rulesHold (getD xs 3 0) (rulesPart xs) ≡ true) where
       pub rules-fit : getD (rulesPart xs) 0 0 ≤ 256
       unfolding rulesHold
       rules-fit = search tests depth 10
 
-      pub sound-rest : partsHold xs ≡ isSound xs
+      pub sound-parts : partsHold xs ≡ false → false ≡ isSound xs
       unfolding soundParts
-      sound-rest = sym (sound-is xs long ∙ ap₂ (λ (a b : Bool). a && b && partsHold xs) front rules)
+      sound-parts h = sym (sound-is xs long ∙ (λ i. front i && rules i && h i && useHolds xs))
+
+      pub sound-parted : partsHold xs ≡ true → Parted xs
+      sound-parted h = parts-parted xs long (and-i (and-i front rules) h)
+
+      pub sound-rest : partsHold xs ≡ true → useHolds xs ≡ isSound xs
+      unfolding soundParts
+      sound-rest h = sym (sound-is xs long ∙ (λ i. front i && rules i && h i && useHolds xs))

@@ -21,6 +21,8 @@ use Rattle.state.specs.Laid.{Fits, Laid}
 use Rattle.state.proofs.Accounts.{accounts-rules, accounts-totals, accounts-measured, accounts-again, map-length}
 use Rattle.state.proofs.Exact.{numbers-exact}
 use Rattle.machine.proofs.Cells.{cells-bound}
+use Rattle.register.specs.Register.{registerShape}
+use Rattle.register.specs.SentPlace.{sentShape}
 
 -- what the validity of numbers says, part by part
 pub record Valid (n : Numbers) : Type 0 where
@@ -28,6 +30,7 @@ pub record Valid (n : Numbers) : Type 0 where
   pub roots : table 64 number .ok (n .1 .0 .1 .0 .roots) ≡ true
   pub rules : rulesShape (length (n .1 .0 .1 .0 .roots)) .ok (n .1 .0 .1 .0 .rules) ≡ true
   pub totals : totalsShape (n .1 .0 .1 .0 .rules) .ok (n .1 .0 .1 .1 .0) ≡ true
+  pub register : registerShape (length (n .1 .0 .1 .0 .roots)) .ok (n .1 .0 .1 .1 .1 .1) ≡ true
   pub log : logShape (length (n .1 .0 .1 .0 .roots)) .ok (n .1 .1) ≡ true
 
 locks-ok : (l : Locks) → locksShape .ok l ≡ true
@@ -42,21 +45,24 @@ pub valid-ok : (n : Numbers) → Valid n → numbersShape .ok n ≡ true
 unfolding numbersShape partShape both number one
 valid-ok n v =
     let p = n .1 .0 in
-    and-i (ap (λ (x : ℕ). one (λ y. eqb y 1) .ok x) (v .mark)) (and-i (and-i (profile-ok (p .1 .0) (v .roots) (v .rules)) (and-i (v .totals) (locks-ok (p .1 .1 .1)))) (v .log))
+    and-i (ap (λ (x : ℕ). one (λ y. eqb y 1) .ok x) (v .mark)) (and-i (and-i (profile-ok (p .1 .0) (v .roots) (v .rules)) (and-i (v .totals) (and-i (locks-ok (p .1 .1 .1 .0)) (v .register)))) (v .log))
 
 pub ok-valid : (n : Numbers) → numbersShape .ok n ≡ true → Valid n
 unfolding numbersShape partShape profileShape named both linesOf number one
 ok-valid n h =
     let p = n .1 .0 in
     let here = and-r (one (λ y. eqb y 1) .ok (n .0)) _ h in
-    let part = and-l (profileShape .ok (p .1 .0) && (totalsShape (p .1 .0 .rules) .ok (p .1 .1 .0) && locksShape .ok (p .1 .1 .1))) _ here in
+    let part = and-l (profileShape .ok (p .1 .0) && (totalsShape (p .1 .0 .rules) .ok (p .1 .1 .0) && (locksShape .ok (p .1 .1 .1 .0) && registerShape (length (p .1 .0 .roots)) .ok (p .1 .1 .1 .1)))) _ here in
     let profile = and-l (profileShape .ok (p .1 .0)) _ part in
     record {
       mark = eqb-true _ _ (and-l (one (λ y. eqb y 1) .ok (n .0)) _ h);
       roots = and-l (table 64 number .ok (p .1 .0 .roots)) _ profile;
       rules = and-r (table 64 number .ok (p .1 .0 .roots)) _ profile;
       totals = and-l (totalsShape (p .1 .0 .rules) .ok (p .1 .1 .0)) _ (and-r (profileShape .ok (p .1 .0)) _ part);
-      log = and-r (profileShape .ok (p .1 .0) && (totalsShape (p .1 .0 .rules) .ok (p .1 .1 .0) && locksShape .ok (p .1 .1 .1))) _ here;
+      register =
+          and-r (locksShape .ok (p .1 .1 .1 .0)) _
+          (and-r (totalsShape (p .1 .0 .rules) .ok (p .1 .1 .0)) _ (and-r (profileShape .ok (p .1 .0)) _ part));
+      log = and-r (profileShape .ok (p .1 .0) && (totalsShape (p .1 .0 .rules) .ok (p .1 .1 .0) && (locksShape .ok (p .1 .1 .1 .0) && registerShape (length (p .1 .0 .roots)) .ok (p .1 .1 .1 .1)))) _ here;
     }
 
 -- the numbers of a state that fits are valid, and stand for it
@@ -70,12 +76,13 @@ module _ (s : State) (f : Fits s) where
   few-accounts = cells-bound (s .part .profile .rules) (f .rules)
 
   pub fits-ok : numbersShape .ok (numbersOf s) ≡ true
-  unfolding numbersOf totalsShape rulesShape ruleShape logShape entryShape coded number one rootsIn rulesIn
+  unfolding numbersOf totalsShape rulesShape ruleShape registerShape sentShape logShape entryShape coded number one rootsIn rulesIn
   fits-ok = valid-ok (numbersOf s) (record {
     mark = refl;
     roots = table-ok 64 _ _ (f .roots) (every-any _);
     rules = table-ok 256 _ _ (f .rules) (f .valid);
     totals = rows-ok totalsSize _ _ _ many-accounts few-accounts (every-any _);
+    register = table-ok 64 _ _ (f .few) (f .sent);
     log = table-ok 512 _ _ (f .log) (f .entries);
   })
 
@@ -87,6 +94,7 @@ module _ (s : State) (f : Fits s) where
       profile = s .part .profile;
       accounts = accounts i;
       locks = s .part .locks;
+      register = s .part .register;
     };
     log = s .log;
   }
@@ -102,7 +110,7 @@ module _ (n : Numbers) (v : Valid n) where
   totals-many = rows-many totalsSize number _ (n .1 .0 .1 .1 .0) (v .totals)
 
   pub valid-fits : Fits (stateOf n)
-  unfolding stateOf rulesShape ruleShape logShape entryShape coded rootsIn rulesIn Fitting
+  unfolding stateOf rulesShape ruleShape registerShape sentShape logShape entryShape coded rootsIn rulesIn Fitting
   valid-fits = record {
     roots = table-few 64 number _ (v .roots);
     rules = table-few 256 _ _ (v .rules);
@@ -111,6 +119,8 @@ module _ (n : Numbers) (v : Valid n) where
     measured = accounts-measured _ (n .1 .0 .1 .1 .0);
     valid = table-all 256 _ _ (v .rules);
     entries = table-all 512 _ _ (v .log);
+    few = table-few 64 _ _ (v .register);
+    sent = table-all 64 _ _ (v .register);
   }
 
   pub numbers-again : numbersOf (stateOf n) ≡ n

@@ -20,13 +20,16 @@ use Rattle.machine.specs.declared.Entry.{Entry}
 use Rattle.machine.specs.State.{State, Locks, rootsIn, ruleOf, Fitting}
 use Rattle.machine.specs.Remaining.{noAccount}
 use Rattle.log.specs.Log.{logNumbers}
-use Rattle.state.specs.State.{size, number, marksOf, locksShape, locksNumbers, numbersShape, numbersOf, encode, stored, locksAt, logAt, totalsAt}
-use Rattle.state.specs.Laid.{Fits, withClock, withLocks, withLog, withAccounts}
+use Rattle.state.specs.State.{size, number, marksOf, locksShape, locksNumbers, numbersShape, numbersOf, encode, stored, locksAt, logAt, totalsAt, registerAt}
+use Rattle.state.specs.Laid.{Fits, withClock, withLocks, withLog, withAccounts, withRegister}
 use Rattle.state.proofs.Accounts.{map-length, map-set}
 use Rattle.state.proofs.Exact.{number-exact, locks-exact}
 use Rattle.state.proofs.Stored.{fits-ok}
-use Rattle.state.proofs.Places.{clock-in, roots-in, rules-in, HasTotal, total-in, locks-in, log-in}
-use Rattle.state.specs.Tests.{putLocks, putLog}
+use Rattle.state.proofs.Places.{clock-in, roots-in, rules-in, HasTotal, total-in, locks-in, log-in, register-in}
+use Rattle.state.specs.Tests.{putLocks, putLog, putRegister}
+use Rattle.register.specs.Register.{registerShape, registerNumbers}
+use Rattle.register.proofs.Shapes.{register-exact, register-written}
+use Rattle.machine.specs.declared.Sent.{Sent}
 
 -- the parts of a state that fits
 clock-of : Part Fits encode (λ s. number) 1 (λ s. s .part .clock) withClock
@@ -36,6 +39,10 @@ clock-of = narrow (seen clock-in numbersOf withClock (λ s t. refl)) Fits (λ s 
 locks-of : Part Fits encode (λ s. locksShape) locksAt (λ s. s .part .locks) withLocks
 unfolding encode numbersOf
 locks-of = narrow (seen locks-in numbersOf withLocks (λ s l. refl)) Fits (λ s f. fits-ok s f)
+
+register-of : Part Fits encode (λ s. registerShape (length (s .part .profile .roots))) registerAt (λ s. s .part .register) withRegister
+unfolding encode numbersOf
+register-of = narrow (seen register-in numbersOf withRegister (λ s r. refl)) Fits (λ s f. fits-ok s f)
 
 log-of : Part Fits encode (λ s. logShape (length (s .part .profile .roots))) logAt (λ s. s .log) withLog
 unfolding encode numbersOf
@@ -62,6 +69,14 @@ module _ (s : State) (f : Fits s) (xs : List ℕ) where
   pub stored-locks : take 4 (drop locksAt (stored s xs)) ≡ locksNumbers (s .part .locks)
   unfolding stored
   stored-locks = part-of locks-of s f locks-exact (drop size xs) ∙ locks-written (s .part .locks)
+
+  register-fits : Exact (registerShape (length (s .part .profile .roots)))
+  unfolding rootsIn
+  register-fits = register-exact (length (s .part .profile .roots)) (f .roots)
+
+  pub stored-register : take 129 (drop registerAt (stored s xs)) ≡ registerNumbers (s .part .register)
+  unfolding stored
+  stored-register = part-of register-of s f register-fits (drop size xs) ∙ register-written _ (s .part .register)
 
   pub stored-log : take 1025 (drop logAt (stored s xs)) ≡ logNumbers (s .log)
   unfolding stored
@@ -94,7 +109,7 @@ module _ (s : State) (f : Fits s) (xs : List ℕ) where
       ∙ ap (λ (l : List ℕ). getD l 0 0) (part-of (total-in i) (numbersOf s) (has-total i h) number-exact (drop size xs))
       ∙ List·getD-map (λ (a : Account). numberOf (a .total)) (s .part .accounts) i noAccount
 
-  -- another clock, other locks, another log, another total
+  -- another clock, other locks, another register, another log, another total
   pub put-clock : (t : ℕ) → set (stored s xs) 1 t ≡ stored (withClock s t) xs
   unfolding stored number
   put-clock t = put-one (λ x. true) clock-of s f (drop size xs) t
@@ -103,6 +118,11 @@ module _ (s : State) (f : Fits s) (xs : List ℕ) where
   unfolding stored
   put-locks l =
       ap (λ (q : List ℕ). putLocks (stored s xs) q) (sym (locks-written l)) ∙ put-part locks-of s f locks-exact (drop size xs) l
+
+  pub put-register : (register : List Sent) → putRegister (stored s xs) (registerNumbers register) ≡ stored (withRegister s register) xs
+  unfolding stored
+  put-register register =
+      ap (λ (q : List ℕ). putRegister (stored s xs) q) (sym (register-written _ register)) ∙ put-part register-of s f register-fits (drop size xs) register
 
   pub put-log : (log : List Entry) → putLog (stored s xs) (logNumbers log) ≡ stored (withLog s log) xs
   unfolding stored
@@ -115,5 +135,5 @@ module _ (s : State) (f : Fits s) (xs : List ℕ) where
   put-account i a h =
       ap (λ (j : ℕ). set (stored s xs) (totalsAt + j) (numberOf (a .total))) (sym (mul-one i))
       ∙ put-one (λ x. true) (total-in i) (numbersOf s) (has-total i h) (drop size xs) (numberOf (a .total))
-      ∙ ap (λ (t : List ℕ). numbersShape .write (1, ((s .part .clock, (s .part .profile, (t, s .part .locks))), s .log)) ++ drop size xs)
+      ∙ ap (λ (t : List ℕ). numbersShape .write (1, ((s .part .clock, (s .part .profile, (t, (s .part .locks, s .part .register)))), s .log)) ++ drop size xs)
       (sym (map-set (λ (b : Account). numberOf (b .total)) (s .part .accounts) i a))

@@ -14,6 +14,9 @@ use Rattle.machine.specs.Sound.{SoundIn}
 use Rattle.profile.specs.Profile.{outcomeOf}
 use Rattle.made.specs.Made.{isMade}
 use Rattle.state.specs.State.{size, numbersShape, encode, decode}
+use Rattle.machine.specs.Register.{areDifferent}
+use Rattle.machine.specs.Refusals.{used}
+use Rattle.machine.specs.Judge.{logPlaces}
 
 -- some accepted profile gives this firm, these roots and these rules
 unfoldable pub Given : Profile → Type 0
@@ -35,6 +38,8 @@ isSoundState s =
     && ltb (s .part .locks .byUser) (2 ^ rootsIn s)
     && (hasRate (rulesIn s) || eqb (length (s .log)) 0)
     && (areOrdered 0 (s .part .clock) (s .log) && every isFlagged (s .log))
+    && areDifferent (s .part .register)
+    && leb (used s (s .part .clock)) logPlaces
 
 -- the test that the code runs: the memory is as the map says, and the state is sound
 unfoldable pub isSound : List ℕ → Bool

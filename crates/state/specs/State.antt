@@ -10,7 +10,9 @@ use Rattle.rules.specs.declared.Rule.{Rule}
 use Rattle.rules.specs.declared.Account.{Account}
 use Rattle.tables.specs.RulePlace.{rulesShape}
 use Rattle.tables.specs.EntryPlace.{flagNumber, logShape}
+use Rattle.register.specs.Register.{registerShape}
 use Rattle.machine.specs.declared.Entry.{Entry}
+use Rattle.machine.specs.declared.Sent.{Sent}
 use Rattle.machine.specs.State.{Profile, Locks, State, cellsOf}
 use Rattle.made.specs.Parts.{totalsSize}
 
@@ -19,23 +21,26 @@ abbrev pub profileSize : ℕ
 profileSize = 579
 
 abbrev pub partSize : ℕ
-partSize = 1608
+partSize = 1737
 
 abbrev pub size : ℕ
-size = 2634
+size = 2763
 
--- where the totals, the locks and the log begin, and how many numbers these three take
+-- where the totals, the locks, the register and the log begin, and how many numbers these take
 abbrev pub totalsAt : ℕ
 totalsAt = 581
 
 abbrev pub locksAt : ℕ
 locksAt = 1605
 
+abbrev pub registerAt : ℕ
+registerAt = 1609
+
 abbrev pub logAt : ℕ
-logAt = 1609
+logAt = 1738
 
 abbrev pub restSize : ℕ
-restSize = 2053
+restSize = 2182
 
 -- a number that may be any
 unfoldable pub number : Shape 1 ℕ
@@ -71,16 +76,18 @@ linesOf p = (p .firm, (p .roots, p .rules))
 unfoldable pub profileShape : Shape profileSize Profile
 profileShape = named profileOf linesOf (both number (λ _. both (table 64 number) (λ roots. rulesShape (length roots))))
 
--- a firm's part: clock, profile, the totals of the accounts that its rules have, and locks
+-- a firm's part: clock, profile, the totals of the accounts that its rules have, locks, and the register of orders sent away
 abbrev pub PartNumbers : Type 0
-PartNumbers = ℕ × (Profile × (List ℕ × Locks))
+PartNumbers = ℕ × (Profile × (List ℕ × (Locks × List Sent)))
 
 -- the totals stand one after the other, account by account
 unfoldable pub totalsShape : List Rule → Shape totalsSize (List ℕ)
 totalsShape rules = rows totalsSize number (length (cellsOf rules))
 
 unfoldable pub partShape : Shape partSize PartNumbers
-partShape = both number (λ _. both profileShape (λ p. both (totalsShape (p .rules)) (λ _. locksShape)))
+partShape =
+    both number
+    (λ _. both profileShape (λ p. both (totalsShape (p .rules)) (λ _. both locksShape (λ _. registerShape (length (p .roots))))))
 
 -- the whole: the mark of armed memory, the firm's part, and the log
 abbrev pub Numbers : Type 0
@@ -101,7 +108,7 @@ accountsOf (rule ∷ rules) (total ∷ totals) = record { rule = rule; total = a
 
 -- a state as these numbers, and the state that they stand for
 unfoldable pub numbersOf : State → Numbers
-numbersOf s = (1, ((s .part .clock, (s .part .profile, (totalsIn (s .part .accounts), s .part .locks))), s .log))
+numbersOf s = (1, ((s .part .clock, (s .part .profile, (totalsIn (s .part .accounts), (s .part .locks, s .part .register)))), s .log))
 
 unfoldable pub stateOf : Numbers → State
 stateOf n = record {
@@ -109,7 +116,8 @@ stateOf n = record {
     clock = n .1 .0 .0;
     profile = n .1 .0 .1 .0;
     accounts = accountsOf (cellsOf (n .1 .0 .1 .0 .rules)) (n .1 .0 .1 .1 .0);
-    locks = n .1 .0 .1 .1 .1;
+    locks = n .1 .0 .1 .1 .1 .0;
+    register = n .1 .0 .1 .1 .1 .1;
   };
   log = n .1 .1;
 }

@@ -3,14 +3,17 @@ use Prim.Native.Nat.{ℕ, _^_}
 use mathlib.Core.Bool.{Bool, _&&_, _||_}
 use mathlib.Core.List.{List, _++_}
 use lib.ListN.{getD, take, drop}
-use lib.Dec.{eqb, ltb}
+use lib.Dec.{eqb, ltb, leb}
 use Rattle.measures.specs.Ranges.{_to_, isIn, times}
 use Rattle.rules.specs.Valid.{hasRate}
 use Rattle.machine.specs.State.{cellsOf}
 use Rattle.made.specs.Names.{isNameNumber}
 use Rattle.made.specs.Parts.{rootsHold, rulesOf, rulesHold, totalsHold, totalsSize}
 use Rattle.log.specs.Log.{logHolds}
-use Rattle.state.specs.State.{locksAt, logAt, totalsAt}
+use Rattle.state.specs.State.{locksAt, logAt, totalsAt, registerAt, decode}
+use Rattle.register.specs.Register.{registerHolds}
+use Rattle.machine.specs.Refusals.{used}
+use Rattle.machine.specs.Judge.{logPlaces}
 
 -- the parts as they are lent: the tables of the roots and of the rules, the totals, the locks and the log
 abbrev pub rootsPart : List ℕ → List ℕ
@@ -25,12 +28,18 @@ totalsPart xs = take totalsSize (drop totalsAt xs)
 abbrev pub locksPart : List ℕ → List ℕ
 locksPart xs = take 4 (drop locksAt xs)
 
+abbrev pub registerPart : List ℕ → List ℕ
+registerPart xs = take 129 (drop registerAt xs)
+
 abbrev pub logPart : List ℕ → List ℕ
 logPart xs = take 1025 (drop logAt xs)
 
--- a memory with other locks, and with another log
+-- a memory with other locks, with another register, and with another log
 abbrev pub putLocks : List ℕ → List ℕ → List ℕ
 putLocks xs locks = take locksAt xs ++ (locks ++ drop 4 (drop locksAt xs))
+
+abbrev pub putRegister : List ℕ → List ℕ → List ℕ
+putRegister xs register = take registerAt xs ++ (register ++ drop 129 (drop registerAt xs))
 
 abbrev pub putLog : List ℕ → List ℕ → List ℕ
 putLog xs log = take logAt xs ++ (log ++ drop 1025 (drop logAt xs))
@@ -50,6 +59,11 @@ partsHold xs =
     totalsHold (cellsOf (rulesOf (rulesPart xs))) (totalsPart xs) && locksHold (getD xs 3 0) (locksPart xs)
     && (hasRate (rulesOf (rulesPart xs)) || eqb (getD xs logAt 0) 0)
     && logHolds (getD xs 3 0) (getD xs 1 0) (logPart xs)
+    && registerHolds (getD xs 3 0) (registerPart xs)
+
+-- the use of the log, at the clock, is within its places
+unfoldable pub useHolds : List ℕ → Bool
+useHolds xs = leb (used (decode xs) (decode xs .part .clock)) logPlaces
 
 unfoldable pub soundParts : List ℕ → Bool
-soundParts xs = frontHolds xs && rulesHold (getD xs 3 0) (rulesPart xs) && partsHold xs
+soundParts xs = frontHolds xs && rulesHold (getD xs 3 0) (rulesPart xs) && partsHold xs && useHolds xs

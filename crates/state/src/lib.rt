@@ -11,13 +11,17 @@ ghost use Rattle.machine.specs.Remaining.{ruleAt, cellAt};
 ghost use Rattle.state.specs.State.{size, restSize, stored, decode};
 ghost use Rattle.state.specs.Sound.{isSound};
 ghost use Rattle.state.specs.Laid.{Laid, accountIn, withClock, withTotal};
-ghost use Rattle.state.specs.Tests.{frontHolds, locksHold};
+ghost use Rattle.machine.specs.Entries.{areOrdered};
+ghost use Rattle.machine.specs.Offers.{longest};
+ghost use Rattle.machine.specs.Refusals.{used};
+ghost use lib.Dec.{ltb};
+ghost use Rattle.state.specs.Tests.{rulesPart, frontHolds, locksHold, partsHold};
 use rules::Amount;
 use rules::Limit;
 use rules::Rule;
 
-// The map: the mark of armed memory; the firm's part, which is its clock, its name, the tables of its roots and rules, the totals of the rules, and the
-// locks; and the log. A table has its count in front.
+// The map: the mark of armed memory; the firm's part, which is its clock, its name, the tables of its roots and rules, the totals of the rules, the
+// locks and the register of orders sent away; and the log. A table has its count in front.
 pub const MARK: usize = 0;
 
 pub const CLOCK: usize = MARK + 1;
@@ -35,7 +39,9 @@ pub const TOTALS: usize = RULES + made::RULES_SIZE;
 
 pub const LOCKS: usize = TOTALS + made::TOTALS_SIZE;
 
-pub const LOG: usize = LOCKS + 4;
+pub const REGISTER: usize = LOCKS + 4;
+
+pub const LOG: usize = REGISTER + register::SIZE;
 
 pub const SIZE: usize = LOG + log::SIZE;
 
@@ -87,6 +93,52 @@ fn are_locks(locks: &[u64], roots: u64) -> bool
         & bits::within(locks[3], roots)
 }
 
+// Whether the totals, the locks, the log and the register are sound, with the roots and the clock of the front.
+fn are_parts(m: &[u64]) -> bool
+    requires { ⌜ (size ≤ length (now m)) × (getD (rulesPart (now m)) 0 0 ≤ 256) ⌝ }
+    ensures { λ r. ⌜ r ≡ partsHold (now (m .entry)) ⌝ }
+{
+    let roots = m[ROOTS];
+    let entries = m[LOG];
+    made::are_totals(&m[RULES..TOTALS], &m[TOTALS..LOCKS])
+        & are_locks(&m[LOCKS..REGISTER], roots)
+        & (made::has_rate(&m[RULES..TOTALS]) | (entries == 0))
+        & log::is_log(&m[LOG..SIZE], roots, m[CLOCK])
+        & register::is_register(&m[REGISTER..LOG], roots)
+}
+
+// The longest window of the rules, 0 if none is a rate rule.
+pub fn longest_window(m: &[u64]) -> u64
+    requires { ⌜ Laid (now m) ⌝ }
+    ensures { λ r. ⌜ r ≡ longest (rulesIn (decode (now (m .entry)))) ⌝ }
+{
+    made::longest_window(&m[RULES..TOTALS])
+}
+
+// The use of the log at a time: the entries inside the longest window and the places kept for orders sent away, none without a rate rule.
+pub fn used_at(m: &[u64], time: u64) -> u64
+    requires { ⌜ Laid (now m) × (areOrdered 0 time (decode (now m) .log) ≡ true) ⌝ }
+    ensures { λ r. ⌜ r ≡ used (decode (now (m .entry))) time ⌝ }
+{
+    let longest = longest_window(m);
+    if longest == 0 {
+        return 0;
+    }
+    let inside = log::recent_entries(&m[LOG..SIZE], longest, time) as u64;
+    inside + register::kept(&m[REGISTER..LOG])
+}
+
+// Whether the use at a time is below a bound; the log is not read where all its entries would fit.
+pub fn uses_less(m: &[u64], time: u64, bound: u64) -> bool
+    requires { ⌜ Laid (now m) × (areOrdered 0 time (decode (now m) .log) ≡ true) ⌝ }
+    ensures { λ r. ⌜ r ≡ ltb (used (decode (now (m .entry))) time) bound ⌝ }
+{
+    if entries_in(m) as u64 + register::kept(&m[REGISTER..LOG]) < bound {
+        return true;
+    }
+    used_at(m, time) < bound
+}
+
 // Whether the memory holds a sound state.
 pub fn is_sound(m: &[u64]) -> bool
     ensures { λ r. ⌜ r ≡ isSound (now (m .entry)) ⌝ }
@@ -97,16 +149,13 @@ pub fn is_sound(m: &[u64]) -> bool
     if !is_front(m) {
         return false;
     }
-    let clock = m[CLOCK];
-    let roots = m[ROOTS];
-    let entries = m[LOG];
-    if !made::are_rules(&m[RULES..TOTALS], roots) {
+    if !made::are_rules(&m[RULES..TOTALS], m[ROOTS]) {
         return false;
     }
-    made::are_totals(&m[RULES..TOTALS], &m[TOTALS..LOCKS])
-        & are_locks(&m[LOCKS..LOG], roots)
-        & (made::has_rate(&m[RULES..TOTALS]) | (entries == 0))
-        & log::is_log(&m[LOG..SIZE], roots, clock)
+    if !are_parts(m) {
+        return false;
+    }
+    uses_less(m, m[CLOCK], 513)
 }
 
 // The clock of the state of a memory.
@@ -140,6 +189,14 @@ pub fn entries_in(m: &[u64]) -> usize
     ensures { λ r. ⌜ r ≡ length (decode (now (m .entry)) .log) ⌝ }
 {
     m[LOG] as usize
+}
+
+// How many orders are open away.
+pub fn orders_in(m: &[u64]) -> usize
+    requires { ⌜ Laid (now m) ⌝ }
+    ensures { λ r. ⌜ r ≡ length (decode (now (m .entry)) .part .register) ⌝ }
+{
+    m[REGISTER] as usize
 }
 
 // How many rules it has.

@@ -1,6 +1,6 @@
-//! Lines that rustyline edits: arrows and history, Tab for commands, roots and files.
+//! Lines that rustyline edits: arrows and history, Tab for commands, roots, open orders and files.
 
-use desk::complete;
+use desk::complete::{self, Known};
 use desk::desk::Desk;
 use desk::lines::{talk, Ended, Lines};
 use rustyline::completion::{Completer, Pair};
@@ -19,7 +19,7 @@ const MOST_LINES: usize = 1_000;
 pub fn dialogue(out: &mut dyn Write) -> io::Result<Ended> {
     let config = Config::builder().max_history_size(MOST_LINES).completion_type(CompletionType::List).auto_add_history(true).build();
     let mut editor = Editor::with_config(config);
-    editor.set_helper(Some(Known::default()));
+    editor.set_helper(Some(Names::default()));
     let history = history();
     if let Some(file) = &history {
         // no history yet is as good as one
@@ -43,14 +43,14 @@ fn history() -> Option<PathBuf> {
 }
 
 struct Edited<'a> {
-    editor: &'a mut Editor<Known>,
+    editor: &'a mut Editor<Names>,
 }
 
 impl Lines for Edited<'_> {
     fn next(&mut self, prompt: &str, desk: &Desk, out: &mut dyn Write) -> io::Result<Option<String>> {
         out.flush()?;
-        if let Some(known) = self.editor.helper_mut() {
-            known.roots = desk.roots().to_vec();
+        if let Some(names) = self.editor.helper_mut() {
+            names.known = desk.known();
         }
         match self.editor.readline(prompt) {
             Ok(line) => Ok(Some(line)),
@@ -65,15 +65,15 @@ impl Lines for Edited<'_> {
 
 /// What Tab knows of the desk.
 #[derive(Default)]
-struct Known {
-    roots: Vec<String>,
+struct Names {
+    known: Known,
 }
 
-impl Completer for Known {
+impl Completer for Names {
     type Candidate = Pair;
 
     fn complete(&self, line: &str, at: usize, _: &Context<'_>) -> rustyline::Result<(usize, Vec<Pair>)> {
-        let (start, words) = complete::candidates(&line[..at], &self.roots);
+        let (start, words) = complete::candidates(&line[..at], &self.known);
         let only = words.len() == 1;
         let pair = |word: String| {
             let end = if only && !word.ends_with('/') { " " } else { "" };
@@ -83,9 +83,9 @@ impl Completer for Known {
     }
 }
 
-impl Helper for Known {}
-impl Highlighter for Known {}
-impl Validator for Known {}
-impl Hinter for Known {
+impl Helper for Names {}
+impl Highlighter for Names {}
+impl Validator for Names {}
+impl Hinter for Names {
     type Hint = String;
 }

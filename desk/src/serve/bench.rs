@@ -45,7 +45,7 @@ pub enum Said {
 }
 
 /// What can be typed here.
-const TYPED: &str = "offer, order, lock, remaining, profile, status or help";
+const TYPED: &str = "offer, order, lock, away, back, close, remaining, profile, status or help";
 const ARM_FIRST: &str = "the unit is not armed, so nothing can be passed or asked (refusal 4); arm it first";
 
 impl Bench {

@@ -2,7 +2,8 @@
 
 use crate::answer;
 use crate::json;
-use crate::sitting::{Passed, Sitting};
+use crate::passed::Passed;
+use crate::sitting::Sitting;
 use mbrumzheg::Event;
 
 /// A line of the log.
@@ -46,8 +47,9 @@ fn tone(passed: &Passed) -> &'static str {
     match (&passed.event, &passed.answer) {
         (_, Err(_)) => "refused",
         (_, Ok(answer)) if !answer.verdict.passes() => "rejected",
-        (Some(Event::Offer(_)), Ok(answer)) if answer.root_trip || answer.firm_trip => "tripped",
+        (_, Ok(answer)) if answer.root_trip || answer.firm_trip => "tripped",
         (Some(Event::Offer(_)), Ok(_)) => "granted",
+        (Some(Event::Send(_) | Event::Report(_) | Event::Close(_)), Ok(_)) => "away",
         (Some(Event::Order { reset, .. }), Ok(_)) if reset.number() > 0 => "reset",
         (Some(Event::Order { .. }), Ok(_)) => "passed",
         (Some(Event::Lockout { .. }), Ok(_)) => "locked",

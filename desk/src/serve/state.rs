@@ -3,10 +3,13 @@
 use super::bench::Bench;
 use crate::answer::why_locked;
 use crate::asked::Names;
+use crate::away;
 use crate::check::meaning;
 use crate::counts::Count;
 use crate::json::{list, maybe, object, text};
+use crate::ledger::Used;
 use crate::profile::Rule;
+use crate::register::Away;
 use crate::resets;
 use crate::sitting::Sitting;
 use crate::standing::level_name;
@@ -51,7 +54,7 @@ fn armed(sitting: &Sitting, at: &str) -> Result<String, String> {
     let mut rules = Vec::new();
     for (rule, count) in sitting.profile.each_count() {
         let left = sitting.left(time, count).map_err(|refusal| refusal.to_string())?;
-        rules.push(of_count(sitting, rule, count, left));
+        rules.push(of_count(sitting, rule, count, sitting.used(time, rule, count, left), left));
     }
     let levels = (0..=sitting.profile.roots.len()).map(|level| of_level(sitting, level));
     let status = sitting.unit.status().map_err(|refusal| refusal.to_string())?;
@@ -64,6 +67,7 @@ fn armed(sitting: &Sitting, at: &str) -> Result<String, String> {
         ("status", list([status.tripped, status.locked_by_user, status.locked, lowest].map(|number| number.to_string()))),
         ("levels", list(levels)),
         ("rules", list(rules)),
+        ("away", list(sitting.away.orders().iter().map(|order| of_order(sitting, order)))),
     ]))
 }
 
@@ -83,9 +87,21 @@ fn of_level(sitting: &Sitting, level: usize) -> String {
     ])
 }
 
+fn of_order(sitting: &Sitting, order: &Away) -> String {
+    object(&[
+        ("identity", order.sent.identity.to_string()),
+        ("on", text(&away::on(&sitting.profile, &order.sent))),
+        ("premium", text(&format!("${}", words::premium(order.sent.premium)))),
+        ("contracts", order.sent.contracts.to_string()),
+        ("back", order.back().to_string()),
+        ("open", order.open.to_string()),
+        ("reports", order.reports.to_string()),
+    ])
+}
+
 /// A rule on one of the units that it counts; a gauge is drawn for each.
-fn of_count(sitting: &Sitting, rule: &Rule, count: &Count, left: u64) -> String {
-    let used = rule.limit.saturating_sub(left);
+fn of_count(sitting: &Sitting, rule: &Rule, count: &Count, Used { all: used, away }: Used, left: u64) -> String {
+    let amount = |amount: u64| (amount > 0).then(|| rule.amount(amount).to_string());
     let tripped = sitting.standing.tripped(count.place).and_then(|ms| Time::from_ms(ms).ok()).map(words::time);
     object(&[
         ("number", rule.number.to_string()),
@@ -96,6 +112,8 @@ fn of_count(sitting: &Sitting, rule: &Rule, count: &Count, left: u64) -> String 
         ("used", text(&rule.amount(used).to_string())),
         ("left", text(&rule.amount(left).to_string())),
         ("remaining", left.to_string()),
+        ("back", maybe(amount(away))),
+        ("past", maybe(amount(used.saturating_sub(rule.limit)))),
         ("percent", share(used, rule.limit, 100).to_string()),
         ("thousandths", share(used, rule.limit, 1_000).to_string()),
         ("level", count.level().to_string()),

@@ -1,6 +1,6 @@
 //! Random profiles and days for the desk's tests, the same on every run.
 #![allow(dead_code)]
-use mbrumzheg::{Contracts, Event, Level, Offer, Premium, Reset, Root, Time, UnitOfRoot};
+use mbrumzheg::{Closing, Contracts, Event, Identity, Level, Offer, Premium, Report, Reports, Reset, Root, Sending, Time, UnitOfRoot};
 
 /// Numbers that look random and are the same on every run.
 pub struct Dice(u64);
@@ -66,14 +66,33 @@ pub fn event(dice: &mut Dice, clock: u64, roots: u64) -> Event {
     match dice.below(20) {
         0 => Event::Lockout { time, level: if dice.below(2) == 0 { Level::Firm } else { Level::Root(root) } },
         1..=5 => Event::Order { time, root, reset: dice.pick(&Reset::ALL) },
-        _ => Event::Offer(Offer {
-            time,
-            root,
-            unit: dice.pick(&UnitOfRoot::ALL),
-            premium: Premium::from_ten_thousandths(dice.pick(&[1, 70, 10_000, 25_000, 70_000])).expect("a premium"),
-            contracts: Contracts::new(dice.pick(&[1, 2, 9, 30, 100])).expect("contracts"),
-        }),
+        6 | 7 => {
+            let Offer { unit, premium, contracts, .. } = offer(dice, time, root);
+            let reports = Reports::new(dice.pick(&[1, 2, 3, 16])).expect("reports");
+            Event::Send(Sending { time, root, unit, premium, contracts, identity: identity(dice), reports })
+        }
+        8..=11 => {
+            let contracts = Contracts::new(dice.pick(&[1, 2, 5, 30])).expect("contracts");
+            Event::Report(Report { time, identity: identity(dice), contracts })
+        }
+        12 if dice.below(3) == 0 => Event::Close(Closing { time, identity: identity(dice) }),
+        _ => Event::Offer(offer(dice, time, root)),
     }
+}
+
+fn offer(dice: &mut Dice, time: Time, root: Root) -> Offer {
+    Offer {
+        time,
+        root,
+        unit: dice.pick(&UnitOfRoot::ALL),
+        premium: Premium::from_ten_thousandths(dice.pick(&[1, 70, 10_000, 25_000, 70_000])).expect("a premium"),
+        contracts: Contracts::new(dice.pick(&[1, 2, 9, 30, 100])).expect("contracts"),
+    }
+}
+
+/// One of a few, so that reports often meet an order that is open.
+fn identity(dice: &mut Dice) -> Identity {
+    Identity::new(dice.pick(&[0, 7, 65_535])).expect("an identity")
 }
 
 /// The same, but one that a record of 12 bytes holds.

@@ -166,6 +166,25 @@ impl Covering {
         trips
     }
 
+    /// A fill from an away market is counted, past any limit: totals of covering absolute rules rise, held at the most. Which levels have a rule that
+    /// trips: an absolute one at its limit or above, a rate rule above.
+    pub fn report(&self, m: &mut State, o: &Offer) -> Trips {
+        let mut trips = Trips::default();
+        let added = [o.premium * o.contracts, o.contracts, 1];
+        let counted = self.counted(m, o);
+        for ((rule, place), counted) in self.rules().iter().zip(&self.totals).zip(counted) {
+            let sum = (counted + added[rule.measure() as usize]).min(MOST_TOTAL);
+            let mut least = rule.ceiling() + 1;
+            if rule.is_absolute() {
+                m[*place] = sum;
+                least -= 1;
+            }
+            trips.firm |= sum >= least && rule.is_firm();
+            trips.root |= sum >= least && !rule.is_firm();
+        }
+        trips
+    }
+
     /// What each rule has counted: rate rules by level, the shortest window first, so that a sum goes on from the one before.
     fn counted(&self, m: &State, o: &Offer) -> [u64; 16] {
         let log = entries_of(m);

@@ -12,10 +12,15 @@ pub const LAST_TIME: u64 = 86_399_999;
 pub const MOST_PREMIUM: u64 = 100_000_000;
 pub const MOST_CONTRACTS: u64 = 1_000_000;
 pub const MOST_WINDOW: u64 = 86_400_000;
-pub const MOST_TOTAL: u64 = 1_000_000_000_000_000;
+pub const MOST_TOTAL: u64 = 1_000_000_000_000_000_000;
+pub const LAST_IDENTITY: u64 = 65_535;
+pub const MOST_REPORTS: u64 = 16;
 /// Ten-thousandths in a dollar.
 pub const DOLLAR: u64 = 10_000;
 
+/// Where the orders sent away begin, and how many there may be.
+pub const ORDERS: usize = REGISTER + 1;
+pub const MOST_ORDERS: usize = second::unit::REGISTER_PLACES;
 /// The units of a root.
 pub const UNITS: u64 = second::profile::UNITS;
 
@@ -30,8 +35,16 @@ pub const WHOLE: u64 = 1 << 8;
 pub const ENTRY_ROOT: u64 = 63 << 4;
 /// What an entry counts for: its root, the firm.
 pub const FLAGS: u64 = 3;
-/// The contracts of its second number.
+/// The contracts of its second number, and of an order's.
 pub const CONTRACTS: u64 = (1 << 20) - 1;
+
+/// The reports still allowed of an order's first number.
+pub const REPORTS: u64 = 31;
+
+/// The identity of an order sent away, by its first number.
+pub fn identity(first: u64) -> u64 {
+    first >> 13
+}
 
 /// The time of an entry, by its first number.
 pub fn entry_time(first: u64) -> u64 {

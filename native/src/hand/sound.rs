@@ -1,21 +1,43 @@
 //! The test of a sound state: one pass over its numbers, with few branches.
 
 use super::map::*;
+use super::register::reports_of_orders;
 
 /// The longest window of a profile, 0 if no rule is a rate rule.
 pub type Longest = u64;
 
-/// The longest window, if the state is sound.
-pub fn longest_if_sound(m: &State) -> Option<Longest> {
+/// What a sound state's test finds on its way.
+pub struct Sound {
+    pub longest: Longest,
+    /// The reports that orders sent away may still have: so many places of the log are kept if there is a rate rule.
+    reports: u64,
+}
+
+impl Sound {
+    /// Do entries inside the longest window at a time, kept places and so many more pass those of the log? Never without a rate rule.
+    pub fn lacks_places(&self, m: &State, time: u64, places: u64) -> bool {
+        let (entries, asked) = (m[ENTRY_COUNT], self.reports + places);
+        if self.longest == 0 || entries + asked <= PLACES {
+            return false;
+        }
+        let gone = first_inside(&m[LOG..][..2 * entries as usize], self.longest, time) as u64;
+        entries - gone + asked > PLACES
+    }
+}
+
+/// What the test finds, if the state is sound.
+pub fn sound(m: &State) -> Option<Sound> {
     if !are_singles(m) {
         return None;
     }
     let entries = m[ENTRY_COUNT] as usize;
     let longest = longest_of_rules(m)?;
+    let reports = reports_of_orders(m)?;
     let is_sound = are_roots(&m[ROOTS..RULE_COUNT], m[ROOT_COUNT] as usize)
         && (entries == 0 || longest > 0)
         && is_log(&m[LOG..], entries, m[ROOT_COUNT], m[CLOCK]);
-    is_sound.then_some(longest)
+    let sound = Sound { longest, reports };
+    (is_sound && !sound.lacks_places(m, m[CLOCK], 0)).then_some(sound)
 }
 
 /// Are mark, clock, firm, counts and locks sound?
@@ -26,13 +48,14 @@ fn are_singles(m: &State) -> bool {
         && is_name(m[FIRM], 4)
         && m[ROOT_COUNT] <= MOST_ROOTS as u64
         && m[RULE_COUNT].wrapping_sub(1) < MOST_RULES as u64
+        && m[REGISTER] <= MOST_ORDERS as u64
         && m[ENTRY_COUNT] <= PLACES
         && m[FIRM_TRIPPED] | m[FIRM_LOCKED] <= 1
         && beyond(m[ROOTS_TRIPPED] | m[ROOTS_LOCKED]) == 0
 }
 
 /// Is every number 0? Sixteen of them at a time.
-fn is_zero(numbers: &[u64]) -> bool {
+pub fn is_zero(numbers: &[u64]) -> bool {
     let (chunks, rest) = numbers.as_chunks::<16>();
     let mut any = [0; 16];
     for chunk in chunks {
@@ -64,25 +87,25 @@ fn is_name(number: u64, most: u32) -> bool {
 #[inline(never)]
 fn are_roots(names: &[u64], count: usize) -> bool {
     let (used, unused) = names.split_at(count);
-    used.iter().fold(true, |good, name| good & is_name(*name, 6)) && is_zero(unused) && are_distinct(used)
+    used.iter().fold(true, |good, name| good & is_name(*name, 6)) && is_zero(unused) && are_distinct::<256>(used)
 }
 
 /// Is no number there twice? A table by a few of its product's bits holds the place of each, from 1.
-fn are_distinct(names: &[u64]) -> bool {
-    if let [] | [_] = names {
+pub fn are_distinct<const SLOTS: usize>(numbers: &[u64]) -> bool {
+    if let [] | [_] = numbers {
         return true;
     }
-    let mut places = [0u8; 256];
-    names.iter().zip(1..).all(|(name, place)| {
-        let mut slot = (name.wrapping_mul(0x9E37_79B9_7F4A_7C15) >> 56) as u8;
+    let mut places = [0u8; SLOTS];
+    numbers.iter().zip(1..).all(|(number, place)| {
+        let mut slot = (number.wrapping_mul(0x9E37_79B9_7F4A_7C15) >> (64 - SLOTS.ilog2())) as usize;
         loop {
-            match places[usize::from(slot)] {
+            match places[slot % SLOTS] {
                 0 => break,
-                other if names[usize::from(other) - 1] == *name => return false,
-                _ => slot = slot.wrapping_add(1),
+                other if numbers[usize::from(other) - 1] == *number => return false,
+                _ => slot += 1,
             }
         }
-        places[usize::from(slot)] = place;
+        places[slot % SLOTS] = place;
         true
     })
 }
@@ -197,14 +220,14 @@ fn longest_of_rules(m: &State) -> Option<Longest> {
 fn is_log(log: &[u64], entries: usize, roots: u64, clock: u64) -> bool {
     let (used, unused) = log.split_at(2 * entries);
     let last_root = (roots << 4).wrapping_sub(16);
-    let (mut bad, mut before) = (0u64, 0u64);
+    let (mut bad, mut before, mut counting) = (0u64, 0u64, 1);
     for entry in used.chunks_exact(2) {
         let (time, premium, contracts) = (entry_time(entry[0]), entry[1] >> 20, entry[1] & CONTRACTS);
-        bad |= (entry[0] & FLAGS).wrapping_sub(1);
+        counting &= entry[0] | entry[0] >> 1;
         bad |= time.wrapping_sub(before) | last_root.wrapping_sub(entry[0] & ENTRY_ROOT);
         bad |= premium.wrapping_sub(1) | MOST_PREMIUM.wrapping_sub(premium);
         bad |= contracts.wrapping_sub(1) | MOST_CONTRACTS.wrapping_sub(contracts);
         before = time;
     }
-    bad >> 63 == 0 && before <= clock && is_zero(unused)
+    bad >> 63 == 0 && counting == 1 && before <= clock && is_zero(unused)
 }

@@ -1,7 +1,12 @@
 //! The typed calls against the independent second program, on random days: answers, Remaining, Status, clock, names, marks
 //! and the profile that is written back.
-use mbrumzheg::{Armed, Contracts, Event, Level, Offer, Premium, Refusal, Reset, Root, Scope, Time, Unit, UnitOfRoot, PROFILE_MOST};
+use mbrumzheg::{
+    Armed, Closing, Contracts, Event, Identity, Level, Offer, Premium, Refusal, Report, Reports, Reset, Root, Scope, Sending, Time, Unit,
+    UnitOfRoot, PROFILE_MOST,
+};
 use second::profile::Level as SecondLevel;
+use second::unit::Away;
+use std::collections::BTreeSet;
 
 /// Numbers that look random and are the same on every run.
 struct Dice(u64);
@@ -38,16 +43,18 @@ fn event(dice: &mut Dice, clock: u64) -> Event {
     let back = u64::from(dice.below(30) == 0);
     let time = Time::from_ms((clock + dice.pick(&[0, 0, 3, 60, 200])).saturating_sub(back)).expect("a time");
     let root = Root::new(dice.below(5)).expect("a root");
-    match dice.below(12) {
+    let unit = dice.pick(&UnitOfRoot::ALL);
+    let premium = Premium::from_ten_thousandths(dice.pick(&[1, 9_999, 20_000, 100_000_000])).expect("a premium");
+    let contracts = Contracts::new(dice.pick(&[1, 5, 50, 1_000])).expect("contracts");
+    let identity = Identity::new(dice.pick(&[0, 1, 2, 65_535])).expect("an identity");
+    let reports = Reports::new(dice.pick(&[1, 2, 16])).expect("reports");
+    match dice.below(18) {
         0 => Event::Lockout { time, level: dice.pick(&[Level::Firm, Level::Root(root)]) },
         1..=4 => Event::Order { time, root, reset: dice.pick(&Reset::ALL) },
-        _ => Event::Offer(Offer {
-            time,
-            root,
-            unit: dice.pick(&UnitOfRoot::ALL),
-            premium: Premium::from_ten_thousandths(dice.pick(&[1, 9_999, 20_000, 100_000_000])).expect("a premium"),
-            contracts: Contracts::new(dice.pick(&[1, 5, 50, 1_000])).expect("contracts"),
-        }),
+        5..=6 => Event::Send(Sending { time, root, unit, premium, contracts, identity, reports }),
+        7..=9 => Event::Report(Report { time, identity, contracts }),
+        10 => Event::Close(Closing { time, identity }),
+        _ => Event::Offer(Offer { time, root, unit, premium, contracts }),
     }
 }
 
@@ -59,6 +66,19 @@ fn answered(unit: &mut second::unit::Unit, event: &Event) -> [u64; 5] {
         Event::Offer(Offer { time, root, unit: of_root, premium, contracts }) => {
             unit.offer(time.ms(), root.number(), of_root.number(), premium.ten_thousandths(), contracts.count())
         }
+        Event::Send(Sending { time, root, unit: of_root, premium, contracts, identity, reports }) => {
+            let order = Away {
+                identity: identity.number(),
+                root: root.number(),
+                unit: of_root.number(),
+                premium: premium.ten_thousandths(),
+                contracts: contracts.count(),
+                reports: reports.count(),
+            };
+            unit.send(time.ms(), order)
+        }
+        Event::Report(Report { time, identity, contracts }) => unit.report(time.ms(), identity.number(), contracts.count()),
+        Event::Close(Closing { time, identity }) => unit.close(time.ms(), identity.number()),
     }
     .numbers()
 }
@@ -127,7 +147,7 @@ fn same_text(unit: &Unit<Box<[u64]>, Armed>, other: &second::unit::Unit) -> Stri
 
 #[test]
 fn random_days_are_answered_as_the_second_program_answers_them() {
-    let mut seen = [0; 5];
+    let (mut seen, mut refusals) = ([0; 5], BTreeSet::new());
     for seed in 0..300 {
         let mut dice = Dice(seed);
         let text = profile(&mut dice);
@@ -144,15 +164,17 @@ fn random_days_are_answered_as_the_second_program_answers_them() {
             assert_eq!(row, answered(&mut other, &next), "{next:?}\n{text}");
             compare(&unit, &other);
             seen.iter_mut().zip(row).for_each(|(count, number)| *count += u64::from(number > 0));
+            refusals.insert(row[0]);
         }
         same_text(&unit, &other);
     }
     assert!(seen.iter().all(|count| *count > 100), "refusals, verdicts, grants and trips came up: {seen:?}");
+    assert!(refusals.into_iter().eq([0, 12, 13, 18, 19]), "and the refusals of a day that never fills log or register");
 }
 
 #[test]
 fn the_rules_of_generated_profiles_are_the_second_programs() {
-    let mut types = std::collections::BTreeSet::new();
+    let mut types = BTreeSet::new();
     for seed in 0..2_000 {
         let text = second::gen::valid_profile(seed);
         let mut other = second::unit::Unit::new();

@@ -2,7 +2,7 @@
 
 use super::profiles::{profile, valid_profile};
 use crate::records::{Record, LOCKOUT, OFFER, ORDER};
-use crate::unit::Unit;
+use crate::unit::{Away, Unit};
 
 /// One call and its numbers.
 #[derive(Clone, Copy, Debug, PartialEq, Eq)]
@@ -33,6 +33,19 @@ pub enum Call {
         premium: u64,
         contracts: u64,
     },
+    Send {
+        time: u64,
+        order: Away,
+    },
+    Report {
+        time: u64,
+        identity: u64,
+        contracts: u64,
+    },
+    Close {
+        time: u64,
+        identity: u64,
+    },
     Remaining {
         time: u64,
         rule: u64,
@@ -60,10 +73,22 @@ impl Call {
             Call::Order { time, root, reset } => on.order(time, root, reset).numbers().to_vec(),
             Call::Lockout { time, level, root } => on.lockout(time, level, root).numbers().to_vec(),
             Call::Offer { time, root, unit, premium, contracts } => on.offer(time, root, unit, premium, contracts).numbers().to_vec(),
+            Call::Send { time, order } => on.send(time, order).numbers().to_vec(),
+            Call::Report { time, identity, contracts } => on.report(time, identity, contracts).numbers().to_vec(),
+            Call::Close { time, identity } => on.close(time, identity).numbers().to_vec(),
             Call::Remaining { time, rule, unit } => on.remaining(time, rule, unit).numbers().to_vec(),
             Call::Status => on.status().numbers().to_vec(),
             Call::Text { verdict, room } => on.text(verdict, &mut vec![0; room as usize]).numbers().to_vec(),
             Call::Profile { room } => on.profile(&mut vec![0; room as usize]).numbers().to_vec(),
+        }
+    }
+
+    /// The time to which the call sets the clock.
+    pub fn clock_time(&self) -> Option<u64> {
+        match *self {
+            Call::Order { time, .. } | Call::Lockout { time, .. } | Call::Offer { time, .. } => Some(time),
+            Call::Send { time, .. } | Call::Report { time, .. } | Call::Close { time, .. } => Some(time),
+            _ => None,
         }
     }
 

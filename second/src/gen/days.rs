@@ -5,7 +5,7 @@ use std::fmt::Write;
 use super::call::Call;
 use super::events::events_near;
 use super::profiles::{profile, valid_profile};
-use crate::unit::{Armed, Marks, Unit};
+use crate::unit::{Armed, Away, Marks, Unit};
 
 /// After how many calls a line says how the unit stands.
 const STANDS: usize = 8;
@@ -39,6 +39,11 @@ fn words(call: Call) -> String {
         Call::Order { time, root, reset } => format!("order {time} {root} {reset}"),
         Call::Lockout { time, level, root } => format!("lockout {time} {level} {root}"),
         Call::Offer { time, root, unit, premium, contracts } => format!("offer {time} {root} {unit} {premium} {contracts}"),
+        Call::Send { time, order: Away { identity, root, unit, premium, contracts, reports } } => {
+            format!("send {time} {root} {unit} {premium} {contracts} {identity} {reports}")
+        }
+        Call::Report { time, identity, contracts } => format!("report {time} {identity} {contracts}"),
+        Call::Close { time, identity } => format!("close {time} {identity}"),
         Call::Remaining { time, rule, unit } => format!("remaining {time} {rule} {unit}"),
         Call::Status => "status".to_string(),
         Call::Text { verdict, room } => format!("text {verdict} {room}"),

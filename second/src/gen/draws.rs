@@ -78,7 +78,7 @@ impl Maker {
     }
 
     /// A premium and contracts, half the time near what some covering rule leaves.
-    fn amounts(&mut self, time: u64, root: u64, unit: u64) -> (u64, u64) {
+    pub(super) fn amounts(&mut self, time: u64, root: u64, unit: u64) -> (u64, u64) {
         let any = self.random.between(1, 300_000);
         let premium = self.random.pick(&[1, 9_999, 10_000, 10_000, 20_000, 70_000, 210_000, MOST_PREMIUM, any]);
         let any = self.random.between(1, 1_000);
@@ -116,7 +116,7 @@ impl Maker {
     }
 
     /// A known root if there is one.
-    fn root(&mut self) -> u64 {
+    pub(super) fn root(&mut self) -> u64 {
         let few = self.random.below(self.roots.clamp(1, 3));
         let any = self.random.below(self.roots.max(1));
         self.random.pick(&[few, few, any])

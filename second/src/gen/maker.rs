@@ -89,6 +89,7 @@ impl Maker {
             100..=139 => Call::Status,
             140..=159 => self.text(),
             160..=169 => self.profile(),
+            170..=289 => self.away(),
             _ => self.choose_event(),
         }
     }
@@ -113,12 +114,9 @@ impl Maker {
     /// Runs the call on the unit that the calls follow, and keeps the clock.
     fn follow(&mut self, call: Call) {
         self.left = self.left.saturating_sub(1);
-        match call {
-            Call::Clear => self.cleared = true,
-            Call::Order { time, .. } | Call::Lockout { time, .. } | Call::Offer { time, .. } if time <= LAST_TIME => {
-                self.clock = self.clock.max(time)
-            }
-            _ => {}
+        self.cleared |= call == Call::Clear;
+        if let Some(time) = call.clock_time().filter(|time| *time <= LAST_TIME) {
+            self.clock = self.clock.max(time);
         }
         if let Some(unit) = &mut self.follows {
             call.run(unit);

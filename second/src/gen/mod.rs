@@ -2,6 +2,7 @@
 //!
 //! The same seed gives the same bytes and calls each time.
 
+mod away;
 mod call;
 mod damaged;
 mod days;

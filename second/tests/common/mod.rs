@@ -1,9 +1,10 @@
 //! What several tests begin with.
 #![allow(dead_code)]
 
+pub mod history;
 pub mod profile;
 
-use second::unit::{Unit, LOG_PLACES};
+use second::unit::{Away, Unit, LOG_PLACES};
 
 /// The last millisecond of the day.
 pub const LAST: u64 = 86_399_999;
@@ -29,4 +30,9 @@ pub fn full_log(window: u64) -> Unit {
         assert_eq!(unit.offer(0, 0, 0, 1, 1).grant, 1);
     }
     unit
+}
+
+/// An order on root 0 and unit 0 at the least premium.
+pub fn order(identity: u64, contracts: u64, reports: u64) -> Away {
+    Away { identity, root: 0, unit: 0, premium: 1, contracts, reports }
 }

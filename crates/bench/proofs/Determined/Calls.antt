@@ -20,6 +20,12 @@ use Rattle.calls.proofs.remaining.Kinds as remaining-kinds
 use Rattle.calls.proofs.remaining.Reads as remaining-reads
 use Rattle.calls.proofs.text.Kinds as text-kinds
 use Rattle.calls.proofs.text.Reads as text-reads
+use Rattle.calls.proofs.send.Kinds as send-kinds
+use Rattle.calls.proofs.send.Reads as send-reads
+use Rattle.calls.proofs.report.Kinds as report-kinds
+use Rattle.calls.proofs.report.Reads as report-reads
+use Rattle.calls.proofs.close.Kinds as close-kinds
+use Rattle.calls.proofs.close.Reads as close-reads
 
 pub arm : Determines 2 arm-kinds.ps arm-kinds.r arm-reads.Asked arm-reads.Learnt
 arm κs args asked x y u v p q = (one (p .0) (q .0), λ i. (one (p .1) (q .1) i, v .1))
@@ -47,3 +53,12 @@ remaining κs args asked x y u v p q = (one p q, refl)
 
 pub text : Determines 1 text-kinds.ps text-kinds.r text-reads.Asked text-reads.Learnt
 text κs args asked x y u v p q = (one (p .0) (q .0), λ i. (v .0, (one (p .1) (q .1) i, v .1 .1)))
+
+pub send : Determines 1 send-kinds.ps send-kinds.r send-reads.Asked send-reads.Learnt
+send κs args asked x y u v p q = (one (p .0) (q .0), λ i. (one (p .1) (q .1) i, v .1))
+
+pub report : Determines 1 report-kinds.ps report-kinds.r report-reads.Asked report-reads.Learnt
+report κs args asked x y u v p q = (one (p .0) (q .0), λ i. (one (p .1) (q .1) i, v .1))
+
+pub close : Determines 1 close-kinds.ps close-kinds.r close-reads.Asked close-reads.Learnt
+close κs args asked x y u v p q = (one (p .0) (q .0), λ i. (one (p .1) (q .1) i, v .1))

@@ -10,12 +10,12 @@ use Rattle.capi.proofs.mbrumzheg_status.Kinds as mbrumzheg-status-kinds
 use Rattle.capi.proofs.mbrumzheg_status.Reads as mbrumzheg-status-reads
 use Rattle.capi.proofs.mbrumzheg_text.Kinds as mbrumzheg-text-kinds
 use Rattle.capi.proofs.mbrumzheg_text.Reads as mbrumzheg-text-reads
-use Rattle.capi.proofs.mbrumzheg_root_named.Kinds as mbrumzheg-root-named-kinds
-use Rattle.capi.proofs.mbrumzheg_root_named.Reads as mbrumzheg-root-named-reads
-use Rattle.capi.proofs.mbrumzheg_root_name.Kinds as mbrumzheg-root-name-kinds
-use Rattle.capi.proofs.mbrumzheg_root_name.Reads as mbrumzheg-root-name-reads
-use Rattle.capi.proofs.mbrumzheg_rule.Kinds as mbrumzheg-rule-kinds
-use Rattle.capi.proofs.mbrumzheg_rule.Reads as mbrumzheg-rule-reads
+use Rattle.capi.proofs.told.mbrumzheg_root_named.Kinds as mbrumzheg-root-named-kinds
+use Rattle.capi.proofs.told.mbrumzheg_root_named.Reads as mbrumzheg-root-named-reads
+use Rattle.capi.proofs.told.mbrumzheg_root_name.Kinds as mbrumzheg-root-name-kinds
+use Rattle.capi.proofs.told.mbrumzheg_root_name.Reads as mbrumzheg-root-name-reads
+use Rattle.capi.proofs.told.mbrumzheg_rule.Kinds as mbrumzheg-rule-kinds
+use Rattle.capi.proofs.told.mbrumzheg_rule.Reads as mbrumzheg-rule-reads
 use Rattle.capi.proofs.mbrumzheg_order.Kinds as mbrumzheg-order-kinds
 use Rattle.capi.proofs.mbrumzheg_order.Reads as mbrumzheg-order-reads
 use Rattle.capi.proofs.mbrumzheg_offer.Kinds as mbrumzheg-offer-kinds
@@ -24,12 +24,18 @@ use Rattle.capi.proofs.mbrumzheg_lockout.Kinds as mbrumzheg-lockout-kinds
 use Rattle.capi.proofs.mbrumzheg_lockout.Reads as mbrumzheg-lockout-reads
 use Rattle.capi.proofs.mbrumzheg_remaining.Kinds as mbrumzheg-remaining-kinds
 use Rattle.capi.proofs.mbrumzheg_remaining.Reads as mbrumzheg-remaining-reads
-use Rattle.capi.proofs.mbrumzheg_read_record.Kinds as mbrumzheg-read-record-kinds
-use Rattle.capi.proofs.mbrumzheg_read_record.Reads as mbrumzheg-read-record-reads
-use Rattle.capi.proofs.mbrumzheg_write_record.Kinds as mbrumzheg-write-record-kinds
-use Rattle.capi.proofs.mbrumzheg_write_record.Reads as mbrumzheg-write-record-reads
-use Rattle.capi.proofs.mbrumzheg_profile.Kinds as mbrumzheg-profile-kinds
-use Rattle.capi.proofs.mbrumzheg_profile.Reads as mbrumzheg-profile-reads
+use Rattle.capi.proofs.events.mbrumzheg_read_record.Kinds as mbrumzheg-read-record-kinds
+use Rattle.capi.proofs.events.mbrumzheg_read_record.Reads as mbrumzheg-read-record-reads
+use Rattle.capi.proofs.events.mbrumzheg_write_record.Kinds as mbrumzheg-write-record-kinds
+use Rattle.capi.proofs.events.mbrumzheg_write_record.Reads as mbrumzheg-write-record-reads
+use Rattle.capi.proofs.told.mbrumzheg_profile.Kinds as mbrumzheg-profile-kinds
+use Rattle.capi.proofs.told.mbrumzheg_profile.Reads as mbrumzheg-profile-reads
+use Rattle.capi.proofs.mbrumzheg_send.Kinds as mbrumzheg-send-kinds
+use Rattle.capi.proofs.mbrumzheg_send.Reads as mbrumzheg-send-reads
+use Rattle.capi.proofs.mbrumzheg_report.Kinds as mbrumzheg-report-kinds
+use Rattle.capi.proofs.mbrumzheg_report.Reads as mbrumzheg-report-reads
+use Rattle.capi.proofs.mbrumzheg_close.Kinds as mbrumzheg-close-kinds
+use Rattle.capi.proofs.mbrumzheg_close.Reads as mbrumzheg-close-reads
 
 pub mbrumzheg-arm : Determines 3 mbrumzheg-arm-kinds.ps mbrumzheg-arm-kinds.r mbrumzheg-arm-reads.Asked mbrumzheg-arm-reads.Learnt
 mbrumzheg-arm κs args asked x y u v p q = (refl, λ i. (one (p .0) (q .0) i, (v .1 .0, (one (p .1) (q .1) i, v .1 .1 .1))))
@@ -72,3 +78,12 @@ mbrumzheg-write-record κs args asked x y u v p q = (refl, λ i. (v .0, (v .1 .0
 
 pub mbrumzheg-profile : Determines 3 mbrumzheg-profile-kinds.ps mbrumzheg-profile-kinds.r mbrumzheg-profile-reads.Asked mbrumzheg-profile-reads.Learnt
 mbrumzheg-profile κs args asked x y u v p q = (refl, λ i. (v .0, (one (p .0) (q .0) i, (one (p .1) (q .1) i, v .1 .1 .1))))
+
+pub mbrumzheg-send : Determines 2 mbrumzheg-send-kinds.ps mbrumzheg-send-kinds.r mbrumzheg-send-reads.Asked mbrumzheg-send-reads.Learnt
+mbrumzheg-send κs args asked x y u v p q = (refl, λ i. (one (p .0) (q .0) i, (v .1 .0, (v .1 .1 .0, (v .1 .1 .1 .0, (v .1 .1 .1 .1 .0, (v .1 .1 .1 .1 .1 .0, (v .1 .1 .1 .1 .1 .1 .0, (v .1 .1 .1 .1 .1 .1 .1 .0, (one (p .1) (q .1) i, v .1 .1 .1 .1 .1 .1 .1 .1 .1))))))))))
+
+pub mbrumzheg-report : Determines 2 mbrumzheg-report-kinds.ps mbrumzheg-report-kinds.r mbrumzheg-report-reads.Asked mbrumzheg-report-reads.Learnt
+mbrumzheg-report κs args asked x y u v p q = (refl, λ i. (one (p .0) (q .0) i, (v .1 .0, (v .1 .1 .0, (v .1 .1 .1 .0, (one (p .1) (q .1) i, v .1 .1 .1 .1 .1))))))
+
+pub mbrumzheg-close : Determines 2 mbrumzheg-close-kinds.ps mbrumzheg-close-kinds.r mbrumzheg-close-reads.Asked mbrumzheg-close-reads.Learnt
+mbrumzheg-close κs args asked x y u v p q = (refl, λ i. (one (p .0) (q .0) i, (v .1 .0, (v .1 .1 .0, (one (p .1) (q .1) i, v .1 .1 .1 .1)))))

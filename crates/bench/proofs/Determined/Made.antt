@@ -14,6 +14,8 @@ use Rattle.made.proofs.has_rate.Kinds as has-rate-kinds
 use Rattle.made.proofs.has_rate.Reads as has-rate-reads
 use Rattle.made.proofs.rule_at.Kinds as rule-at-kinds
 use Rattle.made.proofs.rule_at.Reads as rule-at-reads
+use Rattle.made.proofs.longest_window.Kinds as longest-window-kinds
+use Rattle.made.proofs.longest_window.Reads as longest-window-reads
 
 pub is-name-number : Determines 0 is-name-number-kinds.ps is-name-number-kinds.r is-name-number-reads.Asked is-name-number-reads.Learnt
 is-name-number κs args asked x y u v p q = (one p q, refl)
@@ -32,3 +34,6 @@ has-rate κs args asked x y u v p q = (one p q, refl)
 
 pub rule-at : Determines 1 rule-at-kinds.ps rule-at-kinds.r rule-at-reads.Asked rule-at-reads.Learnt
 rule-at κs args asked x y u v p q = (one p q, refl)
+
+pub longest-window : Determines 1 longest-window-kinds.ps longest-window-kinds.r longest-window-reads.Asked longest-window-reads.Learnt
+longest-window κs args asked x y u v p q = (one p q, refl)

@@ -26,6 +26,14 @@ use Rattle.state.proofs.put_total.Kinds as put-total-kinds
 use Rattle.state.proofs.put_total.Reads as put-total-reads
 use Rattle.state.proofs.put_clock.Kinds as put-clock-kinds
 use Rattle.state.proofs.put_clock.Reads as put-clock-reads
+use Rattle.state.proofs.longest_window.Kinds as longest-window-kinds
+use Rattle.state.proofs.longest_window.Reads as longest-window-reads
+use Rattle.state.proofs.used_at.Kinds as used-at-kinds
+use Rattle.state.proofs.used_at.Reads as used-at-reads
+use Rattle.state.proofs.uses_less.Kinds as uses-less-kinds
+use Rattle.state.proofs.uses_less.Reads as uses-less-reads
+use Rattle.state.proofs.orders_in.Kinds as orders-in-kinds
+use Rattle.state.proofs.orders_in.Reads as orders-in-reads
 
 pub write-armed : Determines 3 write-armed-kinds.ps write-armed-kinds.r write-armed-reads.Asked write-armed-reads.Learnt
 write-armed κs args asked x y u v p q = (refl, λ i. (one p q i, v .1))
@@ -62,3 +70,15 @@ put-total κs args asked x y u v p q = (refl, λ i. (one p q i, v .1))
 
 pub put-clock : Determines 1 put-clock-kinds.ps put-clock-kinds.r put-clock-reads.Asked put-clock-reads.Learnt
 put-clock κs args asked x y u v p q = (refl, λ i. (one p q i, v .1))
+
+pub longest-window : Determines 1 longest-window-kinds.ps longest-window-kinds.r longest-window-reads.Asked longest-window-reads.Learnt
+longest-window κs args asked x y u v p q = (one p q, refl)
+
+pub used-at : Determines 1 used-at-kinds.ps used-at-kinds.r used-at-reads.Asked used-at-reads.Learnt
+used-at κs args asked x y u v p q = (one p q, refl)
+
+pub uses-less : Determines 1 uses-less-kinds.ps uses-less-kinds.r uses-less-reads.Asked uses-less-reads.Learnt
+uses-less κs args asked x y u v p q = (one p q, refl)
+
+pub orders-in : Determines 1 orders-in-kinds.ps orders-in-kinds.r orders-in-reads.Asked orders-in-reads.Learnt
+orders-in κs args asked x y u v p q = (one p q, refl)

@@ -1,5 +1,5 @@
 -- `grant::credit_one` meets its contract: the total of an absolute rule that covers the offer rises, and no other number changes. Assumes nothing.
-use Prim.Native.Nat.{ℕ, _+_}
+use Prim.Native.Nat.{ℕ, _+_, min}
 use mathlib.Core.Path.{_≡_, sym, ap, ap₂, _∙_, subst}
 use mathlib.Core.Bool.{Bool, false, not, _&&_, _||_, or-false}
 use lib.Dec.{eqb}
@@ -7,7 +7,9 @@ use borrow.Author.Tests.{not-false}
 use Rattle.laws.specs.Tests.{and-r}
 use Rattle.measures.specs.Ranges.{In, totals}
 use Rattle.rules.specs.Amounts.{numberOf, amountIn, isOf}
-use Rattle.rules.specs.Rules.{InRange, added, ceiling}
+use Rattle.rules.specs.Rules.{InRange, added, ceiling, held}
+use Rattle.rules.specs.declared.Kind.the-variants.{Absolute}
+use Rattle.rules.proofs.Held.{ceiling-low, held-full}
 use Rattle.rules.specs.declared.Amount.{Amount}
 use Rattle.rules.specs.declared.Level.the-variants.{Firm, Root}
 use Rattle.rules.specs.declared.Rule.{Rule}
@@ -77,6 +79,7 @@ same-length : tie.Need-same-length
 same-length c = search needs
 
 returns-2 : tie.Need-returns-2
+unfolding held
 returns-2 c =
     let at-filled = c .before .before .before .before .before .before .before .before in
     let at-test = at-filled .before .before .before in
@@ -88,15 +91,16 @@ returns-2 c =
     let absolute = at-test .before .before .is-absolute .ensures in
     let inside = at-test .before .covers .ensures in
     let some = at-test .if1 .left in
-    let raised : at-filled .filled .result .total ≡ amountIn (a .rule .limit) (numberOf (a .total) + added (a .rule .limit) (o .premium) (args .grant)) =
+    let raised : at-filled .filled .result .total ≡ amountIn (a .rule .limit) (held Absolute (numberOf (a .total) + added (a .rule .limit) (o .premium) (args .grant))) =
     ap (λ (b : Account). b .total) (at-filled .filled .ensures)
-    ∙ ap₂ (λ (t : Amount) (r : Rule). amountIn (r .limit) (numberOf t + added (r .limit) (o .premium) (args .grant))) (at-filled .before .total-in .ensures) is in
+    ∙ ap₂ (λ (t : Amount) (r : Rule). amountIn (r .limit) (min (numberOf t + added (r .limit) (o .premium) (args .grant)) (totals .most))) (at-filled .before .total-in .ensures) is in
     let x = at-test .before .before .is-absolute .result in
     let y = at-test .before .covers .result in
     let covered : not y ≡ false = ap not (and-r x y (not-false (x && y) some)) in
     let firm = c .before .before .is-firm .ensures in
     let full =
     c .before .before .before .reached .ensures ∙ ap₂ (λ (n : ℕ) (r : Rule). eqb n (ceiling (r .limit))) (ap numberOf raised ∙ number-in (a .rule .limit) _) is
+    ∙ held-full (ceiling (a .rule .limit)) (ceiling-low (a .rule .limit) (laid-in-range (start .pre .0) (start .pre .1) .0)) _
     ∙ sym (fills-on o (args .grant) a is absolute inside some) in
     record {
       memory = put-credited (args .m .now) (args .i) o (args .grant) (raised ∙ sym (credited-on o (args .grant) a is absolute inside some)) (c .before .before .before .before .before .before .put-total .ensures);

@@ -39,6 +39,7 @@ export function draw(state, sort) {
   roots(armed.roots);
   locks(armed);
   rules(armed, sort);
+  orders(armed.away);
   $("drawn").textContent = `at ${armed.at}`;
   $("armed-from").textContent = `The profile, ${state.profile.name}`;
   $("armed-text").textContent = state.profile.text;
@@ -107,7 +108,23 @@ function roots(names) {
   if ([...own.options].map((option) => option.value).join() === names.join()) return;
   own.replaceChildren(...names.map((name) => new Option(name, name)));
   if (names.includes(now)) own.value = now;
-  document.querySelectorAll("#offer button, [data-reset], [data-lock=root]").forEach((button) => (button.disabled = names.length === 0));
+  document.querySelectorAll("#offer button, #do-away, [data-reset], [data-lock=root]").forEach((button) => (button.disabled = names.length === 0));
+}
+
+// The orders sent away that are open; a click on one chooses it.
+function orders(all) {
+  $("open-orders").hidden = all.length === 0;
+  const row = ({ identity, on, premium, contracts, back, open, reports }) => {
+    const own = element("tr");
+    const button = element("button", identity);
+    button.dataset.order = identity;
+    button.setAttribute("aria-label", `choose order ${identity}`);
+    const first = element("td");
+    first.append(button);
+    own.append(first, ...[on, premium, `${back} of ${contracts}`, open, reports].map((text) => element("td", text)));
+    return own;
+  };
+  $("orders").replaceChildren(...all.map(row));
 }
 
 // A gauge for each rule and unit that is counted for itself, kept from one state to the next so that it moves.
@@ -137,7 +154,7 @@ function gauge(key) {
   bar.setAttribute("aria-valuemin", "0");
   bar.setAttribute("aria-valuemax", "100");
   const bottom = element("div", undefined, "bottom");
-  bottom.append(element("span", "", "used"), element("span", "", "left"), element("span", "", "trip"));
+  bottom.append(element("span", "", "used"), element("span", "", "left"), element("span", "", "trip"), element("span", "", "back"), element("span", "", "past"));
   own.append(top, bar, bottom);
   return own;
 }
@@ -150,11 +167,13 @@ function fill(own, rule) {
   const share = rule.thousandths;
   bar.className = "bar" + (share >= 1000 ? " full" : share >= 800 ? " high" : share >= 500 ? " half" : "");
   bar.setAttribute("aria-label", `use of rule ${rule.number}, ${rule.of}`);
-  bar.setAttribute("aria-valuenow", String(rule.percent));
-  bar.firstChild.style.width = `${share / 10}%`;
+  bar.setAttribute("aria-valuenow", String(Math.min(rule.percent, 100)));
+  bar.firstChild.style.width = `${Math.min(share, 1000) / 10}%`;
   bottom.children[0].textContent = `used ${rule.used} of ${rule.limit}`;
   bottom.children[1].textContent = `left ${rule.left} [${rule.remaining}]`;
   bottom.children[2].textContent = rule.tripped ? `tripped at ${rule.tripped}` : "";
+  bottom.children[3].textContent = rule.back ? `${rule.back} of it came back from away` : "";
+  bottom.children[4].textContent = rule.past ? `${rule.past} past the limit` : "";
 }
 
 export function drawLine(entry, place) {

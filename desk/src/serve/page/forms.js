@@ -11,6 +11,11 @@ const offer = () => line(`offer ${time()} ${$("root").value} ${picked("side")} $
 const order = (reset) => line(`order ${time()} ${$("root").value}${reset ? " reset " + reset : ""}`);
 const lock = (what) => line(`lock ${time()} ${what === "firm" ? "firm" : $("root").value}`);
 
+const away = () =>
+  line(`away ${time()} ${$("root").value} ${picked("side")} ${picked("month")} ${$("premium").value} ${$("contracts").value} ${$("identity").value} ${$("reports").value}`);
+const cameBack = () => line(`back ${time()} ${$("identity").value} ${$("contracts").value}`);
+const closeOrder = () => line(`close ${time()} ${$("identity").value}`);
+
 // the lines that were typed, for the arrows
 const history = [];
 let place = 0;
@@ -42,6 +47,7 @@ const follow = (id) => () => $(id).getAttribute("aria-disabled") !== "true" && $
 const KEYS = {
   o: offer, r: () => order(""), 1: () => order("symbol"), 2: () => order("firm"), 3: () => order("both"),
   4: () => order("t"), 5: () => order("e"), 6: () => order("te"),
+  a: away, b: cameBack, x: closeOrder,
   l: () => lock("root"), f: () => lock("firm"), u: () => back(), y: () => forth(),
   t: focus("time"), c: focus("contracts"), "/": focus("line"), s: follow("save"), g: follow("report"),
 };
@@ -93,6 +99,13 @@ export function wire() {
     event.preventDefault();
     offer();
   });
+  on("sending", "submit", (event) => {
+    event.preventDefault();
+    away();
+  });
+  on("do-back", "click", cameBack);
+  on("do-close", "click", closeOrder);
+  on("orders", "click", (event) => event.target.dataset.order && ($("identity").value = event.target.dataset.order));
   on("typed", "submit", typed);
   on("line", "keydown", recall);
   on("at", "change", refresh);

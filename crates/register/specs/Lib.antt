@@ -1,0 +1,2 @@
+pub mod SentPlace
+pub mod Register
