@@ -60,3 +60,32 @@ fn an_entry_that_counts_for_nothing_is_unsound() {
         both.says("status", if flags == 0 { &[2] } else { &[0, 0, 0, 0, 64] });
     }
 }
+
+#[test]
+fn resets_at_one_time_leave_the_same_memory_in_either_order() {
+    // two roots and the firm with totals, entries and marks of both kinds, and an order open away
+    let after = |orders: &[(u64, u64)]| {
+        let mut both = Both::armed(
+            "A,abs_vol,Q,10\\nA,rate_vol,Q,50,1000\\nA,abs_count,R,3\\nA,rate_ntnl,R,900,500\\nA,abs_vol,,40,,T\\nA,rate_count,,100,1000,T",
+        );
+        for line in ["offer 0 0 0 1 10", "offer 1 1 2 1 7", "send 1 1 1 5 30 9 3", "report 2 9 12", "lockout 3 0 1", "lockout 3 1 0"] {
+            both.run(line);
+        }
+        for (root, reset) in orders {
+            assert_eq!(both.run(&format!("order 5 {root} {reset}"))[0], 0, "{root} {reset}");
+        }
+        both.from(0, NUMBERS)
+    };
+    for (first, second) in [(0, 0), (0, 1), (1, 0), (1, 1)] {
+        for (a, b) in (0..49).map(|n| ((first, n / 7), (second, n % 7))) {
+            assert_eq!(after(&[a, b]), after(&[b, a]), "{a:?} and {b:?}");
+        }
+    }
+    for root in 0..2 {
+        (0..7).for_each(|reset| assert_eq!(after(&[(root, reset), (root, reset)]), after(&[(root, reset)]), "{root} {reset}"));
+        assert_eq!(after(&[(root, 1), (root, 2)]), after(&[(root, 3)]));
+        assert_eq!(after(&[(root, 4), (root, 5)]), after(&[(root, 6)]));
+        assert_ne!(after(&[(root, 1)]), after(&[(root, 4)]));
+    }
+    assert_ne!(after(&[(0, 1)]), after(&[(1, 1)]));
+}

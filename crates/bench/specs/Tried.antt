@@ -1,4 +1,4 @@
--- Rows beyond document 01's table: rules of one unit, units that count for themselves, FIRM and BOTH, T and E, lockouts at both levels, Status,
+-- Rows beyond document 01's table: rules of one unit, units that count for themselves, FIRM and BOTH, T and E, resets in either order, lockouts at both levels, Status,
 -- verdict 1, the refusals 12 to 14, a profile of firm rules alone, fills from away markets; and texts that Arm refuses. Assumes nothing.
 use Prim.Native.Nat.{ℕ, _≤_}
 use Prim.Native.String.{String}
@@ -7,12 +7,33 @@ use mathlib.Core.List.{List, [], _∷_, _++_}
 use lib.ListN.{length, drop}
 use Rattle.text.specs.Text.{bytes}
 use Rattle.capi.specs.Rows.{armRow, textRow}
-use Rattle.machine.specs.Calls.{order, lockout, remaining}
+use Rattle.machine.specs.Calls.{Call, order, lockout, remaining}
 use Rattle.bench.specs.Lent.{Memory, Text, Verdict}
 use Rattle.bench.specs.Library.{Library}
 use Rattle.bench.specs.Rows.{Row}
 use Rattle.bench.specs.Table.{fill, at, grants, leaves, leavesOn, ordered, locksOut, stands, lockedOut, refused, offers}
 use Rattle.bench.specs.Away.{away}
+
+-- a root that is full and a firm that is locked out, orders at one time, and what is left of the two root rules and of the firm's; nothing is locked then
+abbrev cleaned : List (Call × List ℕ) → ℕ → ℕ → ℕ → Row
+cleaned orders total logged firm = record {
+  text = "ABCD,abs_vol,XYZ,10\nABCD,rate_vol,XYZ,50,1000\nABCD,abs_vol,,15,,T";
+  windows = 0 ∷ 1000 ∷ 0 ∷ [];
+  day = at 0 1 10 (grants 10 1 0) ∷ locksOut 1 1 ∷ orders ++ (leaves 5 0 total ∷ leaves 5 1 logged ∷ leaves 5 2 firm ∷ stands 0 0 0 64 ∷ []);
+}
+
+-- two full roots and a locked firm, orders at one time, and how the roots stand then
+abbrev apart : List (Call × List ℕ) → Row
+apart orders = record {
+  text = "ABCD,abs_vol,XYZ,10\nABCD,abs_vol,QRS,10";
+  windows = 0 ∷ 0 ∷ [];
+  day =
+      fill 0 0 0 1 10 (grants 10 1 0)
+      ∷ fill 0 1 0 1 10 (grants 10 1 0)
+      ∷ stands 2 0 2 0
+      ∷ locksOut 1 1
+      ∷ orders ++ (stands 0 0 0 64 ∷ leaves 5 0 10 ∷ leaves 5 1 10 ∷ []);
+}
 
 unfoldable pub tried : List Row
 tried =
@@ -113,6 +134,17 @@ tried =
           ∷ leaves 7 1 0
           ∷ [];
     }
+    -- resets at one time in either order, and twice, leave what BOTH leaves, and T and E what 6 leaves
+    ∷ cleaned (ordered 5 1 1 ∷ ordered 5 2 0 ∷ []) 10 50 15
+    ∷ cleaned (ordered 5 2 2 ∷ ordered 5 1 0 ∷ []) 10 50 15
+    ∷ cleaned (ordered 5 3 0 ∷ []) 10 50 15
+    ∷ cleaned (ordered 5 3 0 ∷ ordered 5 3 0 ∷ []) 10 50 15
+    ∷ cleaned (ordered 5 4 1 ∷ ordered 5 5 0 ∷ []) 0 40 5
+    ∷ cleaned (ordered 5 5 2 ∷ ordered 5 4 0 ∷ []) 0 40 5
+    ∷ cleaned (ordered 5 6 0 ∷ []) 0 40 5
+    -- resets of two roots may be exchanged
+    ∷ apart ((order 5 0 1, lockedOut 1) ∷ (order 5 1 1, lockedOut 1) ∷ [])
+    ∷ apart ((order 5 1 1, lockedOut 1) ∷ (order 5 0 1, lockedOut 1) ∷ [])
     -- lockouts at both levels, and how two roots stand
     ∷ record {
       text = "ABCD,abs_vol,XYZ,10\nABCD,abs_vol,QRS,10";

@@ -1,10 +1,12 @@
--- The effects of two resets at one time: any two may be exchanged, and two of one root are one that does both. Assumes nothing.
-use Prim.Native.Nat.{ℕ, zero, suc, _^_, _<_}
-use mathlib.Core.Path.{_≡_, refl, sym, ap, _∙_, fun-ext}
-use mathlib.Core.Bool.{Bool, true, false, not, cond, _&&_, _||_, or-comm, or-self, and-or-distrib-left}
+-- Resets as sets of levels: one order leaves what its sets leave, and one after another at one time leaves what the union of their sets leaves.
+-- Assumes nothing.
+use Prim.Native.Nat.{ℕ, zero, suc, _^_, _≤_, _<_}
+use mathlib.Core.Path.{_≡_, refl, sym, ap, ap₂, _∙_, fun-ext}
+use mathlib.Core.Bool.{Bool, true, false, not, cond, _&&_, _||_, or-comm, or-self}
 use mathlib.Core.List.{List, map, map-map, map-congr-left}
 use lib.Dec.{eqb}
 use lib.Pow.{pow-pos}
+use borrow.Author.Tests.{ne-eqb, eqb-true, eqb-false}
 use native.Mathlib.Nat.{pow-suc}
 use native.Mathlib.Omega.{arith}
 use Rattle.bits.specs.Locks.{withoutBit}
@@ -17,9 +19,8 @@ use Rattle.rules.specs.declared.Account.{Account}
 use Rattle.rules.specs.Amounts.{amountIn}
 use Rattle.rules.specs.declared.Amount.{Amount}
 use Rattle.machine.specs.declared.Entry.{Entry}
-use Rattle.machine.specs.State.{State}
-use Rattle.machine.specs.declared.Effect.{Effect}
-use Rattle.machine.specs.Effects.{zeroing, lifting}
+use Rattle.machine.specs.State.{Locks, State, rootsIn}
+use Rattle.machine.specs.Effects.{effectOf, zeroing, lifting}
 use Rattle.machine.specs.Deeds.{resetting, clockAfter}
 use Rattle.machine.specs.Locks.{lifted}
 use Rattle.machine.specs.Entries.{isFlagged}
@@ -28,26 +29,29 @@ use Rattle.machine.specs.Register.{registerAfter}
 use Rattle.machine.specs.Step.{accountsAfter, locksAfter, logAfter, partAfter, after}
 use Rattle.machine.proofs.Lists.{keep-map}
 use Rattle.machine.proofs.Flags.{still-gone}
+use Rattle.demand.specs.Resets.{Sets, setsOf, union, cleared, unlocked, resetTo}
 
--- levels of either sort
-abbrev ofEither : (Level → Bool) → (Level → Bool) → Level → Bool
-ofEither z′ z level = z′ level || z level
+-- ---- the counters
 
-none-none : (b′ b : Bool) (none total : Amount) → cond b′ none (cond b none total) ≡ cond (b′ || b) none total
-none-none true b none total = refl
-none-none false b none total = refl
+none-none : (b′ b : Bool) (none total : Amount) → cond b′ none (cond b none total) ≡ cond (b || b′) none total
+none-none true true none total = refl
+none-none true false none total = refl
+none-none false true none total = refl
+none-none false false none total = refl
 
-not-not : (b′ b c : Bool) → (not b′ && (not b && c)) ≡ (not (b′ || b) && c)
-not-not true b c = refl
-not-not false b c = refl
+not-not : (b′ b c : Bool) → (not b′ && (not b && c)) ≡ (not (b || b′) && c)
+not-not true true c = refl
+not-not true false c = refl
+not-not false true c = refl
+not-not false false c = refl
 
-wiped-wiped : (z′ z : Level → Bool) (a : Account) → wiped z′ (wiped z a) ≡ wiped (ofEither z′ z) a
+wiped-wiped : (z′ z : Level → Bool) (a : Account) → wiped z′ (wiped z a) ≡ wiped (λ level. z level || z′ level) a
 unfolding wiped
 wiped-wiped z′ z a =
     let level : Level = levelOf (a .rule .scope) in
     λ i. record { rule = a .rule; total = none-none (z′ level) (z level) (amountIn (a .rule .limit) 0) (a .total) i }
 
-unflagged-unflagged : (z′ z : Level → Bool) (e : Entry) → unflagged z′ (unflagged z e) ≡ unflagged (ofEither z′ z) e
+unflagged-unflagged : (z′ z : Level → Bool) (e : Entry) → unflagged z′ (unflagged z e) ≡ unflagged (λ level. z level || z′ level) e
 unfolding unflagged
 unflagged-unflagged z′ z e =
     λ i.
@@ -64,49 +68,13 @@ unflagged-unflagged z′ z e =
 map-both : {A : Type 0} (f g h : A → A) → ((a : A) → f (g a) ≡ h a) → (xs : List A) → map f (map g xs) ≡ map h xs
 map-both f g h same xs = map-map f g xs ∙ map-congr-left {l = xs} (λ a m. same a)
 
-log-both : (z′ z : Level → Bool) (log : List Entry) → unflaggedLog z′ (unflaggedLog z log) ≡ unflaggedLog (ofEither z′ z) log
+log-both : (z′ z : Level → Bool) (log : List Entry) → unflaggedLog z′ (unflaggedLog z log) ≡ unflaggedLog (λ level. z level || z′ level) log
 unfolding unflaggedLog
 log-both z′ z log =
     keep-map isFlagged (unflagged z′) (still-gone z′) (map (unflagged z) log)
-    ∙ ap (keep isFlagged) (map-both (unflagged z′) (unflagged z) (unflagged (ofEither z′ z)) (unflagged-unflagged z′ z) log)
+    ∙ ap (keep isFlagged) (map-both (unflagged z′) (unflagged z) (unflagged (λ level. z level || z′ level)) (unflagged-unflagged z′ z) log)
 
--- a reset that zeroes the counters of the levels z, lifts the firm's marks if y, and changes both words by f
-abbrev resetBy : State → ℕ → (Level → Bool) → Bool → (ℕ → ℕ) → State
-resetBy s t z y f = record {
-  part = record {
-    clock = t;
-    profile = s .part .profile;
-    accounts = map (wiped z) (s .part .accounts);
-    locks = record {
-      firmTripped = not y && s .part .locks .firmTripped;
-      firmByUser = not y && s .part .locks .firmByUser;
-      tripped = f (s .part .locks .tripped);
-      byUser = f (s .part .locks .byUser);
-    };
-    register = s .part .register;
-  };
-  log = unflaggedLog z (s .log);
-}
-
-reset-reset : (s : State) (t : ℕ) (z z′ : Level → Bool) (y y′ : Bool) (f f′ : ℕ → ℕ)
-    → resetBy (resetBy s t z y f) t z′ y′ f′ ≡ resetBy s t (ofEither z′ z) (y′ || y) (λ w. f′ (f w))
-reset-reset s t z z′ y y′ f f′ =
-    λ i.
-    record {
-      part = record {
-        clock = t;
-        profile = s .part .profile;
-        accounts = map-both (wiped z′) (wiped z) (wiped (ofEither z′ z)) (wiped-wiped z′ z) (s .part .accounts) i;
-        locks = record {
-          firmTripped = not-not y′ y (s .part .locks .firmTripped) i;
-          firmByUser = not-not y′ y (s .part .locks .firmByUser) i;
-          tripped = f′ (f (s .part .locks .tripped));
-          byUser = f′ (f (s .part .locks .byUser));
-        };
-        register = s .part .register;
-      };
-      log = log-both z′ z (s .log) i;
-    }
+-- ---- the marks
 
 -- the bit of a root is cleared, or not
 abbrev without : Bool → ℕ → ℕ → ℕ
@@ -116,80 +84,116 @@ below-power : (w : ℕ) → w < 2 ^ w
 below-power zero = pow-pos 0
 below-power (suc w) = omega (arith, pow-suc 2 w, below-power w)
 
-without-both : (b′ b : Bool) (root w : ℕ) → without b′ root (without b root w) ≡ without (b′ || b) root w
+without-both : (b′ b : Bool) (root w : ℕ) → without b′ root (without b root w) ≡ without (b || b′) root w
 without-both true true root w = again (without-sets w root) w (below-power w)
 without-both true false root w = refl
-without-both false b root w = refl
+without-both false true root w = refl
+without-both false false root w = refl
 
 without-swap : (b′ b : Bool) (root′ root w : ℕ) → without b′ root′ (without b root w) ≡ without b root (without b′ root′ w)
 without-swap true true root′ root w = exchange (without-sets w root′) (without-sets w root) (λ e. refl) w (below-power w)
 without-swap true false root′ root w = refl
 without-swap false b root′ root w = refl
 
--- the effect that does what either does
-unfoldable pub both : Effect → Effect → Effect
-both e′ e = record {
-  zeroroot = e′ .zeroroot || e .zeroroot;
-  zerofirm = e′ .zerofirm || e .zerofirm;
-  liftroot = e′ .liftroot || e .liftroot;
-  liftfirm = e′ .liftfirm || e .liftfirm;
-}
+-- one bit more is cleared before the others or after them
+cleared-swap : (lifts : Level → Bool) (n : ℕ) (b : Bool) (root w : ℕ) → cleared lifts n (without b root w) ≡ without b root (cleared lifts n w)
+unfolding cleared
+cleared-swap lifts zero b root w = refl
+cleared-swap lifts (suc r) b root w =
+    ap (without (lifts (Root r)) r) (cleared-swap lifts r b root w) ∙ without-swap (lifts (Root r)) b r root (cleared lifts r w)
 
-pub both-self : (e : Effect) → both e e ≡ e
-unfolding both
-both-self e =
+cleared-both : (l′ l : Level → Bool) (n w : ℕ) → cleared l′ n (cleared l n w) ≡ cleared (λ level. l level || l′ level) n w
+unfolding cleared
+cleared-both l′ l zero w = refl
+cleared-both l′ l (suc r) w =
+    ap (without (l′ (Root r)) r) (cleared-swap l′ r (l (Root r)) r (cleared l r w))
+    ∙ without-both (l′ (Root r)) (l (Root r)) r (cleared l′ r (cleared l r w))
+    ∙ ap (without (l (Root r) || l′ (Root r)) r) (cleared-both l′ l r w)
+
+-- the marks that an order lifts are those of its root alone
+module _ (lifts : Level → Bool) (root : ℕ) (others : (r : ℕ) → (r ≡ root → ⊥) → lifts (Root r) ≡ false) where
+  cleared-below : (n w : ℕ) → n ≤ root → cleared lifts n w ≡ w
+  unfolding cleared
+  cleared-below zero w le = refl
+  cleared-below (suc r) w le = rw (others r (λ e. omega (arith, le, e))) (cleared-below r w (omega (arith, le)))
+
+  cleared-one : (n w : ℕ) → root < n → cleared lifts n w ≡ without (lifts (Root root)) root w
+  unfolding cleared
+  cleared-one zero w l = absurd (omega (arith, l))
+  cleared-one (suc r) w l = go (eqb r root) refl (λ k. cleared-one r w k)
+    where
+      go : (b : Bool) → eqb r root ≡ b → (root < r → cleared lifts r w ≡ without (lifts (Root root)) root w)
+          → cond (lifts (Root r)) (withoutBit (cleared lifts r w) r) (cleared lifts r w) ≡ without (lifts (Root root)) root w
+      go true e rest =
+          let same = eqb-true r root e in
+          ap₂ (λ (k v : ℕ). without (lifts (Root k)) k v) same (cleared-below r w (omega (arith, same)))
+      go false e rest = rw (others r (eqb-false r root e)) (rest (omega (arith, l, eqb-false r root e)))
+
+only-root : (root reset r : ℕ) → (r ≡ root → ⊥) → lifting (effectOf reset) root (Root r) ≡ false
+unfolding lifting
+only-root root reset r other = ap (λ (b : Bool). b && effectOf reset .liftroot) (ne-eqb r root other)
+
+unlocked-both : (l′ l : Level → Bool) (n : ℕ) (locks : Locks) → unlocked l′ n (unlocked l n locks) ≡ unlocked (λ level. l level || l′ level) n locks
+unfolding unlocked
+unlocked-both l′ l n locks =
     λ i.
     record {
-      zeroroot = or-self (e .zeroroot) i;
-      zerofirm = or-self (e .zerofirm) i;
-      liftroot = or-self (e .liftroot) i;
-      liftfirm = or-self (e .liftfirm) i;
+      firmTripped = not-not (l′ Firm) (l Firm) (locks .firmTripped) i;
+      firmByUser = not-not (l′ Firm) (l Firm) (locks .firmByUser) i;
+      tripped = cleared-both l′ l n (locks .tripped) i;
+      byUser = cleared-both l′ l n (locks .byUser) i;
     }
 
-both-zeroing : (e′ e : Effect) (root : ℕ) (level : Level) → (zeroing e′ root level || zeroing e root level) ≡ zeroing (both e′ e) root level
-unfolding zeroing both
-both-zeroing e′ e root Firm = refl
-both-zeroing e′ e root (Root r) = sym (and-or-distrib-left (eqb r root) (e′ .zeroroot) (e .zeroroot))
+-- ---- the state
 
-both-lifting : (e′ e : Effect) (root : ℕ) (level : Level) → (lifting e′ root level || lifting e root level) ≡ lifting (both e′ e) root level
-unfolding lifting both
-both-lifting e′ e root Firm = refl
-both-lifting e′ e root (Root r) = sym (and-or-distrib-left (eqb r root) (e′ .liftroot) (e .liftroot))
+-- ONE SET AFTER ANOTHER leaves what their union leaves
+pub resets-join : (t : ℕ) (a b : Sets) (s : State) → resetTo t b (resetTo t a s) ≡ resetTo t (union a b) s
+unfolding resetTo union rootsIn
+resets-join t a b s =
+    λ i.
+    record {
+      part = record {
+        clock = t;
+        profile = s .part .profile;
+        accounts = map-both (wiped (b .zeroes)) (wiped (a .zeroes)) (wiped (union a b .zeroes)) (wiped-wiped (b .zeroes) (a .zeroes)) (s .part .accounts) i;
+        locks = unlocked-both (b .lifts) (a .lifts) (rootsIn s) (s .part .locks) i;
+        register = s .part .register;
+      };
+      log = log-both (b .zeroes) (a .zeroes) (s .log) i;
+    }
 
-module _ (s : State) (t : ℕ) where
-  abbrev reset : ℕ → Effect → State
-  reset root e = after (resetting t root e) s
+-- AN ORDER'S RESET leaves what its sets leave
+pub order-sets : (t root reset : ℕ) (s : State) → root < rootsIn s → after (resetting t root (effectOf reset)) s ≡ resetTo t (setsOf root reset) s
+unfolding after partAfter clockAfter accountsAfter locksAfter logAfter registerAfter lifted resetTo setsOf unlocked
+order-sets t root reset s low =
+    let lifts = lifting (effectOf reset) root in
+    λ i.
+    record {
+      part = record {
+        clock = t;
+        profile = s .part .profile;
+        accounts = map (wiped (zeroing (effectOf reset) root)) (s .part .accounts);
+        locks = record {
+          firmTripped = not (lifts Firm) && s .part .locks .firmTripped;
+          firmByUser = not (lifts Firm) && s .part .locks .firmByUser;
+          tripped = sym (cleared-one lifts root (only-root root reset) (rootsIn s) (s .part .locks .tripped) low) i;
+          byUser = sym (cleared-one lifts root (only-root root reset) (rootsIn s) (s .part .locks .byUser) low) i;
+        };
+        register = s .part .register;
+      };
+      log = unflaggedLog (zeroing (effectOf reset) root) (s .log);
+    }
 
-  two : (root : ℕ) (e : Effect) (root′ : ℕ) (e′ : Effect)
-      → after (resetting t root′ e′) (after (resetting t root e) s)
-      ≡ resetBy s t (ofEither (zeroing e′ root′) (zeroing e root)) (lifting e′ root′ Firm || lifting e root Firm)
-      (λ w. without (lifting e′ root′ (Root root′)) root′ (without (lifting e root (Root root)) root w))
-  unfolding after partAfter clockAfter accountsAfter locksAfter logAfter registerAfter lifted
-  two root e root′ e′ =
-      reset-reset s t (zeroing e root) (zeroing e′ root′) (lifting e root Firm) (lifting e′ root′ Firm)
-      (without (lifting e root (Root root)) root) (without (lifting e′ root′ (Root root′)) root′)
+-- the union does not depend on the order, and with itself it is the same
+pub union-swap : (a b : Sets) → union a b ≡ union b a
+unfolding union
+union-swap a b =
+    λ i.
+    record {
+      zeroes = fun-ext (λ level. or-comm (a .zeroes level) (b .zeroes level)) i;
+      lifts = fun-ext (λ level. or-comm (a .lifts level) (b .lifts level)) i;
+    }
 
-  -- any two may be exchanged, of one root or of two
-  pub exchanged : (root : ℕ) (e : Effect) (root′ : ℕ) (e′ : Effect)
-      → after (resetting t root′ e′) (after (resetting t root e) s) ≡ after (resetting t root e) (after (resetting t root′ e′) s)
-  exchanged root e root′ e′ =
-      two root e root′ e′
-      ∙ ((λ i. resetBy s t
-      (fun-ext (λ level. or-comm (zeroing e′ root′ level) (zeroing e root level)) i)
-      (or-comm (lifting e′ root′ Firm) (lifting e root Firm) i)
-      (fun-ext (λ w. without-swap (lifting e′ root′ (Root root′)) (lifting e root (Root root)) root′ root w) i))
-      ∙ sym (two root′ e′ root e))
-
-  -- two of one root are the one that does both
-  pub joined : (root : ℕ) (e e′ : Effect) → after (resetting t root e′) (after (resetting t root e) s) ≡ after (resetting t root (both e′ e)) s
-  unfolding after partAfter clockAfter accountsAfter locksAfter logAfter registerAfter lifted
-  joined root e e′ =
-      two root e root e′
-      ∙ (λ i. resetBy s t (fun-ext (both-zeroing e′ e root) i) (both-lifting e′ e root Firm i) (fun-ext word i))
-    where
-      word : (w : ℕ)
-          → without (lifting e′ root (Root root)) root (without (lifting e root (Root root)) root w)
-          ≡ without (lifting (both e′ e) root (Root root)) root w
-      word w =
-          without-both (lifting e′ root (Root root)) (lifting e root (Root root)) root w
-          ∙ ap (λ (b : Bool). without b root w) (both-lifting e′ e root (Root root))
+pub union-self : (a : Sets) → union a a ≡ a
+unfolding union
+union-self a = λ i. record { zeroes = fun-ext (λ level. or-self (a .zeroes level)) i; lifts = fun-ext (λ level. or-self (a .lifts level)) i }

@@ -1,44 +1,70 @@
--- Orders at one time: any two may be exchanged, SYMBOL and FIRM of one root leave what BOTH leaves, and T and E what 6 leaves. Assumes nothing.
-use Prim.Native.Nat.{ℕ}
-use mathlib.Core.Path.{_≡_, refl, sym, ap, _∙_}
-use mathlib.Core.Bool.{Bool, true, false, not, cond, _&&_}
-use lib.Dec.{leb}
+-- Orders at one time: any two leave what the union of their sets leaves, so they may be exchanged and repeat without effect. Assumes nothing.
+use Prim.Native.Nat.{ℕ, _<_}
+use mathlib.Core.Path.{_≡_, refl, sym, ap, _∙_, subst}
+use mathlib.Core.Bool.{Bool, true, false, not, cond, _&&_, _||_, and-or-distrib-left}
+use lib.Dec.{leb, eqb}
 use borrow.Author.Tests.{le-leb, not-false}
 use native.Mathlib.Nat.{le-refl}
 use native.Mathlib.Omega.{arith}
+use mathlib.Core.Path.{fun-ext}
 use Rattle.laws.specs.Tests.{and-l}
 use Rattle.measures.specs.Ranges.{isIn, times}
-use Rattle.machine.specs.State.{State}
-use Rattle.machine.specs.declared.Effect.{Effect}
-use Rattle.machine.specs.Effects.{resets, effectOf, lastReset}
-use Rattle.machine.specs.Deeds.{resetting, clockAfter}
+use Rattle.rules.specs.declared.Level.{Level}
+use Rattle.rules.specs.declared.Level.the-variants.{Firm, Root}
+use Rattle.machine.specs.State.{State, rootsIn}
+use Rattle.machine.specs.Effects.{resets, effectOf, lastReset, zeroing, lifting}
+use Rattle.machine.specs.Deeds.{resetting}
 use Rattle.machine.specs.Calls.{order}
 use Rattle.machine.specs.Refusals.{firstOf, badTime, isRoot, refusalOf}
-use Rattle.machine.specs.Step.{partAfter, after}
-use Rattle.machine.specs.Judge.{ordered, judged, unless, judge, stepIn, step}
-use Rattle.demand.specs.Resets.{NotRefused, afterOrder}
-use Rattle.demand.proofs.Effects.{both, both-self, exchanged, joined}
+use Rattle.machine.specs.Step.{after}
+use Rattle.machine.specs.Judge.{logPlaces, ordered, judged, unless, judge, stepIn, step}
+use Rattle.machine.proofs.Refusals.{orderable}
+use Rattle.demand.specs.Resets.{Sets, setsOf, union, resetTo, NotRefused, afterOrder}
+use Rattle.demand.proofs.Effects.{resets-join, order-sets, union-swap, union-self}
 
--- an accepted order carries out its reset
-accepted-left : (s : State) (t root reset : ℕ) → NotRefused s t root reset → afterOrder s t root reset ≡ after (resetting t root (effectOf reset)) s
-unfolding step stepIn judge unless judged ordered
-accepted-left s t root reset h = ap (λ (n : ℕ). after (unless n (judged s (order t root reset)) .deed) s) h
+-- AN ACCEPTED ORDER leaves what its sets leave
+pub order-left : (s : State) (t root reset : ℕ) → NotRefused s t root reset → afterOrder s t root reset ≡ resetTo t (setsOf root reset) s
+unfolding step stepIn judge unless judged ordered rootsIn
+order-left s t root reset h =
+    ap (λ (n : ℕ). after (unless n (judged s (order t root reset)) .deed) s) h
+    ∙ order-sets t root reset s (orderable logPlaces s t root reset h .1)
 
 -- at one time, an order that is accepted before a reset is accepted after it
-accepted-after : (s : State) (t root : ℕ) (e : Effect) (root′ reset′ : ℕ) → NotRefused s t root′ reset′
-    → NotRefused (after (resetting t root e) s) t root′ reset′
-unfolding refusalOf badTime isRoot after partAfter clockAfter firstOf
-accepted-after s t root e root′ reset′ h = go _ (badTime (s .part) t) refl h
+accepted-after : (s : State) (t : ℕ) (sets : Sets) (root reset : ℕ) → NotRefused s t root reset → NotRefused (resetTo t sets s) t root reset
+unfolding refusalOf badTime isRoot resetTo firstOf
+accepted-after s t sets root reset h = go _ (badTime (s .part) t) refl h
   where
-    good : badTime (s .part) t ≡ false → badTime (after (resetting t root e) s .part) t ≡ false
+    good : badTime (s .part) t ≡ false → badTime (resetTo t sets s .part) t ≡ false
     good e = rw (and-l (isIn times t) (leb (s .part .clock) t) (not-false _ e), le-leb t t (le-refl t))
 
-    go : (rest : ℕ) (b : Bool) → badTime (s .part) t ≡ b → cond b 12 rest ≡ 0 → cond (badTime (after (resetting t root e) s .part) t) 12 rest ≡ 0
+    go : (rest : ℕ) (b : Bool) → badTime (s .part) t ≡ b → cond b 12 rest ≡ 0 → cond (badTime (resetTo t sets s .part) t) 12 rest ≡ 0
     go rest true e k = omega arith
     go rest false e k = rw (good e) k
 
+-- so the second of two orders is accepted
+pub second-accepted : (s : State) (t root reset root′ reset′ : ℕ) → NotRefused s t root reset → NotRefused s t root′ reset′
+    → NotRefused (afterOrder s t root reset) t root′ reset′
+second-accepted s t root reset root′ reset′ h k =
+    subst (λ (x : State). NotRefused x t root′ reset′) (sym (order-left s t root reset h)) (accepted-after s t (setsOf root reset) root′ reset′ k)
+
+-- TWO ACCEPTED ORDERS AT ONE TIME leave what the union of their sets leaves
+pub orders-join : (s : State) (t root reset root′ reset′ : ℕ) → NotRefused s t root reset → NotRefused s t root′ reset′
+    → afterOrder (afterOrder s t root reset) t root′ reset′ ≡ resetTo t (union (setsOf root reset) (setsOf root′ reset′)) s
+orders-join s t root reset root′ reset′ h k =
+    order-left (afterOrder s t root reset) t root′ reset′ (second-accepted s t root reset root′ reset′ h k)
+    ∙ ap (resetTo t (setsOf root′ reset′)) (order-left s t root reset h)
+    ∙ resets-join t (setsOf root reset) (setsOf root′ reset′) s
+
+-- they may be exchanged, of one root or of two
+pub orders-exchanged : (s : State) (t root reset root′ reset′ : ℕ) → NotRefused s t root reset → NotRefused s t root′ reset′
+    → afterOrder (afterOrder s t root reset) t root′ reset′ ≡ afterOrder (afterOrder s t root′ reset′) t root reset
+orders-exchanged s t root reset root′ reset′ h k =
+    orders-join s t root reset root′ reset′ h k
+    ∙ ap (λ (sets : Sets). resetTo t sets s) (union-swap (setsOf root reset) (setsOf root′ reset′))
+    ∙ sym (orders-join s t root′ reset′ root reset k h)
+
 -- whether an order is accepted does not depend on which of the known resets it asks for
-accepted-any : (s : State) (t root reset reset′ : ℕ) → leb reset′ lastReset ≡ true → NotRefused s t root reset → NotRefused s t root reset′
+pub accepted-any : (s : State) (t root reset reset′ : ℕ) → leb reset′ lastReset ≡ true → NotRefused s t root reset → NotRefused s t root reset′
 unfolding refusalOf firstOf
 accepted-any s t root reset reset′ known h = rw known (go (badTime (s .part) t) (isRoot (s .part) root) (leb reset lastReset) h)
   where
@@ -50,48 +76,53 @@ accepted-any s t root reset reset′ known h = rw known (go (badTime (s .part) t
     go false true k h = refl
     go false false k h = h
 
--- one order after the other
-left-left : (s : State) (t root reset root′ reset′ : ℕ) → NotRefused s t root reset → NotRefused s t root′ reset′
-    → afterOrder (afterOrder s t root reset) t root′ reset′ ≡ after (resetting t root′ (effectOf reset′)) (after (resetting t root (effectOf reset)) s)
-left-left s t root reset root′ reset′ h k =
-    ap (λ (x : State). afterOrder x t root′ reset′) (accepted-left s t root reset h)
-    ∙ accepted-left (after (resetting t root (effectOf reset)) s) t root′ reset′ (accepted-after s t root (effectOf reset) root′ reset′ k)
-
--- orders at one time may be exchanged, of one root or of two
-pub orders-exchanged : (s : State) (t root reset root′ reset′ : ℕ) → NotRefused s t root reset → NotRefused s t root′ reset′
-    → afterOrder (afterOrder s t root reset) t root′ reset′ ≡ afterOrder (afterOrder s t root′ reset′) t root reset
-orders-exchanged s t root reset root′ reset′ h k =
-    left-left s t root reset root′ reset′ h k
-    ∙ (exchanged s t root (effectOf reset) root′ (effectOf reset′) ∙ sym (left-left s t root′ reset′ root reset k h))
-
--- those of one root leave what one order leaves whose reset does what theirs do
 module _ (s : State) (t root : ℕ) where
-  pub orders-joined : (first second third : ℕ) → both (effectOf second) (effectOf first) ≡ effectOf third
-      → leb first lastReset ≡ true → leb second lastReset ≡ true → NotRefused s t root third
-      → afterOrder (afterOrder s t root first) t root second ≡ afterOrder s t root third
-  orders-joined first second third e k l h =
-      left-left s t root first root second (accepted-any s t root third first k h) (accepted-any s t root third second l h)
-      ∙ (joined s t root (effectOf first) (effectOf second)
-      ∙ (ap (λ (x : Effect). after (resetting t root x) s) e ∙ sym (accepted-left s t root third h)))
-
   -- the same reset twice leaves what it left once
-  pub once-more : (reset : ℕ) → leb reset lastReset ≡ true → NotRefused s t root reset → afterOrder (afterOrder s t root reset) t root reset ≡ afterOrder s t root reset
-  once-more reset k h = orders-joined reset reset reset (both-self (effectOf reset)) k k h
+  pub once-more : (reset : ℕ) → NotRefused s t root reset → afterOrder (afterOrder s t root reset) t root reset ≡ afterOrder s t root reset
+  once-more reset h =
+      orders-join s t root reset root reset h h
+      ∙ ap (λ (sets : Sets). resetTo t sets s) (union-self (setsOf root reset))
+      ∙ sym (order-left s t root reset h)
+
+  -- the sets of two resets make up those of a third where their rows of the table do
+  makes : (first second third : ℕ) → (effectOf first .zeroroot || effectOf second .zeroroot) ≡ effectOf third .zeroroot
+      → (effectOf first .zerofirm || effectOf second .zerofirm) ≡ effectOf third .zerofirm
+      → (effectOf first .liftroot || effectOf second .liftroot) ≡ effectOf third .liftroot
+      → (effectOf first .liftfirm || effectOf second .liftfirm) ≡ effectOf third .liftfirm
+      → union (setsOf root first) (setsOf root second) ≡ setsOf root third
+  unfolding union setsOf zeroing lifting
+  makes first second third zr zf lr lf = λ i. record { zeroes = fun-ext zeroes i; lifts = fun-ext lifts i }
+    where
+      zeroes : (level : Level) → (zeroing (effectOf first) root level || zeroing (effectOf second) root level) ≡ zeroing (effectOf third) root level
+      zeroes Firm = zf
+      zeroes (Root r) = sym (and-or-distrib-left (eqb r root) (effectOf first .zeroroot) (effectOf second .zeroroot)) ∙ ap (λ (b : Bool). eqb r root && b) zr
+
+      lifts : (level : Level) → (lifting (effectOf first) root level || lifting (effectOf second) root level) ≡ lifting (effectOf third) root level
+      lifts Firm = lf
+      lifts (Root r) = sym (and-or-distrib-left (eqb r root) (effectOf first .liftroot) (effectOf second .liftroot)) ∙ ap (λ (b : Bool). eqb r root && b) lr
+
+  -- two whose sets make up those of a third leave what the third leaves
+  together : (first second third : ℕ) → union (setsOf root first) (setsOf root second) ≡ setsOf root third → leb first lastReset ≡ true
+      → leb second lastReset ≡ true → NotRefused s t root third → afterOrder (afterOrder s t root first) t root second ≡ afterOrder s t root third
+  together first second third e k l h =
+      orders-join s t root first root second (accepted-any s t root third first k h) (accepted-any s t root third second l h)
+      ∙ ap (λ (sets : Sets). resetTo t sets s) e
+      ∙ sym (order-left s t root third h)
 
   -- SYMBOL and then FIRM leaves what BOTH leaves, and so does FIRM and then SYMBOL
   pub symbol-firm : NotRefused s t root 3 → afterOrder (afterOrder s t root 1) t root 2 ≡ afterOrder s t root 3
-  unfolding both effectOf resets
-  symbol-firm h = orders-joined 1 2 3 refl refl refl h
+  unfolding effectOf resets
+  symbol-firm h = together 1 2 3 (makes 1 2 3 refl refl refl refl) refl refl h
 
   pub firm-symbol : NotRefused s t root 3 → afterOrder (afterOrder s t root 2) t root 1 ≡ afterOrder s t root 3
-  unfolding both effectOf resets
-  firm-symbol h = orders-joined 2 1 3 refl refl refl h
+  unfolding effectOf resets
+  firm-symbol h = together 2 1 3 (makes 2 1 3 refl refl refl refl) refl refl h
 
   -- T and then E leaves what 6 leaves, and so does E and then T
   pub t-e : NotRefused s t root 6 → afterOrder (afterOrder s t root 4) t root 5 ≡ afterOrder s t root 6
-  unfolding both effectOf resets
-  t-e h = orders-joined 4 5 6 refl refl refl h
+  unfolding effectOf resets
+  t-e h = together 4 5 6 (makes 4 5 6 refl refl refl refl) refl refl h
 
   pub e-t : NotRefused s t root 6 → afterOrder (afterOrder s t root 5) t root 4 ≡ afterOrder s t root 6
-  unfolding both effectOf resets
-  e-t h = orders-joined 5 4 6 refl refl refl h
+  unfolding effectOf resets
+  e-t h = together 5 4 6 (makes 5 4 6 refl refl refl refl) refl refl h

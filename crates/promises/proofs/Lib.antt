@@ -15,3 +15,4 @@ pub mod Moved
 pub mod Goes
 pub mod Day
 pub mod Written
+pub mod Resets
