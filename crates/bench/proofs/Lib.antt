@@ -1,4 +1,3 @@
-pub mod One
 pub mod Words
 pub mod Runs
 pub mod Computed
@@ -9,4 +8,3 @@ pub mod Contracts
 pub mod Witness
 pub mod ShutOut
 pub mod History
-pub mod Determined

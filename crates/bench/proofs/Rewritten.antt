@@ -11,7 +11,7 @@ use Rattle.profile.specs.Profile.{withRoot, rootsWith, numbered, joined, tooMan
 use Rattle.rules.specs.Rules.{covers}
 use Rattle.rules.specs.Allowance.{All}
 use Rattle.laws.specs.Lists.{same}
-use Rattle.output.specs.Output.{typeName, limitText, windowText, rootText, levelText, callPutText, monthText, fieldTexts, inFront, trimmed, withCommas, lineText, linesText, textOf}
+use Rattle.writing.specs.Writing.{typeName, limitText, windowText, rootText, levelText, callPutText, monthText, fieldTexts, inFront, trimmed, withCommas, lineText, linesText, textOf}
 use Rattle.calls.specs.Calls.{armMemory}
 use Rattle.promises.specs.Written.{textIn, MayBeArmed}
 use Rattle.promises.proofs.Written.{taken-text}

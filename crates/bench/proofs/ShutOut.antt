@@ -27,7 +27,7 @@ use Rattle.promises.proofs.Holds.{ready-holds, holds-ready}
 use Rattle.promises.proofs.Answered.{acted-answer, refused-by, by-refused, taken}
 use Rattle.bench.specs.Lent.{Memory, Text, Verdict, numbersIn, Called, Offered, called}
 use Rattle.bench.specs.Library.{Library, Meets, Unarmed, answersBy, RefusesTexts, RefusesCalls, GrantsAlways, ArmStoresNothing, StoresNoFill, CountsFirstOnly, hundred, forty}
-use Rattle.bench.proofs.One.{one}
+use Rattle.laws.specs.One.{one}
 use Rattle.bench.proofs.Words.{below-zeros, tested-below}
 use Rattle.bench.proofs.Computed.{hundred-read, forties}
 use Rattle.bench.proofs.Runs.{arm-accepted, arm-leaves, call-leaves, armed-answers}

@@ -30,17 +30,17 @@ use Rattle.register.specs.SentPlace.{sentWidths, sentValues, openValues, sentNu
 use Rattle.register.specs.Register.{registerShape}
 use Rattle.register.proofs.Shapes.{register-written}
 use Rattle.register.proofs.SentPlace.{sent-fit, open-fit}
-use Rattle.tables.specs.RulePlace.{limitWidths, limitValues, scopeWidths, scopeValues, ruleNumbers, rulesShape}
-use Rattle.tables.specs.EntryPlace.{fillWidths, fillValues, amountWidths, amountValues, entryNumbers, logShape, flagNumber}
+use Rattle.packing.specs.RulePlace.{limitWidths, limitValues, scopeWidths, scopeValues, ruleNumbers, rulesShape}
+use Rattle.packing.specs.EntryPlace.{fillWidths, fillValues, amountWidths, amountValues, entryNumbers, logShape, flagNumber}
 use Rattle.shapes.specs.Shape.{one, both, named, word, flag, rows, table as counted}
-use Rattle.tables.proofs.Shapes.{rules-written, log-written}
-use Rattle.tables.proofs.RulePlace.{limit-fit, scope-fit}
-use Rattle.tables.proofs.EntryPlace.{fill-fit, amount-fit}
-use Rattle.made.specs.Names.{nameBytes, isNameNumber}
-use Rattle.made.specs.Made.{areRoots}
+use Rattle.packing.proofs.Shapes.{rules-written, log-written}
+use Rattle.packing.proofs.RulePlace.{limit-fit, scope-fit}
+use Rattle.packing.proofs.EntryPlace.{fill-fit, amount-fit}
+use Rattle.given.specs.Names.{nameBytes, isNameNumber}
+use Rattle.given.specs.Given.{areRoots}
 use Rattle.text.proofs.Bytes.{made-most}
 use Rattle.text.proofs.InBase.{digits-room}
-use Rattle.made.specs.Parts.{totalsSize}
+use Rattle.given.specs.Parts.{totalsSize}
 use Rattle.state.specs.State.{size, number, marksOf, locksShape, linesOf, profileShape, totalsShape, partShape, numbersShape, totalsIn, numbersOf, encode, stored}
 use Rattle.state.specs.Sound.{SoundState}
 use Rattle.state.proofs.Exactly.{MadeParts}

@@ -5,4 +5,3 @@ pub mod Table
 pub mod Away
 pub mod Tried
 pub mod Rewritten
-pub mod Determines

@@ -29,14 +29,14 @@ fn arm(memory: &mut [u64]) -> bool {
     let mut text = [0u8; 65537];
     let n = read_profile(&mut text);
     let mut line = [0u8; 126];
-    let opened = lines::arm(memory, &text[..n], &mut line);
+    let opened = answering::arm(memory, &text[..n], &mut line);
     let bytes = opened.bytes;
     io::write_all(STDOUT_FILENO, &line[..bytes]) & opened.armed
 }
 
 // Answers the records of some bytes, the first at a place, and prints their lines. Answers the place after them, or 0 where the output ends.
 fn answer_records(memory: &mut [u64], place: u64, bytes: &[u8], output: &mut [u8]) -> u64 {
-    let ran = lines::run(memory, place, bytes, output);
+    let ran = answering::run(memory, place, bytes, output);
     let written = ran.bytes;
     if !io::write_all(STDOUT_FILENO, &output[..written]) {
         return 0;
@@ -94,7 +94,7 @@ fn answer_all(memory: &mut [u64], input: &mut [u8], output: &mut [u8]) {
 
 // A read brings at most 4,096 records, and their lines take at most 126 bytes each.
 fn main() {
-    let mut memory = [0u64; lines::SIZE];
+    let mut memory = [0u64; answering::SIZE];
     if !arm(&mut memory) {
         return;
     }

@@ -13,7 +13,7 @@ use Rattle.machine.specs.Entries.{isEntry, recent}
 use Rattle.machine.specs.State.{State, rulesIn, rootsIn}
 use Rattle.rules.specs.Valid.{hasRate}
 use Rattle.machine.specs.Offers.{entryOf, longest, joinedLog}
-use Rattle.tables.proofs.EntryPlace.{entry-valid}
+use Rattle.packing.proofs.EntryPlace.{entry-valid}
 use Rattle.state.specs.Laid.{Fits, withLog}
 use Rattle.machine.specs.declared.Offer.{Offer}
 use Rattle.machine.proofs.Lists.{every-keep, every-join}

@@ -9,7 +9,7 @@ use borrow.Author.Tests.{eq-eqb}
 use Rattle.bits.specs.Locks.{bit, withBit, withoutBit}
 use Rattle.rules.specs.declared.Level.{Level}
 use Rattle.rules.specs.declared.Level.the-variants.{Firm, Root}
-use Rattle.tables.specs.EntryPlace.{flagNumber}
+use Rattle.packing.specs.EntryPlace.{flagNumber}
 use Rattle.machine.specs.State.{Locks}
 use Rattle.machine.specs.declared.Effect.{Effect}
 use Rattle.machine.specs.Effects.{lifting}

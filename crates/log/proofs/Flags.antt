@@ -9,11 +9,11 @@ use native.Mathlib.Omega.{arith}
 use lib.Bits.{bitAnd, and-zero-r, and-block}
 use Rattle.rules.specs.declared.Level.{Level}
 use Rattle.rules.specs.declared.Level.the-variants.{Firm, Root}
-use Rattle.tables.specs.EntryPlace.{flagNumber, entryAt}
+use Rattle.packing.specs.EntryPlace.{flagNumber, entryAt}
 use Rattle.machine.specs.Entries.{isEntry, isFlagged}
 use Rattle.machine.specs.declared.Entry.{Entry}
 use Rattle.machine.specs.Order.{unflagged}
-use Rattle.tables.proofs.EntryPlace.{Ranged, entry-ranged, entry-in, entry-here}
+use Rattle.packing.proofs.EntryPlace.{Ranged, entry-ranged, entry-in, entry-here}
 use Rattle.log.specs.Sieve.{fillNumber, hasFlag, flagDigits, withoutFlags}
 use Rattle.log.proofs.Sifting.{flags-most, fill-is}
 

@@ -9,7 +9,7 @@ use lib.ListN.{length, getD, take, drop, set, length-append, length-drop, take-a
 use lib.Seq.{take-at, drop-at, take-suc, length-take-le, getD-append-add, getD-drop}
 use Rattle.laws.specs.Tests.{and-l, and-r}
 use Rattle.tables.specs.Tables.{zeros, flat, table}
-use Rattle.tables.specs.EntryPlace.{entryNumbers}
+use Rattle.packing.specs.EntryPlace.{entryNumbers}
 use Rattle.machine.specs.declared.Entry.{Entry}
 use Rattle.rules.specs.Rules.{counts}
 use Rattle.rules.specs.declared.Kind.{Kind}
@@ -18,7 +18,7 @@ use Rattle.machine.specs.Entries.{isEntry, areOrdered, recent}
 use Rattle.laws.specs.Folds.{every, keep}
 use Rattle.machine.proofs.Lists.{keep-le}
 use Rattle.tables.proofs.Tables.{length-flat, length-places}
-use Rattle.tables.proofs.EntryPlace.{entry-ranged}
+use Rattle.packing.proofs.EntryPlace.{entry-ranged}
 use Rattle.log.specs.Log.{Held, entriesOf, Last, Kept}
 use Rattle.log.specs.Newest.{isSince, newest, lookedAt}
 use Rattle.log.specs.Sieve.{firstTime}

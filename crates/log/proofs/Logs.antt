@@ -13,11 +13,11 @@ use Rattle.tables.specs.Tables.{allZero, places, isPlace, placesPass}
 use Rattle.laws.specs.Folds.{every}
 use Rattle.machine.specs.Entries.{isEntry, areOrdered, isFlagged}
 use Rattle.machine.specs.declared.Entry.{Entry}
-use Rattle.tables.specs.EntryPlace.{entryAt, entryNumbers, isEntryPlace, logTable}
-use Rattle.tables.proofs.Parts.{two}
+use Rattle.packing.specs.EntryPlace.{entryAt, entryNumbers, isEntryPlace, logTable}
+use Rattle.packing.proofs.Parts.{two}
 use Rattle.tables.proofs.Tables.{Codec, is-table, valid-places, length-table, length-places, place-table, places-table, rest-table}
 use Rattle.tables.proofs.Passing.{pass-each, each-pass}
-use Rattle.tables.proofs.EntryPlace.{entry-codec, entry-wider}
+use Rattle.packing.proofs.EntryPlace.{entry-codec, entry-wider}
 use Rattle.log.specs.Log.{isLogPlace, entriesHold, logHolds, Held, HeldIn, entriesOf, placesIn, entriesIn, logNumbers}
 
 -- an entry of at most 64 roots in its place

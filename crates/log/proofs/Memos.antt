@@ -18,8 +18,8 @@ use Rattle.rules.specs.Valid.{isRule}
 use Rattle.machine.specs.declared.Entry.{Entry}
 use Rattle.machine.specs.Entries.{areOrdered, entryShare}
 use Rattle.laws.specs.Folds.{sumOf}
-use Rattle.tables.specs.EntryPlace.{entryAt}
-use Rattle.tables.proofs.EntryPlace.{entry-here, entry-ranged}
+use Rattle.packing.specs.EntryPlace.{entryAt}
+use Rattle.packing.proofs.EntryPlace.{entry-here, entry-ranged}
 use Rattle.log.proofs.Logs.{held-entry}
 use Rattle.log.specs.declared.sieves.Sieve.{Sieve}
 use Rattle.log.specs.declared.Memo.{Memo}

@@ -11,7 +11,7 @@ use borrow.Author.Tests.{leb-true, le-leb}
 use Rattle.laws.specs.Tests.{and-l, and-r}
 use Rattle.laws.specs.Folds.{keep, sumOf}
 use Rattle.tables.specs.Tables.{places}
-use Rattle.tables.specs.EntryPlace.{entryAt}
+use Rattle.packing.specs.EntryPlace.{entryAt}
 use Rattle.machine.specs.declared.Entry.{Entry}
 use Rattle.machine.specs.Entries.{areOrdered}
 use Rattle.log.specs.Log.{entriesOf}

@@ -11,7 +11,7 @@ use borrow.Author.Tests.{leb-true, le-leb}
 use Rattle.laws.specs.Tests.{and-l, and-r, and-i, same-test, tests}
 use Rattle.measures.specs.Ranges.{isIn, times}
 use Rattle.tables.specs.Tables.{allZero, places, placesPass}
-use Rattle.tables.specs.EntryPlace.{entryAt}
+use Rattle.packing.specs.EntryPlace.{entryAt}
 use Rattle.tables.proofs.Passing.{pass-on, places-on}
 use Rattle.log.specs.Log.{isLogPlace, entriesHold}
 use Rattle.machine.specs.Entries.{areOrdered}

@@ -23,9 +23,9 @@ use Rattle.rules.specs.Valid.{isLimit, isKind, isScope, isRule}
 use Rattle.machine.specs.Entries.{isEntry, flagOf, entryShare}
 use Rattle.machine.specs.declared.Entry.{Entry}
 use Rattle.bits.specs.Fields.{total, packed}
-use Rattle.tables.specs.EntryPlace.{flagNumber, fillValues, entryAt, entryNumbers, isEntryPlace}
+use Rattle.packing.specs.EntryPlace.{flagNumber, fillValues, entryAt, entryNumbers, isEntryPlace}
 use Rattle.tables.proofs.Passing.{pass-each}
-use Rattle.tables.proofs.EntryPlace.{Ranged, entry-ranged}
+use Rattle.packing.proofs.EntryPlace.{Ranged, entry-ranged}
 use Rattle.log.specs.Log.{Held, entriesOf}
 use Rattle.log.specs.Sieve.{firstTime, sieveIn, sieveOf, passes, fillNumber, sifted}
 use Rattle.log.specs.Newest.{isSince}

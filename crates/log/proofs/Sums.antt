@@ -8,7 +8,7 @@ use native.Mathlib.Omega.{arith}
 use lib.ListN.{drop}
 use Rattle.laws.specs.Folds.{sumOf}
 use Rattle.machine.specs.declared.Entry.{Entry}
-use Rattle.tables.specs.EntryPlace.{entryAt}
+use Rattle.packing.specs.EntryPlace.{entryAt}
 use Rattle.log.specs.Log.{entriesOf}
 use Rattle.log.specs.Newest.{isSince, newest}
 use Rattle.log.proofs.Newest.{read-on}

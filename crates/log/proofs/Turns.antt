@@ -12,7 +12,7 @@ use Rattle.laws.specs.Folds.{every}
 use Rattle.laws.specs.Every.{every-first, every-drop, every-append, every-join}
 use Rattle.machine.specs.Entries.{isEntry, recent}
 use Rattle.machine.specs.declared.Entry.{Entry}
-use Rattle.tables.specs.EntryPlace.{entryAt, entryNumbers, isEntryPlace, logTable}
+use Rattle.packing.specs.EntryPlace.{entryAt, entryNumbers, isEntryPlace, logTable}
 use Rattle.shapes.proofs.Tables.{length-zeros}
 use Rattle.tables.proofs.Tables.{length-flat, length-places, length-table, place-table, read-table, put-at, put-next}
 use Rattle.tables.proofs.AllZero.{zeros-add}

@@ -12,7 +12,7 @@ use Rattle.machine.specs.Entries.{isFlagged}
 use Rattle.machine.specs.declared.Entry.{Entry}
 use Rattle.machine.specs.Order.{unflagged, unflaggedLog}
 use Rattle.tables.specs.Tables.{zeros}
-use Rattle.tables.specs.EntryPlace.{amountValues, entryAt, entryNumbers, logTable}
+use Rattle.packing.specs.EntryPlace.{amountValues, entryAt, entryNumbers, logTable}
 use Rattle.log.specs.Log.{Held, Left, entriesOf}
 use Rattle.log.specs.Sieve.{fillNumber, hasFlag, withoutFlags}
 use Rattle.log.proofs.Logs.{place-numbers}

@@ -6,7 +6,7 @@ use mathlib.Core.List.{List, [], _∷_, _++_}
 use lib.ListN.{length, getD, take, drop}
 use lib.Dec.{leb}
 use Rattle.tables.specs.Tables.{allZero, places, placesPass}
-use Rattle.tables.specs.EntryPlace.{entryAt, isEntryPlace, logTable}
+use Rattle.packing.specs.EntryPlace.{entryAt, isEntryPlace, logTable}
 use Rattle.machine.specs.declared.Entry.{Entry}
 use Rattle.machine.specs.Entries.{areOrdered, isFlagged, recent}
 

@@ -13,7 +13,7 @@ use Rattle.rules.specs.declared.Kind.{Kind}
 use Rattle.rules.specs.declared.Kind.the-variants.{Rate, Absolute}
 use Rattle.rules.specs.declared.Limit.{Limit}
 use Rattle.rules.specs.declared.Rule.{Rule}
-use Rattle.tables.specs.EntryPlace.{flagNumber, fillWidths, fillValues}
+use Rattle.packing.specs.EntryPlace.{flagNumber, fillWidths, fillValues}
 use Rattle.machine.specs.declared.Entry.{Entry}
 use Rattle.log.specs.Newest.{isSince}
 use Rattle.log.specs.declared.sieves.Sieve.{Sieve}

@@ -7,7 +7,7 @@ ghost use Rattle.machine.specs.Order.{unflaggedLog};
 ghost use Prim.Native.Nat.{_+_, _*_, _<_};
 ghost use lib.ListN.{length};
 ghost use lib.Seq.{sets};
-ghost use Rattle.tables.specs.EntryPlace.{flagNumber};
+ghost use Rattle.packing.specs.EntryPlace.{flagNumber};
 ghost use Rattle.log.specs.Log.{Held, entriesOf, Left};
 ghost use Rattle.log.specs.Sieve.{hasFlag, withoutFlags};
 use crate::blank;

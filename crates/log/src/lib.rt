@@ -50,7 +50,7 @@ fn are_entries(log: &[u64], k: usize, roots: u64, clock: u64) -> bool
         let time = first / 1024;
         // No way out of the loop before its end, so that the entries can be tested side by side.
         good = good
-            & (tables::is_entry_but_time(first, second, roots) & (0 < first % 4) & (from <= time));
+            & (packing::is_entry_but_time(first, second, roots) & (0 < first % 4) & (from <= time));
         from = time;
         i += 1;
     }

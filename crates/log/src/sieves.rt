@@ -106,7 +106,7 @@ pub(crate) fn memo_of(log: &[u64], k: usize, s: Sieve) -> Memo
         if fill < from {
             break;
         }
-        let e = tables::entry_of(fill, log[at + 1]);
+        let e = packing::entry_of(fill, log[at + 1]);
         let premium = e.premium;
         let contracts = e.contracts;
         let counted = sieved(s, fill, contracts);

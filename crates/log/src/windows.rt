@@ -7,7 +7,7 @@ ghost use Rattle.machine.specs.Entries.{isEntry, areOrdered, recent};
 ghost use Prim.Native.Nat.{_+_, _*_, _≤_, _<_};
 ghost use lib.ListN.{length, take, drop};
 ghost use lib.Seq.{sets};
-ghost use Rattle.tables.specs.EntryPlace.{entryNumbers};
+ghost use Rattle.packing.specs.EntryPlace.{entryNumbers};
 ghost use Rattle.log.specs.Log.{Held, entriesOf, joined, Last, Kept, Left};
 ghost use Rattle.log.specs.Newest.{newest};
 use crate::blank;
@@ -72,7 +72,7 @@ fn put_entry(log: &mut [u64], i: usize, e: Entry)
     requires { ⌜ (length (now log) ≡ 1024) × (i < 512) × (isEntry 64 e ≡ true) ⌝ }
     ensures { λ _. ⌜ now (log .exit) ≡ sets (now (log .entry)) (i * 2) (entryNumbers e) ⌝ }
 {
-    let p = tables::entry_place(e);
+    let p = packing::entry_place(e);
     let at = i * 2;
     log[at] = p.first;
     log[at + 1] = p.second;

@@ -9,8 +9,8 @@ use borrow.Author.Tests.{not-true, not-false}
 use native.Mathlib.Omega.{arith}
 use Rattle.rules.specs.declared.Scope.{Scope}
 use Rattle.rules.specs.declared.Rule.{Rule}
-use Rattle.tables.specs.RulePlace.{rootNumber, ruleNumbers}
-use Rattle.tables.proofs.RulePlace.{rule-wider}
+use Rattle.packing.specs.RulePlace.{rootNumber, ruleNumbers}
+use Rattle.packing.proofs.RulePlace.{rule-wider}
 use Rattle.rules.specs.Valid.{isRule}
 use Rattle.machine.specs.State.{Profile}
 use Rattle.admission.specs.Admission.{mayJoin}

@@ -17,7 +17,7 @@ use Rattle.laws.specs.Folds.{every}
 use Rattle.laws.specs.Every.{every-imp, every-join}
 use Rattle.rules.specs.Valid.{isScope, isRule}
 use Rattle.machine.specs.State.{Profile}
-use Rattle.tables.proofs.RulePlace.{rule-wider}
+use Rattle.packing.proofs.RulePlace.{rule-wider}
 use Rattle.admission.specs.Admission.{crowded, overfull, seenAfter, isNext, mayJoin, areInOrder}
 use Rattle.admission.proofs.Levels.{or-l, or-r, order-more}
 use Rattle.profile.specs.Profile.{rootsWith, numbered, joined, tooMany, startOf}

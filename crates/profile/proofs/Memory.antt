@@ -11,9 +11,9 @@ use Rattle.rules.specs.declared.Scope.{Scope}
 use Rattle.rules.specs.declared.Scope.the-variants.{EveryFill, WholeRoot, OneUnit}
 use Rattle.rules.specs.declared.Rule.{Rule}
 use Rattle.tables.specs.Tables.{flat, table}
-use Rattle.tables.specs.RulePlace.{rootNumber, ruleNumbers, rulesTable}
+use Rattle.packing.specs.RulePlace.{rootNumber, ruleNumbers, rulesTable}
 use Rattle.tables.proofs.Tables.{Codec, length-table, put-next}
-use Rattle.tables.proofs.RulePlace.{rule-codec}
+use Rattle.packing.proofs.RulePlace.{rule-codec}
 use Rattle.profile.specs.Profile.{rootsWith, rootsTable}
 use Rattle.profile.proofs.Roots.{with-kept, with-grown}
 

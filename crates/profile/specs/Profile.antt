@@ -15,7 +15,7 @@ use Rattle.line.specs.Line.{firmIn, lineOf}
 use Rattle.line.specs.declared.Line.{Line}
 use Rattle.line.specs.declared.Line.the-variants.{Is, Refused as Faulty}
 use Rattle.tables.specs.Tables.{table}
-use Rattle.tables.specs.RulePlace.{rulesTable}
+use Rattle.packing.specs.RulePlace.{rulesTable}
 use Rattle.profile.specs.declared.Reading.{Reading}
 use Rattle.profile.specs.declared.Scan.{Scan}
 use Rattle.profile.specs.declared.Reading.the-variants.{Accepted, Refused}

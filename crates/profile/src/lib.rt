@@ -5,7 +5,7 @@ ghost use Prim.Native.Nat.{_+_, _*_, _≤_, _<_};
 ghost use lib.ListN.{length};
 ghost use lib.Seq.{sets};
 ghost use Rattle.text.specs.Text.{lines, indexOf};
-ghost use Rattle.tables.specs.RulePlace.{rootNumber, ruleNumbers};
+ghost use Rattle.packing.specs.RulePlace.{rootNumber, ruleNumbers};
 ghost use Rattle.rules.specs.Valid.{isRule};
 ghost use Rattle.machine.specs.State.{Profile};
 ghost use Rattle.admission.specs.Counting.{noRules};
@@ -72,7 +72,7 @@ fn put_rule(rules: &mut [u64], i: usize, rule: Rule)
     requires { ⌜ (length (now rules) ≡ 512) × (i < 256) × (isRule 64 rule ≡ true) ⌝ }
     ensures { λ _. ⌜ now (rules .exit) ≡ sets (now (rules .entry)) (i * 2) (ruleNumbers rule) ⌝ }
 {
-    let p = tables::rule_place(rule);
+    let p = packing::rule_place(rule);
     let at = i * 2;
     rules[at] = p.first;
     rules[at + 1] = p.second;

@@ -17,8 +17,8 @@ use Rattle.machine.specs.Judge.{logPlaces}
 use Rattle.machine.proofs.Totals.{isPaid, nothing-total}
 use Rattle.profile.specs.Profile.{outcomeOf}
 use Rattle.profile.proofs.Laws.{Answer, none, size, fault, answered}
-use Rattle.made.specs.Made.{isMade}
-use Rattle.made.proofs.Given.{given-made}
+use Rattle.given.specs.Given.{isMade}
+use Rattle.given.proofs.Given.{given-made}
 use Rattle.state.specs.Sound.{SoundState}
 use Rattle.state.proofs.Exactly.{made-given}
 

@@ -8,11 +8,11 @@ use native.Mathlib.Nat.{suc-ne-zero}
 use borrow.Author.Tests.{eq-eqb, ne-eqb, le-ltb, lt-ltb}
 use Rattle.machine.specs.State.{Profile, State, armed}
 use Rattle.machine.specs.Refusals.{firstOf}
-use Rattle.made.specs.Made.{isMade}
+use Rattle.given.specs.Given.{isMade}
 use Rattle.profile.specs.Profile.{Outcome, outcomeOf, readingOf}
 use Rattle.profile.specs.declared.Reading.the-variants.{Accepted}
-use Rattle.output.specs.Output.{textOf}
-use Rattle.output.proofs.ReadBack.{text-bound, read-back}
+use Rattle.writing.specs.Writing.{textOf}
+use Rattle.writing.proofs.ReadBack.{text-bound, read-back}
 use Rattle.state.specs.State.{size, decode, stored}
 use Rattle.state.proofs.Exactly.{given-is-made, sound-decode, sound-state-fits}
 use Rattle.state.proofs.Stored.{decode-stored}

@@ -6,7 +6,7 @@ use lib.ListN.{length, drop}
 use Rattle.machine.specs.State.{armed}
 use Rattle.profile.specs.Profile.{outcomeOf}
 use Rattle.profile.specs.declared.Reading.the-variants.{Accepted}
-use Rattle.output.specs.Output.{textOf, textMost}
+use Rattle.writing.specs.Writing.{textOf, textMost}
 use Rattle.state.specs.State.{size, decode, stored}
 use Rattle.calls.specs.Calls.{markOf, armAnswer, armMemory}
 use Rattle.views.specs.declared.Listing.the-variants.{Written, Short}

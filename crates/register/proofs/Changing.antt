@@ -16,7 +16,7 @@ use Rattle.machine.specs.declared.Sent.{Sent}
 use Rattle.machine.specs.Register.{hasIdentity, noSent, usedUp, isSent, areDifferent}
 use Rattle.tables.specs.Tables.{zeros, flat, table, isPlace}
 use Rattle.tables.proofs.AllZero.{zeros-add}
-use Rattle.tables.proofs.Parts.{two}
+use Rattle.packing.proofs.Parts.{two}
 use Rattle.tables.proofs.Tables.{length-flat, length-table, place-table, read-table, put-at, put-next}
 use Rattle.register.specs.SentPlace.{sentValues, openValues, sentNumbers, sentFrom}
 use Rattle.register.specs.Register.{registerNumbers, registerIn, RegisterHeld, sentIn}

@@ -17,9 +17,9 @@ use Rattle.machine.specs.declared.Sent.{Sent}
 use Rattle.machine.specs.Register.{isSent}
 use Rattle.machine.proofs.Register.{sent-in, in-sent}
 use Rattle.tables.specs.Tables.{isPlace}
-use Rattle.tables.specs.EntryPlace.{amountWidths}
+use Rattle.packing.specs.EntryPlace.{amountWidths}
 use Rattle.tables.proofs.Tables.{Codec}
-use Rattle.tables.proofs.Parts.{told, shifted, by-shift, spare-test}
+use Rattle.packing.proofs.Parts.{told, shifted, by-shift, spare-test}
 use Rattle.register.specs.SentPlace.{sentWidths, sentValues, openValues, sentNumbers, sentBy, sentFrom, isSentPlace}
 
 -- more roots hold it too

@@ -4,7 +4,7 @@ ghost use mathlib.Core.Bool.{true};
 ghost use mathlib.Core.List.{[], _∷_};
 ghost use Rattle.bits.specs.Fields.{packed};
 ghost use Rattle.machine.specs.Register.{isSent};
-ghost use Rattle.tables.specs.EntryPlace.{amountWidths};
+ghost use Rattle.packing.specs.EntryPlace.{amountWidths};
 ghost use Rattle.register.specs.SentPlace.{sentWidths, sentValues, openValues, sentFrom, isSentPlace};
 use machine::Sent;
 use measures::Contracts;

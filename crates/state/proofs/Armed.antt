@@ -9,11 +9,11 @@ use Rattle.rules.specs.declared.Rule.{Rule}
 use Rattle.rules.proofs.Amounts.{number-in}
 use Rattle.machine.specs.State.{Profile, cellsOf, noLocks, fresh, armed}
 use Rattle.tables.specs.Tables.{zeros, flat, table as filled}
-use Rattle.tables.specs.RulePlace.{rulesTable}
+use Rattle.packing.specs.RulePlace.{rulesTable}
 use Rattle.tables.proofs.AllZero.{zeros-add}
-use Rattle.tables.proofs.Shapes.{rules-written, log-written}
+use Rattle.packing.proofs.Shapes.{rules-written, log-written}
 use Rattle.profile.specs.Profile.{rootsTable}
-use Rattle.made.specs.Parts.{totalsSize}
+use Rattle.given.specs.Parts.{totalsSize}
 use Rattle.state.specs.State.{size, number, locksShape, marksOf, profileShape, linesOf, totalsShape, partShape, numbersShape, totalsIn, numbersOf, encode, stored, restSize}
 use Rattle.state.proofs.Accounts.{map-length}
 use Rattle.machine.proofs.Cells.{cells-bound}

@@ -9,9 +9,9 @@ use Rattle.shapes.specs.Shape.{Exact, one, both, named, table}
 use Rattle.shapes.proofs.Exact.{one-exact, both-exact, named-exact, rows-exact, table-exact, flag-exact, word-exact}
 use Rattle.shapes.proofs.Valid.{table-few}
 use Rattle.rules.specs.declared.Rule.{Rule}
-use Rattle.tables.proofs.Shapes.{rules-exact, log-exact}
+use Rattle.packing.proofs.Shapes.{rules-exact, log-exact}
 use Rattle.machine.specs.State.{Profile}
-use Rattle.made.specs.Parts.{totalsSize}
+use Rattle.given.specs.Parts.{totalsSize}
 use Rattle.state.specs.State.{number, locksOf, marksOf, locksShape, profileOf, linesOf, profileShape, totalsShape, partShape, PartNumbers, numbersShape}
 use Rattle.register.proofs.Shapes.{register-exact}
 

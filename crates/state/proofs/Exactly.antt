@@ -14,11 +14,11 @@ use Rattle.rules.specs.Valid.{isRule, hasRate}
 use Rattle.machine.specs.State.{Profile, State, rulesIn, rootsIn}
 use Rattle.machine.proofs.Lists.{every-imp}
 use Rattle.machine.proofs.Totals.{isPaid, total-in}
-use Rattle.made.specs.Names.{isNameNumber}
+use Rattle.given.specs.Names.{isNameNumber}
 use Rattle.admission.specs.Admission.{areInOrder}
-use Rattle.made.specs.Made.{areRoots, isMade}
-use Rattle.made.proofs.Given.{given-made}
-use Rattle.output.proofs.ReadBack.{given-by-text}
+use Rattle.given.specs.Given.{areRoots, isMade}
+use Rattle.given.proofs.Given.{given-made}
+use Rattle.writing.proofs.ReadBack.{given-by-text}
 use Rattle.state.specs.State.{size, numbersShape, encode, stored, decode}
 use Rattle.state.specs.Sound.{Given, SoundState, Sound, isSoundState, isSound}
 use Rattle.state.specs.Laid.{Fits, Laid}

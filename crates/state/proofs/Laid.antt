@@ -13,18 +13,18 @@ use Rattle.rules.specs.Valid.{isRule}
 use Rattle.rules.specs.declared.Amount.{Amount}
 use Rattle.rules.specs.declared.Rule.{Rule}
 use Rattle.rules.proofs.Amounts.{in-number}
-use Rattle.tables.specs.RulePlace.{ruleAt, rulesTable, rulesShape, ruleShape}
+use Rattle.packing.specs.RulePlace.{ruleAt, rulesTable, rulesShape, ruleShape}
 use Rattle.laws.specs.Every.{every-at}
 use Rattle.tables.proofs.Tables.{read-table}
-use Rattle.tables.proofs.RulePlace.{rule-codec, rule-in-range, rule-wider}
-use Rattle.tables.proofs.EntryPlace.{entry-wider}
+use Rattle.packing.proofs.RulePlace.{rule-codec, rule-in-range, rule-wider}
+use Rattle.packing.proofs.EntryPlace.{entry-wider}
 use Rattle.machine.specs.State.{State, cellsOf, rulesIn, rootsIn, ruleOf, Fitting}
 use Rattle.machine.specs.Entries.{isEntry}
 use Rattle.machine.specs.Remaining.{noAccount, ruleAt as ruleIn}
 use Rattle.machine.proofs.Lists.{every-imp}
 use Rattle.log.specs.Log.{HeldIn, entriesIn, logNumbers}
 use Rattle.log.proofs.Logs.{numbers-held, numbers-entries}
-use Rattle.made.specs.Parts.{totalsSize}
+use Rattle.given.specs.Parts.{totalsSize}
 use Rattle.state.specs.State.{number, locksNumbers, stored, decode, logAt, registerAt, totalsAt}
 use Rattle.state.specs.Laid.{Fits, Laid, accountIn, withClock, withTotal}
 use Rattle.state.specs.Tests.{rulesPart, locksPart, logPart, registerPart}
@@ -39,8 +39,8 @@ use Rattle.register.specs.Register.{registerNumbers, registerIn, RegisterHeld}
 use Rattle.register.proofs.Registers.{numbers-held as numbers-held-so, numbers-register}
 use Rattle.register.proofs.SentPlace.{sent-wider}
 use Rattle.machine.specs.Register.{isSent}
-use Rattle.made.specs.Parts.{rulesOf}
-use Rattle.tables.proofs.Shapes.{rules-read, rules-written, rules-exact}
+use Rattle.given.specs.Parts.{rulesOf}
+use Rattle.packing.proofs.Shapes.{rules-read, rules-written, rules-exact}
 use Rattle.shapes.proofs.Valid.{table-ok}
 use Rattle.laws.specs.Folds.{every}
 

@@ -18,12 +18,12 @@ use Rattle.rules.proofs.Amounts.{number-in, of-in}
 use Rattle.machine.specs.State.{cellsOf}
 use Rattle.machine.proofs.Totals.{isPaid}
 use Rattle.tables.specs.Tables.{allZero, places, placesPass}
-use Rattle.tables.specs.RulePlace.{ruleAt, isRulePlace, rulesShape}
-use Rattle.tables.specs.EntryPlace.{entryAt, isEntryPlace, logShape}
-use Rattle.tables.proofs.Shapes.{rules-read, rules-tested, log-read, log-tested}
+use Rattle.packing.specs.RulePlace.{ruleAt, isRulePlace, rulesShape}
+use Rattle.packing.specs.EntryPlace.{entryAt, isEntryPlace, logShape}
+use Rattle.packing.proofs.Shapes.{rules-read, rules-tested, log-read, log-tested}
 use Rattle.admission.specs.Admission.{areInOrder}
-use Rattle.made.specs.Made.{areRoots}
-use Rattle.made.specs.Parts.{namesHold, placesHold, rootsHold, rulesHold, totalsHold, totalsSize}
+use Rattle.given.specs.Given.{areRoots}
+use Rattle.given.specs.Parts.{namesHold, placesHold, rootsHold, rulesHold, totalsHold, totalsSize}
 use Rattle.log.specs.Log.{logHolds}
 use Rattle.log.proofs.Logs.{areLogged, holds-parts}
 use Rattle.state.specs.State.{number, locksOf, locksShape, totalsShape, accountsOf}

@@ -9,8 +9,8 @@ use lib.Dec.{eqb}
 use Rattle.shapes.specs.Shape.{one, both, named, table}
 use Rattle.shapes.proofs.Exact.{table-many}
 use Rattle.rules.specs.declared.Rule.{Rule}
-use Rattle.tables.specs.RulePlace.{rulesShape}
-use Rattle.tables.specs.EntryPlace.{logShape}
+use Rattle.packing.specs.RulePlace.{rulesShape}
+use Rattle.packing.specs.EntryPlace.{logShape}
 use Rattle.machine.specs.State.{cellsOf}
 use Rattle.state.specs.State.{number, locksShape, profileOf, profileShape, totalsShape, partShape, numbersShape, accountsOf, stateOf, decode, locksAt, logAt, totalsAt, registerAt}
 use Rattle.register.specs.Register.{registerShape}

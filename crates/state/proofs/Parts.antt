@@ -12,14 +12,14 @@ use Rattle.shapes.specs.Shape.{table}
 use Rattle.shapes.proofs.Exact.{table-exact, table-many, read-part, first-decide}
 use Rattle.rules.specs.declared.Rule.{Rule}
 use Rattle.tables.specs.Tables.{places}
-use Rattle.tables.specs.RulePlace.{ruleAt, rulesShape}
-use Rattle.tables.specs.EntryPlace.{logShape}
-use Rattle.tables.proofs.Shapes.{rules-exact, rules-read, log-exact}
+use Rattle.packing.specs.RulePlace.{ruleAt, rulesShape}
+use Rattle.packing.specs.EntryPlace.{logShape}
+use Rattle.packing.proofs.Shapes.{rules-exact, rules-read, log-exact}
 use Rattle.machine.specs.State.{cellsOf, Locks}
 use Rattle.machine.proofs.Totals.{isPaid}
 use Rattle.admission.specs.Admission.{areInOrder}
-use Rattle.made.specs.Made.{areRoots}
-use Rattle.made.specs.Parts.{rootsHold, rulesOf, rulesHold, totalsHold, totalsSize}
+use Rattle.given.specs.Given.{areRoots}
+use Rattle.given.specs.Parts.{rootsHold, rulesOf, rulesHold, totalsHold, totalsSize}
 use Rattle.log.specs.Log.{logHolds}
 use Rattle.log.proofs.Logs.{areLogged}
 use Rattle.state.specs.State.{size, number, locksShape, totalsShape, accountsOf, locksAt, logAt, totalsAt, registerAt}

@@ -9,12 +9,12 @@ use Rattle.shapes.specs.Shape.{Shape, one, both, named, rows, table}
 use Rattle.shapes.proofs.Exact.{one-exact, table-exact}
 use Rattle.shapes.proofs.Parts.{Part, PartOf, first-part, second-part, part-part, narrow, renamed, row-part}
 use Rattle.rules.specs.declared.Rule.{Rule}
-use Rattle.tables.specs.RulePlace.{rulesShape}
-use Rattle.tables.specs.EntryPlace.{logShape}
-use Rattle.tables.proofs.Shapes.{rules-written, log-written}
+use Rattle.packing.specs.RulePlace.{rulesShape}
+use Rattle.packing.specs.EntryPlace.{logShape}
+use Rattle.packing.proofs.Shapes.{rules-written, log-written}
 use Rattle.machine.specs.declared.Entry.{Entry}
 use Rattle.machine.specs.State.{Profile, Locks, cellsOf}
-use Rattle.made.specs.Parts.{totalsSize}
+use Rattle.given.specs.Parts.{totalsSize}
 use Rattle.state.specs.State.{number, locksShape, profileOf, linesOf, profileShape, totalsShape, PartNumbers, partShape, Numbers, numbersShape, locksAt, logAt, totalsAt, registerAt}
 use Rattle.state.proofs.Exact.{number-exact, profile-exact, totals-exact, part-exact, locks-exact}
 use Rattle.register.specs.Register.{registerShape}

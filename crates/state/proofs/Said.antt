@@ -14,15 +14,15 @@ use Rattle.shapes.specs.Shape.{coded, table}
 use Rattle.shapes.proofs.Exact.{table-exact}
 use Rattle.shapes.proofs.Valid.{table-few, table-all}
 use Rattle.rules.specs.Valid.{isRule, hasRate}
-use Rattle.tables.specs.RulePlace.{ruleShape, rulesShape}
-use Rattle.tables.specs.EntryPlace.{logShape}
-use Rattle.tables.proofs.Shapes.{rules-exact}
+use Rattle.packing.specs.RulePlace.{ruleShape, rulesShape}
+use Rattle.packing.specs.EntryPlace.{logShape}
+use Rattle.packing.proofs.Shapes.{rules-exact}
 use Rattle.machine.specs.State.{State, cellsOf, rulesIn, rootsIn}
 use Rattle.machine.specs.Entries.{areOrdered, isFlagged}
 use Rattle.machine.proofs.Totals.{isPaid}
-use Rattle.made.specs.Names.{isNameNumber}
+use Rattle.given.specs.Names.{isNameNumber}
 use Rattle.admission.specs.Admission.{areInOrder}
-use Rattle.made.specs.Made.{areRoots, isMade}
+use Rattle.given.specs.Given.{areRoots, isMade}
 use Rattle.state.specs.State.{size, number, locksShape, totalsShape, accountsOf, decode, locksAt, logAt, totalsAt, registerAt, numbersShape}
 use Rattle.state.specs.Sound.{isSoundState, isSound}
 use Rattle.state.proofs.Exact.{number-exact}

@@ -12,14 +12,14 @@ use Rattle.laws.specs.Folds.{every}
 use Rattle.measures.specs.Ranges.{isIn, times}
 use Rattle.shapes.specs.Shape.{table}
 use Rattle.rules.specs.Valid.{hasRate}
-use Rattle.tables.specs.RulePlace.{rulesShape}
-use Rattle.tables.specs.EntryPlace.{logShape}
+use Rattle.packing.specs.RulePlace.{rulesShape}
+use Rattle.packing.specs.EntryPlace.{logShape}
 use Rattle.machine.specs.State.{cellsOf}
 use Rattle.machine.proofs.Totals.{isPaid}
-use Rattle.made.specs.Names.{isNameNumber}
+use Rattle.given.specs.Names.{isNameNumber}
 use Rattle.admission.specs.Admission.{areInOrder}
-use Rattle.made.specs.Made.{areRoots}
-use Rattle.made.specs.Parts.{rulesHold, totalsHold}
+use Rattle.given.specs.Given.{areRoots}
+use Rattle.given.specs.Parts.{rulesHold, totalsHold}
 use Rattle.log.specs.Log.{logHolds}
 use Rattle.log.proofs.Logs.{areLogged}
 use Rattle.state.specs.State.{size, number, locksShape, totalsShape, accountsOf, locksAt, logAt, totalsAt, registerAt}

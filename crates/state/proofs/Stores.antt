@@ -13,9 +13,9 @@ use Rattle.shapes.proofs.Parts.{Part, part-of, put-part, put-one, seen, narrow}
 use Rattle.rules.specs.Amounts.{numberOf}
 use Rattle.rules.specs.declared.Account.{Account}
 use Rattle.tables.specs.Tables.{zeros, flat}
-use Rattle.tables.specs.RulePlace.{rulesTable}
-use Rattle.tables.specs.EntryPlace.{logShape}
-use Rattle.tables.proofs.Shapes.{rules-exact, log-exact, rules-written, log-written}
+use Rattle.packing.specs.RulePlace.{rulesTable}
+use Rattle.packing.specs.EntryPlace.{logShape}
+use Rattle.packing.proofs.Shapes.{rules-exact, log-exact, rules-written, log-written}
 use Rattle.machine.specs.declared.Entry.{Entry}
 use Rattle.machine.specs.State.{State, Locks, rootsIn, ruleOf, Fitting}
 use Rattle.machine.specs.Remaining.{noAccount}

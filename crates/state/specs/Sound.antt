@@ -12,7 +12,7 @@ use Rattle.machine.specs.State.{Profile, State, rulesIn, rootsIn}
 use Rattle.machine.specs.Entries.{areOrdered, isFlagged}
 use Rattle.machine.specs.Sound.{SoundIn}
 use Rattle.profile.specs.Profile.{outcomeOf}
-use Rattle.made.specs.Made.{isMade}
+use Rattle.given.specs.Given.{isMade}
 use Rattle.state.specs.State.{size, numbersShape, encode, decode}
 use Rattle.machine.specs.Register.{areDifferent}
 use Rattle.machine.specs.Refusals.{used}

@@ -8,13 +8,13 @@ use Rattle.shapes.specs.Shape.{Shape, one, both, named, rows, table, flag, word
 use Rattle.rules.specs.Amounts.{numberOf, amountIn}
 use Rattle.rules.specs.declared.Rule.{Rule}
 use Rattle.rules.specs.declared.Account.{Account}
-use Rattle.tables.specs.RulePlace.{rulesShape}
-use Rattle.tables.specs.EntryPlace.{flagNumber, logShape}
+use Rattle.packing.specs.RulePlace.{rulesShape}
+use Rattle.packing.specs.EntryPlace.{flagNumber, logShape}
 use Rattle.register.specs.Register.{registerShape}
 use Rattle.machine.specs.declared.Entry.{Entry}
 use Rattle.machine.specs.declared.Sent.{Sent}
 use Rattle.machine.specs.State.{Profile, Locks, State, cellsOf}
-use Rattle.made.specs.Parts.{totalsSize}
+use Rattle.given.specs.Parts.{totalsSize}
 
 -- how many numbers a profile, a firm's part and the whole state take
 abbrev pub profileSize : ℕ

@@ -7,8 +7,8 @@ use lib.Dec.{eqb, ltb, leb}
 use Rattle.measures.specs.Ranges.{_to_, isIn, times}
 use Rattle.rules.specs.Valid.{hasRate}
 use Rattle.machine.specs.State.{cellsOf}
-use Rattle.made.specs.Names.{isNameNumber}
-use Rattle.made.specs.Parts.{rootsHold, rulesOf, rulesHold, totalsHold, totalsSize}
+use Rattle.given.specs.Names.{isNameNumber}
+use Rattle.given.specs.Parts.{rootsHold, rulesOf, rulesHold, totalsHold, totalsSize}
 use Rattle.log.specs.Log.{logHolds}
 use Rattle.state.specs.State.{locksAt, logAt, totalsAt, registerAt, decode}
 use Rattle.register.specs.Register.{registerHolds}

@@ -33,11 +33,11 @@ pub const ROOTS: usize = FIRM + 1;
 // The first of the roots' names, past their count.
 pub const NAMES: usize = ROOTS + 1;
 
-pub const RULES: usize = ROOTS + made::ROOTS_SIZE;
+pub const RULES: usize = ROOTS + given::ROOTS_SIZE;
 
-pub const TOTALS: usize = RULES + made::RULES_SIZE;
+pub const TOTALS: usize = RULES + given::RULES_SIZE;
 
-pub const LOCKS: usize = TOTALS + made::TOTALS_SIZE;
+pub const LOCKS: usize = TOTALS + given::TOTALS_SIZE;
 
 pub const REGISTER: usize = LOCKS + 4;
 
@@ -78,8 +78,8 @@ fn is_front(m: &[u64]) -> bool
 {
     (m[MARK] == 1)
         & measures::is_in(m[CLOCK], 0, measures::Time::MOST)
-        & made::is_name_number(m[FIRM], 1, 4)
-        & made::are_roots(&m[ROOTS..RULES])
+        & given::is_name_number(m[FIRM], 1, 4)
+        & given::are_roots(&m[ROOTS..RULES])
 }
 
 // Whether the locks are sound with so many roots: marks are 0 or 1, and no bit stands for a root beyond the last.
@@ -100,9 +100,9 @@ fn are_parts(m: &[u64]) -> bool
 {
     let roots = m[ROOTS];
     let entries = m[LOG];
-    made::are_totals(&m[RULES..TOTALS], &m[TOTALS..LOCKS])
+    given::are_totals(&m[RULES..TOTALS], &m[TOTALS..LOCKS])
         & are_locks(&m[LOCKS..REGISTER], roots)
-        & (made::has_rate(&m[RULES..TOTALS]) | (entries == 0))
+        & (given::has_rate(&m[RULES..TOTALS]) | (entries == 0))
         & log::is_log(&m[LOG..SIZE], roots, m[CLOCK])
         & register::is_register(&m[REGISTER..LOG], roots)
 }
@@ -112,7 +112,7 @@ pub fn longest_window(m: &[u64]) -> u64
     requires { ⌜ Laid (now m) ⌝ }
     ensures { λ r. ⌜ r ≡ longest (rulesIn (decode (now (m .entry)))) ⌝ }
 {
-    made::longest_window(&m[RULES..TOTALS])
+    given::longest_window(&m[RULES..TOTALS])
 }
 
 // The use of the log at a time: the entries inside the longest window and the places kept for orders sent away, none without a rate rule.
@@ -149,7 +149,7 @@ pub fn is_sound(m: &[u64]) -> bool
     if !is_front(m) {
         return false;
     }
-    if !made::are_rules(&m[RULES..TOTALS], m[ROOTS]) {
+    if !given::are_rules(&m[RULES..TOTALS], m[ROOTS]) {
         return false;
     }
     if !are_parts(m) {
@@ -216,7 +216,7 @@ pub fn rule_in(m: &[u64], i: usize) -> Rule
     let at = i * 2 + 1;
     let first = table[at];
     let second = table[at + 1];
-    tables::rule_of(first, second)
+    packing::rule_of(first, second)
 }
 
 // Where the account of a rule for a unit stands: past those of the rules before it.

@@ -14,9 +14,9 @@ use Rattle.text.proofs.Written.{sets-front}
 use Rattle.rules.specs.declared.Rule.{Rule}
 use Rattle.machine.specs.State.{rootsIn, rulesIn}
 use Rattle.machine.specs.Remaining.{ruleAt}
-use Rattle.made.specs.Names.{nameBytes}
-use Rattle.made.proofs.Names.{name-read}
-use Rattle.output.proofs.Roots.{root-name, root-index}
+use Rattle.given.specs.Names.{nameBytes}
+use Rattle.given.proofs.Names.{name-read}
+use Rattle.writing.proofs.Roots.{root-name, root-index}
 use Rattle.state.specs.State.{decode}
 use Rattle.state.proofs.Laid.{laid-roots, laid-names}
 use Rattle.calls.specs.Calls.{memoryRefusal}

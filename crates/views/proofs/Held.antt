@@ -6,10 +6,10 @@ use mathlib.Core.List.{List}
 use lib.ListN.{length, getD}
 use Rattle.text.specs.Text.{isNameByte}
 use Rattle.machine.specs.State.{rootsIn}
-use Rattle.made.specs.Names.{nameBytes, isNameNumber}
-use Rattle.made.specs.Made.{areRoots}
+use Rattle.given.specs.Names.{nameBytes, isNameNumber}
+use Rattle.given.specs.Given.{areRoots}
 use Rattle.text.proofs.Bytes.{made-most}
-use Rattle.output.proofs.Roots.{root-name}
+use Rattle.writing.proofs.Roots.{root-name}
 use Rattle.state.specs.State.{decode}
 use Rattle.state.specs.Laid.{Laid}
 use Rattle.state.proofs.Exactly.{made-parts, given-is-made, sound-decode, sound-is-laid}

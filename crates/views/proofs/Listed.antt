@@ -10,13 +10,13 @@ use borrow.Author.Tests.{ne-eqb, le-ltb, lt-ltb}
 use Rattle.laws.specs.Tests.{tests}
 use Rattle.shapes.specs.Shape.{one, table}
 use Rattle.shapes.proofs.Exact.{table-exact, read-part}
-use Rattle.tables.specs.RulePlace.{rulesShape}
+use Rattle.packing.specs.RulePlace.{rulesShape}
 use Rattle.machine.specs.State.{Profile, State, rootsIn}
-use Rattle.made.specs.Made.{isMade}
-use Rattle.made.specs.Parts.{rulesOf}
-use Rattle.output.specs.Output.{textOf}
-use Rattle.output.specs.Parts.{namesOf, Lent, profileIn}
-use Rattle.output.proofs.Lent.{made-lent, names-lent}
+use Rattle.given.specs.Given.{isMade}
+use Rattle.given.specs.Parts.{rulesOf}
+use Rattle.writing.specs.Writing.{textOf}
+use Rattle.writing.specs.Parts.{namesOf, Lent, profileIn}
+use Rattle.writing.proofs.Lent.{made-lent, names-lent}
 use Rattle.state.specs.State.{number, decode}
 use Rattle.state.specs.Laid.{Laid}
 use Rattle.state.specs.Tests.{rootsPart, rulesPart}

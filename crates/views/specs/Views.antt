@@ -12,11 +12,11 @@ use Rattle.rules.specs.declared.Scope.the-variants.{EveryFill, WholeRoot, OneUn
 use Rattle.rules.specs.declared.Kind.{Kind}
 use Rattle.rules.specs.declared.Limit.{Limit}
 use Rattle.rules.specs.declared.Rule.{Rule}
-use Rattle.tables.specs.RulePlace.{limitNumber, measureNumber, windowNumber, kindNumber}
+use Rattle.packing.specs.RulePlace.{limitNumber, measureNumber, windowNumber, kindNumber}
 use Rattle.machine.specs.State.{Profile}
 use Rattle.machine.specs.Remaining.{noAccount}
-use Rattle.made.specs.Names.{nameBytes}
-use Rattle.output.specs.Output.{textOf}
+use Rattle.given.specs.Names.{nameBytes}
+use Rattle.writing.specs.Writing.{textOf}
 use Rattle.state.specs.State.{decode}
 use Rattle.calls.specs.Calls.{memoryRefusal}
 use Rattle.calls.specs.declared.Wording.{Wording}

@@ -2,7 +2,7 @@
 ghost use mathlib.Core.Path.{_≡_};
 ghost use Prim.Native.Nat.{_+_, _≤_};
 ghost use Rattle.text.specs.declared.Number.the-variants.{Is};
-ghost use Rattle.tables.specs.RulePlace.{limitNumber, measureNumber, windowNumber};
+ghost use Rattle.packing.specs.RulePlace.{limitNumber, measureNumber, windowNumber};
 ghost use Rattle.state.specs.State.{decode};
 ghost use Rattle.calls.specs.Calls.{memoryRefusal};
 ghost use Rattle.views.specs.declared.Told.the-variants.{Rule as Terms};
@@ -170,10 +170,10 @@ pub fn profile(m: &[u64], room: &mut [u8]) -> Listing
     let firm = m[state::FIRM];
     let roots = &m[state::ROOTS..state::RULES];
     let rules = &m[state::RULES..state::TOTALS];
-    let size = output::text_size(firm, roots, rules);
+    let size = writing::text_size(firm, roots, rules);
     if room.len() < size {
         return Listing::Short(size as u64);
     }
-    let written = output::write_text(firm, roots, rules, room);
+    let written = writing::write_text(firm, roots, rules, room);
     Listing::Written(written as u64)
 }

@@ -1,7 +1,7 @@
 -- `counting::left_of` meets its contract: what the account has counted is taken from its limit. Assumes nothing.
 use mathlib.Core.Path.{ap, _∙_}
 use Rattle.rules.specs.Valid.{isRule}
-use Rattle.tables.proofs.RulePlace.{rule-in-range}
+use Rattle.packing.proofs.RulePlace.{rule-in-range}
 use Rattle.state.proofs.Laid.{laid-valid}
 use Rattle.counting.proofs.Counted.{account-measured, account-left}
 use borrow.Author.Needs.{needs}

@@ -10,8 +10,8 @@ use borrow.Author.Needs.{needs}
 use native.Mathlib.Omega.{arith}
 use Rattle.measures.specs.Ranges.{isIn, times}
 use Rattle.tables.specs.Tables.{allZero}
-use Rattle.tables.specs.EntryPlace.{entryAt}
-use Rattle.tables.proofs.EntryPlace.{time-here, is-entry-here}
+use Rattle.packing.specs.EntryPlace.{entryAt}
+use Rattle.packing.proofs.EntryPlace.{time-here, is-entry-here}
 use Rattle.log.specs.Log.{isLogPlace}
 use Rattle.log.specs.Sieve.{hasFlag}
 use Rattle.log.proofs.Flags.{flag-here}

@@ -3,7 +3,7 @@ use Prim.Native.Nat.{_*_}
 use native.Mathlib.Numerals.{add-one}
 use native.Mathlib.Omega.{arith}
 use lib.ListN.{length-set}
-use Rattle.tables.proofs.RulePlace.{rule-placed}
+use Rattle.packing.proofs.RulePlace.{rule-placed}
 use borrow.Author.Needs.{needs}
 use Rattle.profile.proofs.put_rule.Statement.{statement}
 use Rattle.profile.proofs.put_rule.Tie as tie

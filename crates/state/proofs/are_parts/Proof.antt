@@ -1,7 +1,7 @@
 -- `state::are_parts` meets its contract: the parts as they are lent are those of the memory. Assumes nothing.
 use mathlib.Core.Path.{_≡_}
 use native.Mathlib.Omega.{arith}
-use Rattle.made.specs.Parts.{totalsSize}
+use Rattle.given.specs.Parts.{totalsSize}
 use Rattle.state.specs.State.{totalsAt, registerAt}
 use Rattle.state.specs.Tests.{partsHold}
 use Rattle.state.proofs.Parts.{part-long}

@@ -2,7 +2,7 @@
 use Prim.Native.Nat.{_+_, _*_}
 use native.Mathlib.Omega.{arith}
 use mathlib.Core.Path.{_∙_}
-use Rattle.tables.proofs.RulePlace.{rule-here}
+use Rattle.packing.proofs.RulePlace.{rule-here}
 use Rattle.state.specs.Tests.{rulesPart}
 use Rattle.state.proofs.Laid.{laid-rule}
 use borrow.Author.Needs.{needs}
@@ -10,7 +10,7 @@ use Rattle.state.proofs.rule_in.Statement.{statement}
 use Rattle.state.proofs.rule_in.Tie as tie
 use Rattle.state.proofs.rule_in.Reads as reads
 use Rattle.state.proofs.rule_in.Lts as lts
-use Rattle.tables.proofs.rule_of.Reads as rule-of-reads
+use Rattle.packing.proofs.rule_of.Reads as rule-of-reads
 
 sub-table : tie.Need-sub-table
 sub-table c = search needs

@@ -12,7 +12,7 @@ use Rattle.measures.specs.declared.Contracts.{Contracts}
 use Rattle.measures.specs.declared.Executions.{Executions}
 use Rattle.machine.specs.declared.Entry.{Entry}
 use Rattle.machine.specs.Entries.{areOrdered}
-use Rattle.tables.specs.EntryPlace.{entryAt}
+use Rattle.packing.specs.EntryPlace.{entryAt}
 use Rattle.rules.specs.Rules.{executions}
 use Rattle.rules.specs.declared.Limit.{Limit}
 use Rattle.log.specs.declared.sieves.Sieve.{Sieve}

@@ -3,7 +3,7 @@ use Prim.Native.Nat.{_*_}
 use native.Mathlib.Numerals.{add-one}
 use native.Mathlib.Omega.{arith}
 use lib.ListN.{length-set}
-use Rattle.tables.proofs.EntryPlace.{entry-placed}
+use Rattle.packing.proofs.EntryPlace.{entry-placed}
 use borrow.Author.Needs.{needs}
 use Rattle.log.proofs.windows.put_entry.Statement.{statement}
 use Rattle.log.proofs.windows.put_entry.Tie as tie

@@ -7,7 +7,7 @@ use mathlib.Core.List.{List}
 use native.Mathlib.Omega.{arith}
 use lib.ListN.{length, drop}
 use Rattle.laws.specs.Folds.{keep}
-use Rattle.tables.specs.EntryPlace.{entryAt}
+use Rattle.packing.specs.EntryPlace.{entryAt}
 use Rattle.machine.specs.Entries.{areOrdered}
 use Rattle.log.specs.Log.{entriesOf}
 use Rattle.log.specs.Newest.{isSince, newest, lookedAt}

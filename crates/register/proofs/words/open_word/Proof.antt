@@ -2,7 +2,7 @@
 use native.Mathlib.Nat.{le-refl}
 use native.Mathlib.Omega.{arith}
 use Rattle.bits.specs.Fields.{total, packed, Fit}
-use Rattle.tables.specs.EntryPlace.{amountWidths}
+use Rattle.packing.specs.EntryPlace.{amountWidths}
 use Rattle.register.specs.SentPlace.{openValues}
 use Rattle.register.proofs.SentPlace.{open-fit}
 use Rattle.register.proofs.words.open_word.Statement.{statement}

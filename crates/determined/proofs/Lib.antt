@@ -1,0 +1,27 @@
+-- Every contract determines what a call gives: two outcomes that meet it are equal. One file a crate, one theorem for each public function.
+pub mod Numbers
+pub mod Measures
+pub mod Bits
+pub mod Rules
+pub mod Text
+pub mod Reader
+pub mod Tables
+pub mod Packing
+pub mod Admission
+pub mod Line
+pub mod Profile
+pub mod Given
+pub mod Writing
+pub mod Log
+pub mod Register
+pub mod State
+pub mod Locks
+pub mod Counting
+pub mod Grant
+pub mod Reset
+pub mod Calls
+pub mod Views
+pub mod Capi
+pub mod Records
+pub mod Rows
+pub mod Answering

@@ -1,0 +1,1 @@
+// That every contract determines what a call gives. No code.

@@ -1,0 +1,32 @@
+-- The tests of the roots' and the rules' tables, by the count in front of them. Assumes nothing.
+use Prim.Native.Nat.{ℕ, _≤_, _<_}
+use mathlib.Core.Path.{_≡_, sym, ap, _∙_}
+use mathlib.Core.Bool.{Bool, true, false, not, _&&_}
+use mathlib.Core.List.{List}
+use lib.ListN.{getD, take, drop}
+use lib.Dec.{leb}
+use borrow.Author.Tests.{leb-true, lt-leb, le-leb, not-true, not-false}
+use Rattle.laws.specs.Tests.{and-r}
+use Rattle.measures.specs.Ranges.{_to_, isIn}
+use Rattle.given.specs.Parts.{namesHold, placesHold, rootsHold, placesOf, rulesHold}
+
+module _ (xs : List ℕ) where
+  pub roots-many : 64 < getD xs 0 0 → false ≡ rootsHold xs
+  unfolding rootsHold
+  roots-many h = rw (lt-leb _ _ h)
+
+  pub roots-few : getD xs 0 0 ≤ 64 → (b : Bool) → b ≡ namesHold (getD xs 0 0) (take 64 (drop 1 xs)) → b ≡ rootsHold xs
+  unfolding rootsHold
+  roots-few h b e = e ∙ sym (ap (λ (a : Bool). a && namesHold (getD xs 0 0) (take 64 (drop 1 xs))) (le-leb _ _ h))
+
+module _ (n : ℕ) (xs : List ℕ) (inside : Bool) (is : inside ≡ isIn (1 to 256) (getD xs 0 0)) where
+  pub rules-out : not inside ≡ true → false ≡ rulesHold n xs
+  unfolding rulesHold
+  rules-out h = sym (ap (λ (a : Bool). a && placesHold n (getD xs 0 0) (placesOf xs)) (sym is ∙ not-true inside h))
+
+  pub rules-few : not inside ≡ false → getD xs 0 0 ≤ 256
+  rules-few h = leb-true _ _ (and-r (leb 1 (getD xs 0 0)) _ (sym is ∙ not-false inside h))
+
+  pub rules-in : not inside ≡ false → (b : Bool) → b ≡ placesHold n (getD xs 0 0) (placesOf xs) → b ≡ rulesHold n xs
+  unfolding rulesHold
+  rules-in h b e = e ∙ sym (ap (λ (a : Bool). a && placesHold n (getD xs 0 0) (placesOf xs)) (sym is ∙ not-false inside h))

@@ -1,0 +1,5 @@
+pub mod Parts
+pub mod RulePlace
+pub mod RuleTests
+pub mod EntryPlace
+pub mod Shapes

@@ -1,0 +1,170 @@
+-- The tests of a rule's two numbers, part by part, as code runs them. Assumes nothing.
+use Prim.Native.Nat.{ℕ, zero, suc, _/_, _%_, _^_, _+_, _≤_, _<_, zero-le}
+use mathlib.Core.Path.{_≡_, refl, sym, ap, ap₂, _∙_}
+use mathlib.Core.Bool.{Bool, true, false, cond, _&&_, and-true, and-comm}
+use mathlib.Core.List.{List, [], _∷_}
+use native.Mathlib.Nat.{le-refl, le-trans, lt-of-le-of-lt, mod-lt}
+use native.Mathlib.Omega.{arith}
+use lib.ListN.{length, getD, drop}
+use lib.Pow.{pow-pos}
+use lib.Dec.{eqb, leb, ltb, leb·suc-suc}
+use borrow.Author.Tests.{eqb-true, eq-eqb, ne-eqb, le-leb, lt-leb}
+use Rattle.laws.specs.Tests.{and-l, and-r, and-i, same-test}
+use Rattle.laws.specs.Lists.{same}
+use Rattle.bits.specs.Fields.{packed, unpacked, Fit}
+use Rattle.rules.specs.declared.Scope.{Scope}
+use Rattle.rules.specs.declared.Scope.the-variants.{EveryFill, WholeRoot, OneUnit}
+use Rattle.rules.specs.declared.Kind.{Kind}
+use Rattle.rules.specs.declared.Kind.the-variants.{Rate, Absolute}
+use Rattle.rules.specs.declared.Limit.{Limit}
+use Rattle.rules.specs.declared.Rule.{Rule}
+use Rattle.tables.specs.Tables.{isPlace}
+use Rattle.packing.specs.RulePlace.{limitNumber, measureNumber, windowNumber, kindNumber, scopeNumber, rootNumber, unitNumber, limitWidths, scopeWidths, limitValues, scopeValues, ruleNumbers, limitOf, kindOf, scopeOf, ruleOf, ruleAt, isLimitPlace, isKindPlace, isScopePlace, isRulePlace}
+use Rattle.rules.specs.Valid.{isLimit, isKind, isScope, isRule}
+use Rattle.packing.proofs.Parts.{told, field-test}
+use Rattle.packing.proofs.RulePlace.{kind-back, limit-back, limit-fields, measure-most, scope-back, scope-fields, scope-fits}
+
+-- the tests of the parts, case by case
+zero-test : (n : ℕ) → leb n 0 ≡ eqb n 0
+zero-test zero = refl
+zero-test (suc n) = rw (lt-leb (suc n) 0 (omega arith), ne-eqb (suc n) 0 (λ e. omega arith))
+
+pub limit-test : (m n : ℕ) → (leb m 2 && leb 1 n && leb n (cond (eqb m 0) 100_000_000_000 1_000_000_000)) ≡ isLimitPlace m n
+unfolding isLimitPlace isLimit limitOf
+limit-test zero n = rw (eq-eqb n n refl)
+limit-test (suc zero) n = rw (eq-eqb n n refl)
+limit-test (suc (suc zero)) n = rw (eq-eqb n n refl)
+limit-test (suc (suc (suc m))) n =
+    let k = suc (suc (suc m)) in
+    rw (lt-leb k 2 (omega arith), ne-eqb k 0 (λ e. omega arith), ne-eqb k 1 (λ e. omega arith), ne-eqb k 2 (λ e. omega arith))
+
+pub kind-test : (n w : ℕ) → (leb n 1 && leb (cond (eqb n 0) 100 0) w && leb w (cond (eqb n 0) 86_400_000 0)) ≡ isKindPlace n w
+unfolding isKindPlace isKind kindOf
+kind-test zero w = rw (eq-eqb w w refl)
+kind-test (suc zero) w = rw (le-leb 0 w zero-le, zero-test w, and-true)
+kind-test (suc (suc n)) w =
+    let k = suc (suc n) in
+    rw (lt-leb k 1 (omega arith), ne-eqb k 0 (λ e. omega arith), ne-eqb k 1 (λ e. omega arith))
+
+pub scope-test : (roots n r u : ℕ) → (leb n 2 && ltb r (cond (eqb n 0) 1 roots) && leb u (cond (eqb n 2) 3 0)) ≡ isScopePlace roots n r u
+unfolding isScopePlace isScope scopeOf
+scope-test roots zero r u = rw (leb·suc-suc r 0, zero-test r, zero-test u, and-true)
+scope-test roots (suc zero) r u = rw (eq-eqb r r refl, zero-test u) (and-comm (ltb r roots) (eqb u 0))
+scope-test roots (suc (suc zero)) r u = rw (eq-eqb r r refl, eq-eqb u u refl, le-leb 0 u zero-le)
+scope-test roots (suc (suc (suc n))) r u =
+    let k = suc (suc (suc n)) in
+    rw (lt-leb k 2 (omega arith), ne-eqb k 0 (λ e. omega arith), ne-eqb k 1 (λ e. omega arith), ne-eqb k 2 (λ e. omega arith))
+
+-- a measure that is known has nothing above it
+measure-known : (m n : ℕ) → isLimitPlace m n ≡ true → m ≤ 2
+unfolding isLimitPlace
+measure-known m n h =
+    let limit = limitOf m n in
+    let e = eqb-true m (measureNumber limit) (and-l (eqb m (measureNumber limit)) (eqb n (limitNumber limit)) (and-l (eqb m (measureNumber limit) && eqb n (limitNumber limit)) (isLimit limit) h)) in
+    omega (arith, measure-most limit)
+
+measure-whole : (m n : ℕ) → isLimitPlace m n ≡ (eqb (m / 4) 0 && isLimitPlace (m % 4) n)
+measure-whole m n =
+    same-test (isLimitPlace m n) (eqb (m / 4) 0 && isLimitPlace (m % 4) n)
+    (λ h. let l = measure-known m n h in
+    and-i (eq-eqb (m / 4) 0 (omega arith)) (let e : m % 4 ≡ m = omega arith in rw e h))
+    (λ h. let z = eqb-true (m / 4) 0 (and-l (eqb (m / 4) 0) (isLimitPlace (m % 4) n) h) in
+    let e : m % 4 ≡ m = omega arith in
+    rw e at (and-r (eqb (m / 4) 0) (isLimitPlace (m % 4) n) h))
+
+-- what the rule of any numbers has in its fields is no more than stood there
+window-kept : (k w : ℕ) → windowNumber (kindOf k w) ≤ w
+unfolding kindOf
+window-kept k w = go (eqb k 0)
+  where
+    go : (a : Bool) → windowNumber (cond a (Rate w) Absolute) ≤ w
+    go true = le-refl w
+    go false = zero-le
+
+scope-kept : (c r u : ℕ) → (rootNumber (scopeOf c r u) ≤ r) × (unitNumber (scopeOf c r u) ≤ u)
+unfolding scopeOf
+scope-kept c r u = go (eqb c 0) (eqb c 1)
+  where
+    go : (a b : Bool) → let scope = cond a EveryFill (cond b (WholeRoot r) (OneUnit r u)) in (rootNumber scope ≤ r) × (unitNumber scope ≤ u)
+    go true b = (zero-le, zero-le)
+    go false true = (le-refl r, zero-le)
+    go false false = (le-refl r, le-refl u)
+
+-- a conjunction of tests, field by field, put together part by part
+regroup : (l w p m k c r u lim kin sco : Bool)
+    → ((l && (w && true)) && ((p && (m && (k && (c && (r && (u && true)))))) && true)) && (lim && kin && sco)
+    ≡ (p && (m && l && lim) && (k && w && kin) && (c && r && u && sco))
+regroup l w p m k c r u lim kin sco =
+    same-test _ (p && (m && l && lim) && (k && w && kin) && (c && r && u && sco)) (λ h. search (and-l, and-r, and-i) depth 20) (λ h. search (and-l, and-r, and-i) depth 20)
+
+-- two numbers that hold these fields are a rule's place exactly if each part is one
+module _ (roots f s l w p m k c r u : ℕ) (rest : List ℕ) (w-lt : w < 2 ^ 27) (r-le : r ≤ 63) (u-le : u ≤ 3)
+    (first : unpacked limitWidths f ≡ l ∷ w ∷ []) (second : unpacked scopeWidths s ≡ p ∷ m ∷ k ∷ c ∷ r ∷ u ∷ []) where
+  rule : Rule
+  rule = ruleOf (l ∷ w ∷ []) (p ∷ m ∷ k ∷ c ∷ r ∷ u ∷ [])
+
+  limit-same : eqb f (packed limitWidths (limitValues rule)) ≡ same (l ∷ w ∷ []) (limitValues rule)
+  unfolding rule ruleOf limitValues Fit
+  limit-same =
+      field-test 37 _ (27 ∷ []) (windowNumber (kindOf k w) ∷ []) f (lt-of-le-of-lt (window-kept k w) w-lt, tt)
+      ∙ ap (λ (v : List ℕ). same v (limitValues rule)) first
+
+  scope-same : eqb s (packed scopeWidths (scopeValues rule)) ≡ same (p ∷ m ∷ k ∷ c ∷ r ∷ u ∷ []) (scopeValues rule)
+  unfolding rule ruleOf scopeValues Fit
+  scope-same =
+      let kept = scope-kept c r u in
+      field-test 51 0 _ _ s (scope-fits rule (le-trans (kept .0) r-le) (le-trans (kept .1) u-le) .1)
+      ∙ ap (λ (v : List ℕ). same v (scopeValues rule)) second
+
+  rule-parts : isRulePlace roots (f ∷ s ∷ rest) ≡ (eqb p 0 && isLimitPlace m l && isKindPlace k w && isScopePlace roots c r u)
+  unfolding isPlace ruleAt ruleNumbers same rule ruleOf limitValues scopeValues isRule isLimitPlace isKindPlace isScopePlace
+  rule-parts =
+      let limit = limitOf m l in
+      let kind = kindOf k w in
+      let scope = scopeOf c r u in
+      ap (λ (x : Rule). same (f ∷ s ∷ []) (ruleNumbers x) && isRule roots x) (ap₂ ruleOf first second)
+      ∙ ap₂ (λ (a b : Bool). (a && (b && true)) && isRule roots rule) limit-same scope-same
+      ∙ regroup (eqb l (limitNumber limit)) (eqb w (windowNumber kind)) (eqb p 0) (eqb m (measureNumber limit)) (eqb k (kindNumber kind))
+      (eqb c (scopeNumber scope)) (eqb r (rootNumber scope)) (eqb u (unitNumber scope)) (isLimit limit) (isKind kind) (isScope roots scope)
+
+-- each of them by a shift and a mask, as code tests them
+pub rule-place : (roots f s : ℕ) (rest : List ℕ)
+    → isRulePlace roots (f ∷ s ∷ rest)
+    ≡ (isLimitPlace (s / 2048) (f / 134_217_728) && isKindPlace (s / 1024 % 2) (f % 134_217_728) && isScopePlace roots (s / 256 % 4) (s / 4 % 64) (s % 4))
+rule-place roots f s rest =
+    let top : s / 2048 / 4 ≡ s / 8192 = omega arith in
+    rule-parts roots f s _ _ _ _ _ _ _ _ rest (mod-lt f (pow-pos 27)) (omega arith) (omega arith) (limit-fields f) (scope-fields s)
+    ∙ ap (λ (b : Bool). b && isKindPlace (s / 1024 % 2) (f % 134_217_728) && isScopePlace roots (s / 256 % 4) (s / 4 % 64) (s % 4))
+    (sym (measure-whole (s / 2048) (f / 134_217_728) ∙ ap (λ (t : ℕ). eqb t 0 && isLimitPlace (s / 2048 % 4) (f / 134_217_728)) top))
+
+-- a rule's own numbers are a place of its parts exactly if a profile may hold it
+limit-valid : (limit : Limit) → isLimitPlace (measureNumber limit) (limitNumber limit) ≡ isLimit limit
+unfolding isLimitPlace
+limit-valid limit = rw (limit-back limit, eq-eqb (measureNumber limit) (measureNumber limit) refl, eq-eqb (limitNumber limit) (limitNumber limit) refl)
+
+kind-valid : (kind : Kind) → isKindPlace (kindNumber kind) (windowNumber kind) ≡ isKind kind
+unfolding isKindPlace
+kind-valid kind = rw (kind-back kind, eq-eqb (kindNumber kind) (kindNumber kind) refl, eq-eqb (windowNumber kind) (windowNumber kind) refl)
+
+scope-valid : (roots : ℕ) (scope : Scope) → isScopePlace roots (scopeNumber scope) (rootNumber scope) (unitNumber scope) ≡ isScope roots scope
+unfolding isScopePlace
+scope-valid roots scope =
+    rw (
+      scope-back scope,
+      eq-eqb (scopeNumber scope) (scopeNumber scope) refl,
+      eq-eqb (rootNumber scope) (rootNumber scope) refl,
+      eq-eqb (unitNumber scope) (unitNumber scope) refl,
+    )
+
+pub rule-valid : (roots : ℕ) (rule : Rule) → let limit = rule .limit in let kind = rule .kind in let scope = rule .scope in
+    (isLimitPlace (measureNumber limit) (limitNumber limit)
+    && isKindPlace (kindNumber kind) (windowNumber kind)
+    && isScopePlace roots (scopeNumber scope) (rootNumber scope) (unitNumber scope))
+    ≡ isRule roots rule
+unfolding isRule
+rule-valid roots rule = rw (limit-valid (rule .limit), kind-valid (rule .kind), scope-valid roots (rule .scope))
+
+-- whether a rule stands at a place, by its two numbers as code reads them
+pub is-rule-here : (xs : List ℕ) (at : ℕ) → at + 1 < length xs → (roots : ℕ)
+    → isRulePlace roots (getD xs at 0 ∷ getD xs (at + 1) 0 ∷ []) ≡ isRulePlace roots (drop at xs)
+is-rule-here xs at h roots = told (isRulePlace roots) (λ a b rest. rule-place roots a b rest ∙ sym (rule-place roots a b [])) xs at h

@@ -1,0 +1,16 @@
+-- `tables::kind_of` meets its contract: the number tells the kind. Assumes nothing.
+use borrow.Author.Tests.{eq-eqb, ne-eqb}
+use Rattle.packing.specs.RulePlace.{kindOf}
+use Rattle.tables.proofs.terms.kind_of.Statement.{statement}
+use Rattle.tables.proofs.terms.kind_of.Tie as tie
+
+returns : tie.Need-returns
+unfolding kindOf
+returns c = rw (eq-eqb _ _ (c .if1 .taken))
+
+returns-2 : tie.Need-returns-2
+unfolding kindOf
+returns-2 c = rw (ne-eqb _ _ (c .if1 .left))
+
+pub kind-of-spec : {M : Type 1} → statement M
+kind-of-spec = tie.close (tie.spec returns returns-2)

@@ -1,0 +1,2 @@
+pub mod RulePlace
+pub mod EntryPlace

@@ -1,0 +1,142 @@
+// How a rule and a log entry stand in two numbers each.
+ghost use mathlib.Core.Path.{_≡_};
+ghost use mathlib.Core.Bool.{_&&_};
+ghost use mathlib.Core.List.{[], _∷_};
+ghost use lib.Dec.{ltb};
+ghost use Rattle.measures.specs.Ranges.{isIn, premiums, offers};
+ghost use Rattle.packing.specs.RulePlace.{limitNumber, ruleAt, isRulePlace, rulePlace};
+ghost use Rattle.rules.specs.Valid.{isRule};
+ghost use Rattle.packing.specs.EntryPlace.{entryAt, isEntryButTime, entryPlace};
+
+mod terms;
+mod words;
+
+use machine::Entry;
+use measures::Contracts;
+use measures::TenThousandths;
+use measures::Time;
+use rules::Limit;
+use rules::Rule;
+use tables::Place;
+
+// Two to the 20th and to the 27th: what the longer fields stay below.
+const TWO_20: u64 = 1_048_576;
+
+const TWO_27: u64 = 134_217_728;
+
+// A limit's number.
+pub fn limit_number(limit: Limit) -> u64
+    ensures { λ r. ⌜ r ≡ limitNumber limit ⌝ }
+{
+    match limit {
+        Limit::Notional(dollars) => dollars.0,
+        Limit::Volume(contracts) => contracts.0,
+        Limit::Count(executions) => executions.0,
+    }
+}
+
+// The rule that two numbers stand for.
+pub fn rule_of(first: u64, second: u64) -> Rule
+    ensures { λ r. ⌜ r ≡ ruleAt (first ∷ second ∷ []) ⌝ }
+{
+    let scope = terms::scope_of(second / 256 % 4, second / 4 % 64, second % 4);
+    let kind = terms::kind_of(second / 1024 % 2, first % TWO_27);
+    let limit = terms::limit_of(second / 2048 % 4, first / TWO_27);
+    Rule { scope, kind, limit }
+}
+
+// Whether two numbers are those of a rule that a profile with so many roots may hold, and nothing else.
+pub fn is_rule(first: u64, second: u64, roots: u64) -> bool
+    ensures { λ r. ⌜ r ≡ isRulePlace roots (first ∷ second ∷ []) ⌝ }
+{
+    // A measure that is known has nothing above it.
+    terms::is_limit(second / 2048, first / TWO_27)
+        & terms::is_kind(second / 1024 % 2, first % TWO_27)
+        & terms::is_scope(roots, second / 256 % 4, second / 4 % 64, second % 4)
+}
+
+// Whether a profile with 64 roots may hold a rule.
+fn may_hold(rule: Rule) -> bool
+    ensures { λ r. ⌜ r ≡ isRule 64 rule ⌝ }
+{
+    let limit = rule.limit;
+    let kind = rule.kind;
+    let scope = rule.scope;
+    terms::is_limit(terms::measure_number(limit), limit_number(limit))
+        & terms::is_kind(terms::kind_number(kind), terms::window_number(kind))
+        & terms::is_scope(
+            64,
+            terms::scope_number(scope),
+            terms::root_number(scope),
+            terms::unit_number(scope),
+        )
+}
+
+// The two numbers of a rule, 0 and 0 for one that no profile may hold.
+pub fn rule_place(rule: Rule) -> Place
+    ensures { λ r. ⌜ r ≡ rulePlace rule ⌝ }
+{
+    if may_hold(rule) {
+        let first = words::limit_word(rule);
+        let second = words::scope_word(rule);
+        return Place { first, second };
+    }
+    Place {
+        first: 0,
+        second: 0,
+    }
+}
+
+// The entry that two numbers stand for.
+pub fn entry_of(first: u64, second: u64) -> Entry
+    ensures { λ r. ⌜ r ≡ entryAt (first ∷ second ∷ []) ⌝ }
+{
+    Entry {
+        time: first / 1024 % TWO_27,
+        root: first / 16 % 64,
+        unit: first / 4 % 4,
+        premium: TenThousandths(second / TWO_20 % TWO_27),
+        contracts: Contracts(second % TWO_20),
+        forroot: first / 2 % 2 == 1,
+        forfirm: first % 2 == 1,
+    }
+}
+
+// Whether the numbers of an entry other than its time and its unit are in their ranges, with so many roots.
+fn are_ranged(roots: u64, root: u64, premium: u64, contracts: u64) -> bool
+    ensures { λ r. ⌜ r ≡ (ltb root roots && isIn premiums premium && isIn offers contracts) ⌝ }
+{
+    (root < roots)
+        & measures::is_in(
+            premium,
+            TenThousandths::PREMIUM_LEAST,
+            TenThousandths::PREMIUM_MOST,
+        )
+        & measures::is_in(contracts, Contracts::OFFER_LEAST, Contracts::OFFER_MOST)
+}
+
+// Whether two numbers are those of an entry, its time aside: every other number is in its range.
+pub fn is_entry_but_time(first: u64, second: u64, roots: u64) -> bool
+    ensures { λ r. ⌜ r ≡ isEntryButTime roots first second ⌝ }
+{
+    // A premium in range has nothing above it.
+    are_ranged(roots, first / 16 % 64, second / TWO_20, second % TWO_20)
+}
+
+// The two numbers of an entry, 0 and 0 for one with a number out of its range, with 64 roots.
+pub fn entry_place(e: Entry) -> Place
+    ensures { λ r. ⌜ r ≡ entryPlace e ⌝ }
+{
+    if measures::is_in(e.time, 0, Time::MOST)
+        & are_ranged(64, e.root, e.premium.0, e.contracts.0)
+        & measures::is_in(e.unit, 0, 3)
+    {
+        let first = words::fill_word(e);
+        let second = words::amount_word(e);
+        return Place { first, second };
+    }
+    Place {
+        first: 0,
+        second: 0,
+    }
+}
