@@ -37,8 +37,8 @@ pub record SoFar (rules : List Rule) (tally : Tally) (counts : List ℕ) : Type 
   pub bounded : Bounded rules
 
 -- some rules are counted so
-abbrev pub Holds : Tally → List ℕ → Type 0
-Holds tally counts = (rules : List Rule) × SoFar rules tally counts
+abbrev pub CountsSome : Tally → List ℕ → Type 0
+CountsSome tally counts = (rules : List Rule) × SoFar rules tally counts
 
 -- before the first rule
 abbrev pub noRules : Tally

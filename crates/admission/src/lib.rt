@@ -3,7 +3,7 @@ ghost use mathlib.Core.Path.{_≡_};
 ghost use mathlib.Core.List.{List};
 ghost use Prim.Native.Nat.{ℕ, _+_, _<_, max};
 ghost use Rattle.rules.specs.declared.Rule.{Rule};
-ghost use Rattle.admission.specs.Counting.{SoFar, Holds, Follows, Numbered, RootIs, overIn, coveredIn};
+ghost use Rattle.admission.specs.Counting.{SoFar, CountsSome, Follows, Numbered, RootIs, overIn, coveredIn};
 use rules::Rule;
 use rules::Scope;
 
@@ -49,7 +49,7 @@ fn is_over(w: u64) -> bool
 
 // Counts a rule of a root, unless that root is neither one that has appeared nor the next, or the 65th, or a unit then has 7 rules.
 fn admit_root(rule: Rule, root: u64, tally: Tally, counts: &mut [u64]) -> Admitted
-    requires { ⌜ Holds tally (now counts) × (tally .rules < 256) × Numbered (rule .scope) × RootIs root (rule .scope) ⌝ }
+    requires { ⌜ CountsSome tally (now counts) × (tally .rules < 256) × Numbered (rule .scope) × RootIs root (rule .scope) ⌝ }
     ensures { λ r. ⌜ ((before : List Rule) → SoFar before tally (now (counts .entry)) → Follows before tally rule r (now (counts .entry)) (now (counts .exit))) ⌝ }
 {
     let seen = tally.seen;
@@ -77,7 +77,7 @@ fn admit_root(rule: Rule, root: u64, tally: Tally, counts: &mut [u64]) -> Admitt
 
 // Counts a rule, unless it is one too many or its root is neither one that has appeared nor the next.
 pub fn admit(rule: Rule, tally: Tally, counts: &mut [u64]) -> Admitted
-    requires { ⌜ Holds tally (now counts) × Numbered (rule .scope) ⌝ }
+    requires { ⌜ CountsSome tally (now counts) × Numbered (rule .scope) ⌝ }
     ensures { λ r. ⌜ ((before : List Rule) → SoFar before tally (now (counts .entry)) → Follows before tally rule r (now (counts .entry)) (now (counts .exit))) ⌝ }
 {
     if 256 <= tally.rules {

@@ -20,7 +20,7 @@ use Rattle.answering.specs.declared.Opened.{Opened}
 use Rattle.answering.specs.declared.Ran.{Ran}
 
 -- bytes stand in a room
-pub record Within (bytes room : ℕ) : Type 0 where
+pub record FitsRoom (bytes room : ℕ) : Type 0 where
   pub inside : bytes ≤ room
 
 -- lines stand in a room, and the place after the last is a 64-bit number
@@ -53,9 +53,9 @@ callOf (Offer time root unit premium contracts) =
 callOf (Lockout time level root) = lockout time level root
 
 -- what a record is answered: what its event's call is, or 16
-unfoldable pub answerTo : List ℕ → Reading → Answer
-answerTo xs (Is e) = callAnswer xs (callOf e)
-answerTo xs Faulty = Refused (readRefusal Faulty)
+unfoldable pub readingAnswer : List ℕ → Reading → Answer
+readingAnswer xs (Is e) = callAnswer xs (callOf e)
+readingAnswer xs Faulty = Refused (readRefusal Faulty)
 
 -- the memory after a record: a faulty one changes nothing
 unfoldable pub memoryOf : List ℕ → Reading → List ℕ
@@ -63,7 +63,7 @@ memoryOf xs (Is e) = callMemory xs (callOf e)
 memoryOf xs Faulty = xs
 
 abbrev pub recordAnswer : List ℕ → List ℕ → Answer
-recordAnswer xs s = answerTo xs (readOf s)
+recordAnswer xs s = readingAnswer xs (readOf s)
 
 abbrev pub recordMemory : List ℕ → List ℕ → List ℕ
 recordMemory xs s = memoryOf xs (readOf s)

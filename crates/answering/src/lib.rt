@@ -6,7 +6,7 @@ ghost use lib.Seq.{sets};
 ghost use Rattle.calls.specs.Calls.{armAnswer, armMemory, callAnswer, callMemory};
 ghost use Rattle.profile.specs.declared.Reading.the-variants.{Accepted, Refused as NotArmed};
 ghost use Rattle.answering.specs.Lines.{spaced, armLine, recordLine};
-ghost use Rattle.answering.specs.Run.{Line, Within, Fitted, inFront, openedOf, callOf, recordAnswer, recordMemory, recordAt, fitting as fittingOf, taken, memoryAfter, linesOf, ranOf};
+ghost use Rattle.answering.specs.Run.{Line, FitsRoom, Fitted, inFront, openedOf, callOf, recordAnswer, recordMemory, recordAt, fitting as fittingOf, taken, memoryAfter, linesOf, ranOf};
 use machine::Answer;
 use machine::Offer;
 use profile::Reading as Arming;
@@ -49,7 +49,7 @@ fn put_spaced(numbers: &[u64], room: &mut [u8], at: usize) -> usize
 // Writes the line of an armed unit to the front of a room, and answers how many bytes it has.
 fn put_armed(firm: u64, rules: u64, roots: u64, room: &mut [u8]) -> usize
     requires { ⌜ 126 ≤ length (now room) ⌝ }
-    ensures { λ r. ⌜ Within r 126 ⌝ }
+    ensures { λ r. ⌜ FitsRoom r 126 ⌝ }
     ensures { λ r. ⌜ r ≡ length (armLine (Accepted firm rules roots)) ⌝ }
     ensures { λ r. ⌜ now (room .exit) ≡ sets (now (room .entry)) 0 (armLine (Accepted firm rules roots)) ⌝ }
 {
@@ -61,7 +61,7 @@ fn put_armed(firm: u64, rules: u64, roots: u64, room: &mut [u8]) -> usize
 // Writes the line of a refused profile to the front of a room, and answers how many bytes it has.
 fn put_refused(number: u64, line: u64, room: &mut [u8]) -> usize
     requires { ⌜ 126 ≤ length (now room) ⌝ }
-    ensures { λ r. ⌜ Within r 126 ⌝ }
+    ensures { λ r. ⌜ FitsRoom r 126 ⌝ }
     ensures { λ r. ⌜ r ≡ length (armLine (NotArmed number line)) ⌝ }
     ensures { λ r. ⌜ now (room .exit) ≡ sets (now (room .entry)) 0 (armLine (NotArmed number line)) ⌝ }
 {
@@ -71,7 +71,7 @@ fn put_refused(number: u64, line: u64, room: &mut [u8]) -> usize
 
 // Arms memory from a profile's text, and writes the line about it to the front of a room.
 pub fn arm(m: &mut [u64], profile: &[u8], room: &mut [u8; 126]) -> Opened
-    ensures { λ r. ⌜ Within (r .bytes) (length (now (room .exit))) ⌝ }
+    ensures { λ r. ⌜ FitsRoom (r .bytes) (length (now (room .exit))) ⌝ }
     ensures { λ r. ⌜ r ≡ openedOf (armAnswer (now (m .entry)) (now (profile .entry))) ⌝ }
     ensures { λ r. ⌜ now (m .exit) ≡ armMemory (now (m .entry)) (now (profile .entry)) ⌝ }
     ensures { λ r. ⌜ now (room .exit) ≡ inFront (armLine (armAnswer (now (m .entry)) (now (profile .entry)))) (now (room .entry)) ⌝ }

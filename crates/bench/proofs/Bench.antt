@@ -14,9 +14,9 @@ use Rattle.machine.specs.Judge.{numbers}
 use Rattle.profile.specs.Profile.{outcomeOf}
 use Rattle.state.specs.State.{decode}
 use Rattle.bench.specs.Lent.{Memory, Text, numbersIn, Called}
-use Rattle.bench.specs.Library.{Library, Meets, Unarmed, refusalIn}
-use Rattle.bench.specs.Rows.{Row, Seen, callsOf, windowsOf, answersOf, seen, seenBy, wanted, Done}
-use Rattle.bench.specs.Table.{table, examples}
+use Rattle.bench.specs.Library.{Library, Meets, Unarmed, armRefusalIn}
+use Rattle.bench.specs.Rows.{Row, Seen, callsOf, windowsOf, machineAnswers, seen, seenBy, wanted, Done}
+use Rattle.bench.specs.Table.{benchTable, examples}
 use Rattle.bench.specs.Tried.{tried}
 use Rattle.bench.proofs.Words.{tested-below}
 use Rattle.bench.proofs.Runs.{arm-accepted, arm-leaves, armed-answers}
@@ -36,7 +36,7 @@ sendable (call ∷ calls) h =
 module _ (l : Library) (meets : Meets l) (m : Memory) (u : Unarmed m) where
   module _ (t : Text) (ok : outcomeOf (t .now) .refusal ≡ 0) where
     -- the text is accepted
-    accepted : refusalIn (l .arm m t .answer) ≡ outcomeOf (t .now) .refusal
+    accepted : armRefusalIn (l .arm m t .answer) ≡ outcomeOf (t .now) .refusal
     accepted = arm-accepted l meets m t u ok ∙ sym ok
 
     -- its rules are in the memory
@@ -54,7 +54,7 @@ module _ (l : Library) (meets : Meets l) (m : Memory) (u : Unarmed m) where
         windows = (windows t ok ∙ ap (λ (text : List ℕ). windowsOf (outcomeOf text .profile .rules)) is) i;
         answers =
             ap (map numbers) (armed-answers l meets m t u ok day
-            ∙ ap₂ (λ (text : List ℕ) (calls : List Call). answersOf (armed (outcomeOf text .profile)) calls) is sends) i;
+            ∙ ap₂ (λ (text : List ℕ) (calls : List Call). machineAnswers (armed (outcomeOf text .profile)) calls) is sends) i;
       }
 
   -- a row whose calls can be made, and is right on the machine
@@ -80,5 +80,5 @@ module _ (l : Library) (meets : Meets l) (m : Memory) (u : Unarmed m) where
       (done row (and-l (fits row) (every fits rows) f) first, all-done rows (and-r (fits row) (every fits rows) f) rest)
 
   -- B1 to B12, the examples and the slips, and the rows beyond them
-  pub bench : All (Done l m) (table ++ (examples ++ tried))
-  bench = all-done (table ++ (examples ++ tried)) rows-fit rows-right
+  pub bench : All (Done l m) (benchTable ++ (examples ++ tried))
+  bench = all-done (benchTable ++ (examples ++ tried)) rows-fit rows-right

@@ -21,10 +21,10 @@ use Rattle.machine.specs.Locks.{isTripped, isByUser, isLocked, verdictOf, lifte
 use Rattle.machine.specs.Offers.{counted, coversOffer, grantOf, sameLevel, tripsBy, levelTrips, credited, windowOf, longest, entryOf, joinedLog}
 use Rattle.machine.specs.Refusals.{used, logFull, noPlaces, overdrawn, firstOf, badTime, isRoot, refusalOf}
 use Rattle.machine.specs.Register.{hasIdentity, isOpen, sentAt, fillOf, sentOf, usedUp, registerBy, registerAfter, keptPlaces, noSent}
-use Rattle.machine.specs.Remaining.{noAccount, ruleAt, isCell, cellAt, accountAt, accountFor, leftOf, standing}
+use Rattle.machine.specs.Remaining.{noAccount, ruleNumbered, isCell, cellAt, accountAt, accountFor, leftOf, standing}
 use Rattle.machine.specs.Judge.{filled, offered, sentAway, ordered, judged, unless, judge, stepIn, step, numbers}
 use Rattle.bits.specs.Locks.{bit, withBit, withoutBit, either, count, here, first, standingOf}
-use Rattle.text.specs.Text.{bytes, all, onto, pieces, indexOf, made, numeral, numberOf, nameOf}
+use Rattle.text.specs.Text.{bytes, all, onto, pieces, indexOf, made, numeral, fieldNumber, nameOf}
 use Rattle.line.specs.Line.{typeOf, isAbsolute, limitsOf, limitOf, kindOf, timeOf, letterOf, malformed, otherFirm, outOfRange, levelClash, unitClash, faultOf, scopeOf, ruleOf, lineOf}
 use Rattle.admission.specs.Admission.{howMany, isFirmRule, onUnit, crowded}
 use Rattle.profile.specs.Profile.{withRoot, rootsWith, numbered, joined, tooMany, afterLine, readOn, outcomeOf, readingOf}
@@ -40,8 +40,8 @@ use Rattle.machine.specs.declared.Answer.the-variants.{Judged}
 use Rattle.demand.specs.Run.{afterCall, runFrom}
 use Rattle.bench.specs.Lent.{numbersIn}
 use Rattle.bench.specs.Library.{hundred, forty}
-use Rattle.bench.specs.Rows.{Row, callsOf, answersThen, answersOf, seen, wanted}
-use Rattle.bench.specs.Table.{table, examples}
+use Rattle.bench.specs.Rows.{Row, callsOf, answersThen, machineAnswers, seen, wanted}
+use Rattle.bench.specs.Table.{benchTable, examples}
 use Rattle.bench.specs.Away.{away}
 use Rattle.bench.specs.Tried.{tried, Fault, refusedTexts}
 
@@ -67,21 +67,21 @@ abbrev pub hundredRule : Rule
 hundredRule = record { scope = WholeRoot 0; kind = Absolute; limit = Volume (record { 0 = 100 }) }
 
 -- every row is seen as wanted, and every faulty text is read so; of three such offers the first two are granted whole, and of the third 20
-computed : (every fits (table ++ (examples ++ tried)) ≡ true)
-    × (map seen (table ++ (examples ++ tried)) ≡ map wanted (table ++ (examples ++ tried)))
+computed : (every fits (benchTable ++ (examples ++ tried)) ≡ true)
+    × (map seen (benchTable ++ (examples ++ tried)) ≡ map wanted (benchTable ++ (examples ++ tried)))
     × (every (λ f. isText (bytes (f .text))) refusedTexts ≡ true)
     × (map readAs refusedTexts ≡ map saidAs refusedTexts)
     × (outcomeOf hundred .refusal ≡ 0)
     × (outcomeOf hundred .profile .rules ≡ hundredRule ∷ [])
-    × (answersOf (armed (outcomeOf hundred .profile)) (offer forty ∷ offer forty ∷ offer forty ∷ [])
+    × (machineAnswers (armed (outcomeOf hundred .profile)) (offer forty ∷ offer forty ∷ offer forty ∷ [])
     ≡ Judged 0 40 false false ∷ Judged 0 40 false false ∷ Judged 0 20 true false ∷ [])
-unfolding every table examples tried away refusedTexts readingOf seen wanted afterCall runFrom answersThen answersOf same bit withBit withoutBit either count here first standingOf levelNamed all onto pieces indexOf made numeral numberOf nameOf typeOf isAbsolute limitsOf limitOf kindOf timeOf letterOf malformed otherFirm outOfRange levelClash unitClash faultOf scopeOf ruleOf lineOf withRoot rootsWith numbered joined howMany isFirmRule onUnit crowded tooMany afterLine readOn outcomeOf levelOf covers isRate counts countedOf held executions added ceiling share zeroing lifting largest allowance trips isPassed overruns unflagged isFlagged flagOf entryShare sumOf keep recent hasRate unitsOf isUnitOf placeIn scopeFor ofUnit cellsBy cellsOf rulesIn noLocks fresh armed resets effectOf clockAfter isTripped isByUser isLocked verdictOf lifted trippedBy lockedOut wiped unflaggedLog counted coversOffer grantOf anyOf sameLevel tripsBy levelTrips credited windowOf longest entryOf joinedLog used logFull noPlaces overdrawn firstOf badTime isRoot refusalOf leftOf ruleAt isCell cellAt accountAt accountFor noAccount standing accountsAfter locksAfter logAfter registerBy registerAfter hasIdentity isOpen sentAt fillOf sentOf usedUp keptPlaces noSent partAfter after filled sentAway offered ordered judged unless judge stepIn step amountNumber amountIn numbers
+unfolding every benchTable examples tried away refusedTexts readingOf seen wanted afterCall runFrom answersThen machineAnswers same bit withBit withoutBit either count here first standingOf levelNamed all onto pieces indexOf made numeral fieldNumber nameOf typeOf isAbsolute limitsOf limitOf kindOf timeOf letterOf malformed otherFirm outOfRange levelClash unitClash faultOf scopeOf ruleOf lineOf withRoot rootsWith numbered joined howMany isFirmRule onUnit crowded tooMany afterLine readOn outcomeOf levelOf covers isRate counts countedOf held executions added ceiling share zeroing lifting largest allowance trips isPassed overruns unflagged isFlagged flagOf entryShare sumOf keep recent hasRate unitsOf isUnitOf placeIn scopeFor ofUnit cellsBy cellsOf rulesIn noLocks fresh armed resets effectOf clockAfter isTripped isByUser isLocked verdictOf lifted trippedBy lockedOut wiped unflaggedLog counted coversOffer grantOf anyOf sameLevel tripsBy levelTrips credited windowOf longest entryOf joinedLog used logFull noPlaces overdrawn firstOf badTime isRoot refusalOf leftOf ruleNumbered isCell cellAt accountAt accountFor noAccount standing accountsAfter locksAfter logAfter registerBy registerAfter hasIdentity isOpen sentAt fillOf sentOf usedUp keptPlaces noSent partAfter after filled sentAway offered ordered judged unless judge stepIn step amountNumber amountIn numbers
 computed = (refl, refl, refl, refl, refl, refl, refl)
 
-pub rows-fit : every fits (table ++ (examples ++ tried)) ≡ true
+pub rows-fit : every fits (benchTable ++ (examples ++ tried)) ≡ true
 rows-fit = computed .0
 
-pub rows-right : map seen (table ++ (examples ++ tried)) ≡ map wanted (table ++ (examples ++ tried))
+pub rows-right : map seen (benchTable ++ (examples ++ tried)) ≡ map wanted (benchTable ++ (examples ++ tried))
 rows-right = computed .1
 
 pub texts-fit : every (λ f. isText (bytes (f .text))) refusedTexts ≡ true
@@ -96,6 +96,6 @@ hundred-read = computed .4
 pub hundred-rule : outcomeOf hundred .profile .rules ≡ hundredRule ∷ []
 hundred-rule = computed .5
 
-pub forties : answersOf (armed (outcomeOf hundred .profile)) (offer forty ∷ offer forty ∷ offer forty ∷ [])
+pub forties : machineAnswers (armed (outcomeOf hundred .profile)) (offer forty ∷ offer forty ∷ offer forty ∷ [])
     ≡ Judged 0 40 false false ∷ Judged 0 40 false false ∷ Judged 0 20 true false ∷ []
 forties = computed .6

@@ -26,7 +26,7 @@ use Rattle.demand.specs.Demand.{Demand3}
 use Rattle.demand.proofs.Theorem.{demand3}
 use Rattle.promises.proofs.Holds.{Holds, call-answers, arm-holds, arm-ranged}
 use Rattle.bench.specs.Lent.{Memory, Text, Called, Offered, called}
-use Rattle.bench.specs.Library.{Library, Meets, historyBy, MeetsDemand3, CountsFirstOnly, hundred, forty, armedBy, answerTo, memoryAfter}
+use Rattle.bench.specs.Library.{Library, Meets, historyBy, MeetsDemand3, CountsFirstOnly, hundred, forty, armedBy, answerTo, memoryLeftBy}
 use Rattle.bench.proofs.Computed.{hundredRule, hundred-rule}
 use Rattle.bench.proofs.Runs.{call-leaves}
 
@@ -62,20 +62,20 @@ module _ (l : Library) (meets : MeetsDemand3 l) (t : Text) (isHundred : t .now �
         (List·Memᴰ·head refl)
 
     -- NEVER THREE TIMES 40, at whatever verdicts
-    pub not-thrice-forty : (u v w : ℕ) (a b c d e f : Bool) → answerTo l o (armedBy l m t) ≡ Judged u 40 a b → answerTo l o (memoryAfter l o (armedBy l m t)) ≡ Judged v 40 c d
-        → answerTo l o (memoryAfter l o (memoryAfter l o (armedBy l m t))) ≡ Judged w 40 e f → ⊥
+    pub not-thrice-forty : (u v w : ℕ) (a b c d e f : Bool) → answerTo l o (armedBy l m t) ≡ Judged u 40 a b → answerTo l o (memoryLeftBy l o (armedBy l m t)) ≡ Judged v 40 c d
+        → answerTo l o (memoryLeftBy l o (memoryLeftBy l o (armedBy l m t))) ≡ Judged w 40 e f → ⊥
     unfolding historyBy Each deedsOf isUnitOf
     not-thrice-forty u v w a b c d e f first second third =
         let met = meets m t firm rules roots ok (called o ∷ called o ∷ called o ∷ []) .1 in
         let told = met .answers in
         let fill1 = filled _ (o .offer) isForty u a b (answerTo l o (armedBy l m t)) first (told .1 .1 .0 .summed) in
-        let fill2 = filled _ (o .offer) isForty v c d (answerTo l o (memoryAfter l o (armedBy l m t))) second (told .1 .0 .summed) in
-        let fill3 = filled _ (o .offer) isForty w e f (answerTo l o (memoryAfter l o (memoryAfter l o (armedBy l m t)))) third (told .0 .summed) in
+        let fill2 = filled _ (o .offer) isForty v c d (answerTo l o (memoryLeftBy l o (armedBy l m t))) second (told .1 .0 .summed) in
+        let fill3 = filled _ (o .offer) isForty w e f (answerTo l o (memoryLeftBy l o (memoryLeftBy l o (armedBy l m t)))) third (told .0 .summed) in
         three-fills (subst (Within (ofUnit hundredRule 0)) (λ i. fill3 i ∷ fill2 i ∷ fill1 i ∷ []) (met .sums hundredRule its-rule 0 refl))
 
     -- so one that counts the first fill alone, and grants the first two, does not meet demand 3
     pub not-first-only-by-demand : CountsFirstOnly l → (u v : ℕ) (a b c d : Bool) → answerTo l o (armedBy l m t) ≡ Judged u 40 a b
-        → answerTo l o (memoryAfter l o (armedBy l m t)) ≡ Judged v 40 c d → ⊥
+        → answerTo l o (memoryLeftBy l o (armedBy l m t)) ≡ Judged v 40 c d → ⊥
     not-first-only-by-demand only u v a b c d first second =
         not-thrice-forty u v v a b c d c d first second (only (armedBy l m t) o o o (omega arith) (omega arith) ∙ second)
 

@@ -3,7 +3,7 @@ use Prim.Native.Nat.{ℕ}
 use mathlib.Core.Path.{_≡_, refl, _∙_}
 use mathlib.Core.List.{List, [], _∷_, map}
 use Rattle.laws.specs.Folds.{every}
-use Rattle.text.specs.Text.{bytes, all, onto, pieces, indexOf, made, numeral, numberOf, nameOf}
+use Rattle.text.specs.Text.{bytes, all, onto, pieces, indexOf, made, numeral, fieldNumber, nameOf}
 use Rattle.text.specs.Digits.{digitsUpTo, nameBytes, decimal}
 use Rattle.line.specs.Line.{typeOf, isAbsolute, limitsOf, limitOf, kindOf, timeOf, letterOf, malformed, otherFirm, outOfRange, levelClash, unitClash, faultOf, scopeOf, ruleOf, lineOf}
 use Rattle.admission.specs.Admission.{howMany, isFirmRule, onUnit, crowded}
@@ -11,7 +11,7 @@ use Rattle.profile.specs.Profile.{withRoot, rootsWith, numbered, joined, tooMan
 use Rattle.rules.specs.Rules.{covers}
 use Rattle.rules.specs.Allowance.{All}
 use Rattle.laws.specs.Lists.{same}
-use Rattle.writing.specs.Writing.{typeName, limitText, windowText, rootText, levelText, callPutText, monthText, fieldTexts, inFront, trimmed, withCommas, lineText, linesText, textOf}
+use Rattle.writing.specs.Writing.{typeName, limitText, windowText, rootText, levelText, callPutText, monthText, fieldTexts, beforeFields, trimmed, withCommas, lineText, linesText, textOf}
 use Rattle.calls.specs.Calls.{armMemory}
 use Rattle.promises.specs.Written.{textIn, MayBeArmed}
 use Rattle.promises.proofs.Written.{taken-text}
@@ -19,7 +19,7 @@ use Rattle.bench.specs.Rewritten.{Rewrite, rewrites}
 
 computed : (map (λ (r : Rewrite). outcomeOf (bytes (r .text)) .refusal) rewrites ≡ map (λ (r : Rewrite). 0) rewrites)
     × (map (λ (r : Rewrite). textOf (outcomeOf (bytes (r .text)) .profile)) rewrites ≡ map (λ (r : Rewrite). bytes (r .written)) rewrites)
-unfolding every rewrites same all onto pieces indexOf made numeral numberOf nameOf typeOf isAbsolute limitsOf limitOf kindOf timeOf letterOf malformed otherFirm outOfRange levelClash unitClash faultOf scopeOf ruleOf lineOf withRoot rootsWith numbered joined howMany isFirmRule onUnit crowded tooMany afterLine readOn outcomeOf covers digitsUpTo nameBytes decimal typeName limitText windowText rootText levelText callPutText monthText fieldTexts inFront trimmed withCommas lineText linesText textOf
+unfolding every rewrites same all onto pieces indexOf made numeral fieldNumber nameOf typeOf isAbsolute limitsOf limitOf kindOf timeOf letterOf malformed otherFirm outOfRange levelClash unitClash faultOf scopeOf ruleOf lineOf withRoot rootsWith numbered joined howMany isFirmRule onUnit crowded tooMany afterLine readOn outcomeOf covers digitsUpTo nameBytes decimal typeName limitText windowText rootText levelText callPutText monthText fieldTexts beforeFields trimmed withCommas lineText linesText textOf
 computed = (refl, refl)
 
 -- every row, on any memory that may be armed

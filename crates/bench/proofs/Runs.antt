@@ -13,16 +13,16 @@ use Rattle.calls.specs.Calls.{memoryRefusal}
 use Rattle.demand.specs.Run.{Event, afterCall, runFrom}
 use Rattle.promises.proofs.Holds.{Holds, ready-holds, call-answers, call-holds}
 use Rattle.promises.proofs.Unarmed.{unarmed-accepts, unarmed-armed}
-use Rattle.bench.specs.Rows.{answersThen, answersOf}
-use Rattle.bench.specs.Library.{Library, Meets, Unarmed, answersBy, refusalIn}
+use Rattle.bench.specs.Rows.{answersThen, machineAnswers}
+use Rattle.bench.specs.Library.{Library, Meets, Unarmed, answersBy, armRefusalIn}
 use Rattle.bench.specs.Lent.{Memory, Text, Called}
 
 module _ (l : Library) (meets : Meets l) where
   -- arming with an accepted text
   module _ (m : Memory) (t : Text) (u : Unarmed m) (ok : outcomeOf (t .now) .refusal ≡ 0) where
-    pub arm-accepted : refusalIn (l .arm m t .answer) ≡ 0
-    unfolding refusalIn
-    arm-accepted = ap refusalIn (meets .armAnswers m t ∙ unarmed-accepts (m .now) (u .long) (u .mark) (t .now) ok)
+    pub arm-accepted : armRefusalIn (l .arm m t .answer) ≡ 0
+    unfolding armRefusalIn
+    arm-accepted = ap armRefusalIn (meets .armAnswers m t ∙ unarmed-accepts (m .now) (u .long) (u .mark) (t .now) ok)
 
     pub arm-leaves : Holds (armed (outcomeOf (t .now) .profile)) (drop size (m .now)) (l .arm m t .memory .now)
     arm-leaves =
@@ -47,12 +47,12 @@ module _ (l : Library) (meets : Meets l) where
       ∙ answers-on (l .call m c .memory) (call-leaves m h c) _ day
 
   -- a day of calls on sound memory is a day of the machine
-  pub day-answers : (m : Memory) → memoryRefusal (m .now) ≡ 0 → (day : List Called) → answersBy l m day ≡ answersOf (decode (m .now)) (map (λ c. c .call) day)
-  unfolding answersThen answersOf
+  pub day-answers : (m : Memory) → memoryRefusal (m .now) ≡ 0 → (day : List Called) → answersBy l m day ≡ machineAnswers (decode (m .now)) (map (λ c. c .call) day)
+  unfolding answersThen machineAnswers
   day-answers m ready day = answers-on m (ready-holds (m .now) ready) [] day
 
   -- and so is one that begins with arming
   pub armed-answers : (m : Memory) (t : Text) → Unarmed m → outcomeOf (t .now) .refusal ≡ 0 → (day : List Called)
-      → answersBy l (l .arm m t .memory) day ≡ answersOf (armed (outcomeOf (t .now) .profile)) (map (λ c. c .call) day)
-  unfolding answersThen answersOf
+      → answersBy l (l .arm m t .memory) day ≡ machineAnswers (armed (outcomeOf (t .now) .profile)) (map (λ c. c .call) day)
+  unfolding answersThen machineAnswers
   armed-answers m t u ok day = answers-on (l .arm m t .memory) (arm-leaves m t u ok) [] day

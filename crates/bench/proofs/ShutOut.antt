@@ -27,7 +27,7 @@ use Rattle.promises.proofs.Holds.{ready-holds, holds-ready}
 use Rattle.promises.proofs.Answered.{acted-answer, refused-by, by-refused, taken}
 use Rattle.bench.specs.Lent.{Memory, Text, Verdict, numbersIn, Called, Offered, called}
 use Rattle.bench.specs.Library.{Library, Meets, Unarmed, answersBy, RefusesTexts, RefusesCalls, GrantsAlways, ArmStoresNothing, StoresNoFill, CountsFirstOnly, hundred, forty}
-use Rattle.laws.specs.One.{one}
+use Rattle.laws.specs.One.{alike}
 use Rattle.bench.proofs.Words.{below-zeros, tested-below}
 use Rattle.bench.proofs.Computed.{hundred-read, forties}
 use Rattle.bench.proofs.Runs.{arm-accepted, arm-leaves, call-leaves, armed-answers}
@@ -174,7 +174,7 @@ module _ (l : Library) (meets : Meets l) where
 -- an invented Remaining or Status, or any other invention: two libraries that meet the contracts answer alike and leave the same memory
 module _ (l k : Library) (meets : Meets l) (too : Meets k) where
   pub same-answer : (m : Memory) (c : Called) → l .call m c .answer ≡ k .call m c .answer
-  same-answer m c = one (meets .callAnswers m c) (too .callAnswers m c)
+  same-answer m c = alike (meets .callAnswers m c) (too .callAnswers m c)
 
   pub not-inventing-remaining : (m : Memory) (c : Called) (time rule unit : ℕ) → c .call ≡ remaining time rule unit → l .call m c .answer ≡ k .call m c .answer
   not-inventing-remaining m c time rule unit is = same-answer m c
@@ -183,16 +183,16 @@ module _ (l k : Library) (meets : Meets l) (too : Meets k) where
   not-inventing-status m c is = same-answer m c
 
   pub same-memory : (m : Memory) (c : Called) → l .call m c .memory .now ≡ k .call m c .memory .now
-  same-memory m c = one (meets .callLeaves m c) (too .callLeaves m c)
+  same-memory m c = alike (meets .callLeaves m c) (too .callLeaves m c)
 
   pub same-clear : (m : Memory) → (l .clear m .answer ≡ k .clear m .answer) × (l .clear m .memory .now ≡ k .clear m .memory .now)
-  same-clear m = (one (meets .clearAnswers m) (too .clearAnswers m), one (meets .clearLeaves m) (too .clearLeaves m))
+  same-clear m = (alike (meets .clearAnswers m) (too .clearAnswers m), alike (meets .clearLeaves m) (too .clearLeaves m))
 
   pub same-text : (v : Verdict) (room : Text) → (l .text v room .answer ≡ k .text v room .answer) × (l .text v room .room .now ≡ k .text v room .room .now)
-  same-text v room = (one (meets .textAnswers v room) (too .textAnswers v room), one (meets .textLeaves v room) (too .textLeaves v room))
+  same-text v room = (alike (meets .textAnswers v room) (too .textAnswers v room), alike (meets .textLeaves v room) (too .textLeaves v room))
 
   pub same-arm-answer : (m : Memory) (t : Text) → l .arm m t .answer ≡ k .arm m t .answer
-  same-arm-answer m t = one (meets .armAnswers m t) (too .armAnswers m t)
+  same-arm-answer m t = alike (meets .armAnswers m t) (too .armAnswers m t)
 
   pub same-arm-memory : (m : Memory) (t : Text) → l .arm m t .memory .now ≡ k .arm m t .memory .now
-  same-arm-memory m t = one (meets .armLeaves m t) (too .armLeaves m t)
+  same-arm-memory m t = alike (meets .armLeaves m t) (too .armLeaves m t)

@@ -16,7 +16,7 @@ use Rattle.bits.proofs.Packing.{packed-lt}
 use Rattle.rules.specs.declared.Rule.{Rule}
 use Rattle.rules.specs.declared.Account.{Account}
 use Rattle.text.specs.Text.{isNameByte}
-use Rattle.tables.specs.Tables.{zeros, flat, table}
+use Rattle.tables.specs.Tables.{zeros, flat, tableNumbers}
 use Rattle.laws.specs.Folds.{every}
 use Rattle.rules.specs.Amounts.{numberOf}
 use Rattle.rules.specs.Valid.{isRule}
@@ -32,7 +32,7 @@ use Rattle.register.proofs.Shapes.{register-written}
 use Rattle.register.proofs.SentPlace.{sent-fit, open-fit}
 use Rattle.packing.specs.RulePlace.{limitWidths, limitValues, scopeWidths, scopeValues, ruleNumbers, rulesShape}
 use Rattle.packing.specs.EntryPlace.{fillWidths, fillValues, amountWidths, amountValues, entryNumbers, logShape, flagNumber}
-use Rattle.shapes.specs.Shape.{one, both, named, word, flag, rows, table as counted}
+use Rattle.shapes.specs.Shape.{cell, both, named, word, flag, rows, table as counted}
 use Rattle.packing.proofs.Shapes.{rules-written, log-written}
 use Rattle.packing.proofs.RulePlace.{limit-fit, scope-fit}
 use Rattle.packing.proofs.EntryPlace.{fill-fit, amount-fit}
@@ -41,7 +41,7 @@ use Rattle.given.specs.Given.{areRoots}
 use Rattle.text.proofs.Bytes.{made-most}
 use Rattle.text.proofs.InBase.{digits-room}
 use Rattle.given.specs.Parts.{totalsSize}
-use Rattle.state.specs.State.{size, number, marksOf, locksShape, linesOf, profileShape, totalsShape, partShape, numbersShape, totalsIn, numbersOf, encode, stored}
+use Rattle.state.specs.State.{size, number, marksOf, locksShape, asTuple, profileShape, totalsShape, partShape, numbersShape, totalsIn, numbersOf, encode, stored}
 use Rattle.state.specs.Sound.{SoundState}
 use Rattle.state.proofs.Exactly.{MadeParts}
 use Rattle.bench.specs.Lent.{Below}
@@ -77,8 +77,8 @@ module _ {A : Type 0} (ok : A → Bool) (enc : A → List ℕ) (each : (a : A) �
   below-flat (r ∷ rs) h =
       below-append (2 ^ 64) (enc r) (flat enc rs) (each r (and-l (ok r) (every ok rs) h)) (below-flat rs (and-r (ok r) (every ok rs) h))
 
-  below-table : (w n : ℕ) (rs : List A) → every ok rs ≡ true → Below (2 ^ 64) (table w n enc rs)
-  unfolding table
+  below-table : (w n : ℕ) (rs : List A) → every ok rs ≡ true → Below (2 ^ 64) (tableNumbers w n enc rs)
+  unfolding tableNumbers
   below-table w n rs h = below-append (2 ^ 64) (flat enc rs) (zeros (n * w - length rs * w)) (below-flat rs h) (below-zeros (n * w - length rs * w))
 
 -- ---- the parts of a state
@@ -121,8 +121,8 @@ unfolding flat
 flat-ones [] p = tt
 flat-ones (x ∷ xs) p = (p .0, flat-ones xs (p .1))
 
-ones-words : (n : ℕ) (xs : List ℕ) → Below (2 ^ 64) xs → Below (2 ^ 64) (table 1 n (λ x. x ∷ []) xs)
-unfolding table
+ones-words : (n : ℕ) (xs : List ℕ) → Below (2 ^ 64) xs → Below (2 ^ 64) (tableNumbers 1 n (λ x. x ∷ []) xs)
+unfolding tableNumbers
 ones-words n xs p = below-append (2 ^ 64) (flat (λ x. x ∷ []) xs) (zeros (n * 1 - length xs * 1)) (flat-ones xs p) (below-zeros (n * 1 - length xs * 1))
 
 flag-word : (b : Bool) → flagNumber b < 2 ^ 64
@@ -143,7 +143,7 @@ module _ (s : State) (k : SoundState s) (m : MadeParts (s .part .profile)) where
   few = m .few
 
   roots-words : Below (2 ^ 64) (counted 64 number .write (s .part .profile .roots))
-  unfolding counted named both rows one number table
+  unfolding counted named both rows cell number tableNumbers
   roots-words = (under n 64 64 few tt, ones-words 64 (s .part .profile .roots) (names-words (s .part .profile .roots) (m .names)))
 
   rules-words : Below (2 ^ 64) (rulesShape n .write rules)
@@ -152,15 +152,15 @@ module _ (s : State) (k : SoundState s) (m : MadeParts (s .part .profile)) where
       (under (length rules) 256 64 (m .most) tt, below-table (isRule n) ruleNumbers (rule-words n few) 2 256 rules (m .valid))
 
   profile-words : Below (2 ^ 64) (profileShape .write (s .part .profile))
-  unfolding profileShape linesOf named both number one
+  unfolding profileShape asTuple named both number cell
   profile-words = (name-word 4 (s .part .profile .firm) (lit≤ tt) (m .firm), below-append (2 ^ 64) (counted 64 number .write (s .part .profile .roots)) (rulesShape n .write rules) roots-words rules-words)
 
   sums-words : Below (2 ^ 64) (totalsShape rules .write sums)
-  unfolding totalsShape rows one number table
+  unfolding totalsShape rows cell number tableNumbers
   sums-words = ones-words totalsSize sums (totals-words (s .part .accounts) (k .totals))
 
   locks-words : Below (2 ^ 64) (locksShape .write (s .part .locks))
-  unfolding locksShape marksOf named both word flag number one rootsIn
+  unfolding locksShape marksOf named both word flag number cell rootsIn
   locks-words = (
     flag-word (s .part .locks .firmTripped),
     (flag-word (s .part .locks .firmByUser), (lt-of-lt-of-le (k .tripped) (pow-mono few), (lt-of-lt-of-le (k .byUser) (pow-mono few), tt))),
@@ -179,7 +179,7 @@ module _ (s : State) (k : SoundState s) (m : MadeParts (s .part .profile)) where
       (under (length (s .log)) 512 64 (k .number) tt, below-table (isEntry n) entryNumbers (entry-words n few) 2 512 (s .log) (k .entries))
 
   encode-words : Below (2 ^ 64) (encode s)
-  unfolding encode numbersOf numbersShape partShape both number one
+  unfolding encode numbersOf numbersShape partShape both number cell
   encode-words =
       let clock = under (s .part .clock) (times .most) 64 (k .clock .1) tt in
       let sums-then = totalsShape rules .write sums in

@@ -3,7 +3,7 @@ use Prim.Native.Nat.{ℕ, zero, suc}
 use mathlib.Core.List.{List, [], _∷_, _++_}
 use Rattle.machine.specs.Calls.{Call, order, send, report, close}
 use Rattle.bench.specs.Rows.{Row}
-use Rattle.bench.specs.Table.{fill, at, grants, leaves, leavesOn, ordered, locksOut, stands, lockedOut, refused, offers}
+use Rattle.bench.specs.Table.{fill, at, grants, leaves, leavesOn, orderRow, lockoutRow, stands, verdictRow, refused, offerOf}
 
 -- an order of contracts of root 0, unit 0, at a premium of 1, to be sent away under an identity with so many reports
 abbrev sends : ℕ → ℕ → ℕ → ℕ → Call
@@ -11,7 +11,7 @@ sends time contracts identity reports = send (record { time = time; root = 0; un
 
 -- it is sent
 abbrev goes : ℕ → ℕ → ℕ → ℕ → Call × List ℕ
-goes time contracts identity reports = (sends time contracts identity reports, lockedOut 0)
+goes time contracts identity reports = (sends time contracts identity reports, verdictRow 0)
 
 -- so many contracts came back, and the answer
 abbrev back : ℕ → ℕ → ℕ → List ℕ → Call × List ℕ
@@ -19,7 +19,7 @@ back time identity contracts answer = (report time identity contracts, answer)
 
 -- it is closed
 abbrev ends : ℕ → ℕ → Call × List ℕ
-ends time identity = (close time identity, lockedOut 0)
+ends time identity = (close time identity, verdictRow 0)
 
 -- n orders of 16 reports each, under the identities from 0 on, all sent at time 0
 abbrev many : ℕ → List (Call × List ℕ)
@@ -40,7 +40,7 @@ away =
           ∷ leaves 1 0 40
           ∷ refused (report 1 7 31) 19
           ∷ at 2 1 50 (grants 40 1 0)
-          ∷ ordered 3 0 2
+          ∷ orderRow 3 0 2
           ∷ refused (report 2 7 1) 12
           ∷ back 4 7 20 (grants 20 1 0)
           ∷ leaves 4 0 0
@@ -50,7 +50,7 @@ away =
           ∷ ends 6 7
           ∷ refused (report 6 7 1) 18
           ∷ refused (close 6 7) 18
-          ∷ ordered 7 1 0
+          ∷ orderRow 7 1 0
           ∷ goes 8 100 7 1
           ∷ back 9 7 99 (grants 99 0 0)
           ∷ refused (report 9 7 1) 19
@@ -60,7 +60,7 @@ away =
     ∷ record {
       text = "ABCD,abs_vol,XYZ,100";
       windows = 0 ∷ [];
-      day = goes 0 500 1 2 ∷ back 0 1 100 (grants 100 1 0) ∷ ordered 0 4 0 ∷ back 1 1 400 (grants 400 1 0) ∷ leaves 1 0 0 ∷ stands 1 0 1 0 ∷ [];
+      day = goes 0 500 1 2 ∷ back 0 1 100 (grants 100 1 0) ∷ orderRow 0 4 0 ∷ back 1 1 400 (grants 400 1 0) ∷ leaves 1 0 0 ∷ stands 1 0 1 0 ∷ [];
     }
     -- a rate rule trips above its limit, not at it; the firm's rules count what came back too
     ∷ record {
@@ -73,9 +73,9 @@ away =
           ∷ leaves 0 0 0
           ∷ leaves 0 1 400
           ∷ back 1 2 1 (grants 1 1 0)
-          ∷ at 2 1 1 (lockedOut 2)
+          ∷ at 2 1 1 (verdictRow 2)
           ∷ back 1001 2 399 (grants 399 1 1)
-          ∷ ordered 1001 1 1
+          ∷ orderRow 1001 1 1
           ∷ leaves 1001 0 100
           ∷ [];
     }
@@ -84,7 +84,7 @@ away =
       text = "ABCD,abs_ntnl,XYZ,1";
       windows = 0 ∷ [];
       day =
-          (send (record { time = 0; root = 0; unit = 2; premium = 2_500; contracts = 4 }) 9 2, lockedOut 0)
+          (send (record { time = 0; root = 0; unit = 2; premium = 2_500; contracts = 4 }) 9 2, verdictRow 0)
           ∷ back 0 9 3 (grants 3 0 0)
           ∷ leavesOn 2 0 0 2_500
           ∷ leavesOn 1 0 0 10_000
@@ -97,14 +97,14 @@ away =
       windows = 0 ∷ 0 ∷ [];
       day =
           goes 0 10 1 2
-          ∷ locksOut 1 0
-          ∷ (sends 1 5 2 1, lockedOut 2)
+          ∷ lockoutRow 1 0
+          ∷ (sends 1 5 2 1, verdictRow 2)
           ∷ refused (report 1 2 1) 18
-          ∷ locksOut 2 1
-          ∷ (sends 2 5 2 1, lockedOut 1)
+          ∷ lockoutRow 2 1
+          ∷ (sends 2 5 2 1, verdictRow 1)
           ∷ refused (sends 2 5 1 1) 18
           ∷ back 3 1 4 (grants 4 0 0)
-          ∷ ordered 4 3 0
+          ∷ orderRow 4 3 0
           ∷ leaves 4 0 10
           ∷ back 5 1 6 (grants 6 0 0)
           ∷ leaves 5 0 4
@@ -116,7 +116,7 @@ away =
       text = "ABCD,abs_vol,XYZ,10";
       windows = 0 ∷ [];
       day =
-          ordered 5 0 0
+          orderRow 5 0 0
           ∷ refused (sends 4 0 65_536 0) 12
           ∷ refused (sends 5 0 65_536 0) 13
           ∷ refused (sends 5 0 1 1) 14
@@ -147,17 +147,17 @@ away =
       windows = 1000 ∷ [];
       day =
           many 32
-          ++ (refused (offers 0 0 1 1) 15
+          ++ (refused (offerOf 0 0 1 1) 15
           ∷ refused (sends 0 1 32 1) 15
           ∷ back 0 5 1 (grants 1 0 0)
-          ∷ refused (offers 0 0 1 1) 15
+          ∷ refused (offerOf 0 0 1 1) 15
           ∷ ends 0 5
           ∷ at 0 1 1 (grants 1 0 0)
           ∷ goes 0 1 32 14
           ∷ refused (sends 0 1 33 1) 15
-          ∷ refused (offers 0 0 1 1) 15
-          ∷ locksOut 0 0
-          ∷ (sends 0 1 33 1, lockedOut 2)
+          ∷ refused (offerOf 0 0 1 1) 15
+          ∷ lockoutRow 0 0
+          ∷ (sends 0 1 33 1, verdictRow 2)
           ∷ []);
     }
     ∷ []

@@ -23,7 +23,7 @@ use Rattle.demand.specs.Demand.{Demand3}
 use Rattle.bench.specs.Lent.{Memory, Text, Verdict, Called, Offered, called}
 
 -- an answer, and the memory after it
-pub record Outcome (A : Type 0) : Type 0 where
+pub record Reply (A : Type 0) : Type 0 where
   pub answer : A
   pub memory : Memory
 
@@ -34,9 +34,9 @@ pub record Saying : Type 0 where
 
 -- the eleven calls: Arm on a memory and a text; Clear; order, lockout, offer, Remaining, Status, send, report and close, as they are called; Text for a verdict, in a room
 pub record Library : Type 0 where
-  pub arm : Memory → Text → Outcome Reading
-  pub clear : Memory → Outcome Clearing
-  pub call : Memory → Called → Outcome Answer
+  pub arm : Memory → Text → Reply Reading
+  pub clear : Memory → Reply Clearing
+  pub call : Memory → Called → Reply Answer
   pub text : Verdict → Text → Saying
 
 -- it meets the contracts: each answer, and each memory and room after, is as they say
@@ -61,9 +61,9 @@ answersBy l m [] = []
 answersBy l m (c ∷ day) = l .call m c .answer ∷ answersBy l (l .call m c .memory) day
 
 -- the refusal in Arm's answer, 0 if there is none
-unfoldable pub refusalIn : Reading → ℕ
-refusalIn (Accepted firm rules roots) = 0
-refusalIn (NotRead number line) = number
+unfoldable pub armRefusalIn : Reading → ℕ
+armRefusalIn (Accepted firm rules roots) = 0
+armRefusalIn (NotRead number line) = number
 
 -- the calls and answers of a day, the newest first, before them those of an earlier part of it
 unfoldable pub historyBy : Library → Memory → List Called → List Event → List Event
@@ -81,7 +81,7 @@ MeetsDemand3 l =
 
 -- one that refuses everything: each text, or each call
 abbrev pub RefusesTexts : Library → Type 0
-RefusesTexts l = (m : Memory) (t : Text) → refusalIn (l .arm m t .answer) ≡ 0 → ⊥
+RefusesTexts l = (m : Memory) (t : Text) → armRefusalIn (l .arm m t .answer) ≡ 0 → ⊥
 
 abbrev pub RefusesCalls : Library → Type 0
 RefusesCalls l = (m : Memory) (c : Called) → isRefusal (l .call m c .answer) ≡ true
@@ -119,5 +119,5 @@ armedBy l m t = l .arm m t .memory
 abbrev pub answerTo : Library → Offered → Memory → Answer
 answerTo l o m = l .call m (called o) .answer
 
-abbrev pub memoryAfter : Library → Offered → Memory → Memory
-memoryAfter l o m = l .call m (called o) .memory
+abbrev pub memoryLeftBy : Library → Offered → Memory → Memory
+memoryLeftBy l o m = l .call m (called o) .memory

@@ -14,7 +14,7 @@ use Rattle.machine.specs.Offers.{windowOf}
 use Rattle.machine.specs.declared.Answer.{Answer}
 use Rattle.demand.specs.Run.{Event, runFrom}
 use Rattle.bench.specs.Lent.{Memory, Text, Called}
-use Rattle.bench.specs.Library.{Library, answersBy, refusalIn}
+use Rattle.bench.specs.Library.{Library, answersBy, armRefusalIn}
 
 -- a window of 0 stands for an absolute rule; an answer is its row of document 01's numbers, the refusal first
 pub record Row : Type 0 where
@@ -31,8 +31,8 @@ answersThen [] later = later
 answersThen (event ∷ earlier) later = answersThen earlier (event .answer ∷ later)
 
 -- what the machine answers to calls, one after the other
-unfoldable pub answersOf : State → List Call → List Answer
-answersOf s calls = answersThen (runFrom (record { now = s; history = [] }) calls .history) []
+unfoldable pub machineAnswers : State → List Call → List Answer
+machineAnswers s calls = answersThen (runFrom (record { now = s; history = [] }) calls .history) []
 
 -- what is seen of a row on the machine: the refusal of its text, the windows of the rules that are read, and the numbers of the answers on a unit so armed
 pub record Seen : Type 0 where
@@ -47,7 +47,7 @@ unfoldable pub seen : Row → Seen
 seen row = record {
   refusal = outcomeOf (bytes (row .text)) .refusal;
   windows = windowsOf (outcomeOf (bytes (row .text)) .profile .rules);
-  answers = map numbers (answersOf (armed (outcomeOf (bytes (row .text)) .profile)) (callsOf row));
+  answers = map numbers (machineAnswers (armed (outcomeOf (bytes (row .text)) .profile)) (callsOf row));
 }
 
 -- what has to be seen
@@ -57,7 +57,7 @@ wanted row = record { refusal = 0; windows = row .windows; answers = map (λ c. 
 -- what is seen of a library that is given a memory, a text and a day of calls
 unfoldable pub seenBy : Library → Memory → Text → List Called → Seen
 seenBy l m t day = record {
-  refusal = refusalIn (l .arm m t .answer);
+  refusal = armRefusalIn (l .arm m t .answer);
   windows = windowsOf (decode (l .arm m t .memory .now) .part .profile .rules);
   answers = map numbers (answersBy l (l .arm m t .memory) day);
 }

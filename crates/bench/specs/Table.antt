@@ -26,28 +26,28 @@ abbrev pub leaves : ℕ → ℕ → ℕ → Call × List ℕ
 leaves time rule left = leavesOn 0 time rule left
 
 -- an order for root 0 with a reset, and its verdict
-abbrev pub ordered : ℕ → ℕ → ℕ → Call × List ℕ
-ordered time reset verdict = (order time 0 reset, 0 ∷ verdict ∷ 0 ∷ 0 ∷ 0 ∷ [])
+abbrev pub orderRow : ℕ → ℕ → ℕ → Call × List ℕ
+orderRow time reset verdict = (order time 0 reset, 0 ∷ verdict ∷ 0 ∷ 0 ∷ 0 ∷ [])
 
 -- a lockout of root 0 or of the firm: verdict 0
-abbrev pub locksOut : ℕ → ℕ → Call × List ℕ
-locksOut time level = (lockout time level 0, 0 ∷ 0 ∷ 0 ∷ 0 ∷ 0 ∷ [])
+abbrev pub lockoutRow : ℕ → ℕ → Call × List ℕ
+lockoutRow time level = (lockout time level 0, 0 ∷ 0 ∷ 0 ∷ 0 ∷ 0 ∷ [])
 
 -- how many roots are tripped, locked by the user, locked at all, and the lowest locked root
 abbrev pub stands : ℕ → ℕ → ℕ → ℕ → Call × List ℕ
 stands tripped user locked lowest = (status, 0 ∷ tripped ∷ user ∷ locked ∷ lowest ∷ [])
 
 -- a verdict, with nothing granted and nothing tripped
-abbrev pub lockedOut : ℕ → List ℕ
-lockedOut verdict = 0 ∷ verdict ∷ 0 ∷ 0 ∷ 0 ∷ []
+abbrev pub verdictRow : ℕ → List ℕ
+verdictRow verdict = 0 ∷ verdict ∷ 0 ∷ 0 ∷ 0 ∷ []
 
 -- a refusal
 abbrev pub refused : Call → ℕ → Call × List ℕ
 refused call number = (call, number ∷ 0 ∷ 0 ∷ 0 ∷ 0 ∷ [])
 
 -- an offer of root 0
-abbrev pub offers : ℕ → ℕ → ℕ → ℕ → Call
-offers time unit premium contracts = offer (record { time = time; root = 0; unit = unit; premium = premium; contracts = contracts })
+abbrev pub offerOf : ℕ → ℕ → ℕ → ℕ → Call
+offerOf time unit premium contracts = offer (record { time = time; root = 0; unit = unit; premium = premium; contracts = contracts })
 
 -- n fills of 1 contract at $1, one a millisecond from 0 on, all granted
 abbrev ones : ℕ → List (Call × List ℕ)
@@ -63,8 +63,8 @@ steady (suc n) = steady n ++ (at (seconds n) 10_000 500 (grants 500 0 0) ∷ [])
     seconds zero = 0
     seconds (suc k) = seconds k + 1000
 
-unfoldable pub table : List Row
-table =
+unfoldable pub benchTable : List Row
+benchTable =
     -- B1: $980 of $1,000 a minute counted; 2 of 3 at $7 make $994
     record {
       text = "ABCD,rate_ntnl,XYZ,1000,60000";
@@ -83,8 +83,8 @@ table =
           ∷ leaves 38_500 1 1000
           ∷ leaves 38_500 2 750_000_000
           ∷ at 38_500 10_000 200 (grants 100 1 0)
-          ∷ ordered 38_600 0 2
-          ∷ ordered 38_600 1 0
+          ∷ orderRow 38_600 0 2
+          ∷ orderRow 38_600 1 0
           ∷ leaves 38_600 0 500
           ∷ leaves 38_600 1 20_000
           ∷ leaves 38_600 2 1_000_000_000
@@ -157,13 +157,13 @@ examples =
     ∷ record {
       text = "ABCD,abs_vol,XYZ,1000,0";
       windows = 0 ∷ [];
-      day = at 0 70_000 950 (grants 950 0 0) ∷ at 10 70_000 200 (grants 50 1 0) ∷ ordered 20 0 2 ∷ [];
+      day = at 0 70_000 950 (grants 950 0 0) ∷ at 10 70_000 200 (grants 50 1 0) ∷ orderRow 20 0 2 ∷ [];
     }
     -- an eleventh execution within a second fails
     ∷ record {
       text = "ABCD,rate_count,XYZ,10,1000";
       windows = 1000 ∷ [];
-      day = ones 10 ++ (at 500 10_000 1 (grants 0 1 0) ∷ ordered 501 0 2 ∷ []);
+      day = ones 10 ++ (at 500 10_000 1 (grants 0 1 0) ∷ orderRow 501 0 2 ∷ []);
     }
     -- $100 a second, $5,000 in five minutes, 10,000 executions: the burst is cut first
     ∷ record {
@@ -181,6 +181,6 @@ examples =
     ∷ record {
       text = "ABCD,rate_vol,XYZ,10,1000\nABCD,rate_vol,,10,1000,T";
       windows = 1000 ∷ 1000 ∷ [];
-      day = at 0 10_000 6 (grants 6 0 0) ∷ ordered 1 1 0 ∷ leaves 1 0 10 ∷ leaves 1 1 4 ∷ at 1 10_000 6 (grants 4 0 1) ∷ [];
+      day = at 0 10_000 6 (grants 6 0 0) ∷ orderRow 1 1 0 ∷ leaves 1 0 10 ∷ leaves 1 1 4 ∷ at 1 10_000 6 (grants 4 0 1) ∷ [];
     }
     ∷ []

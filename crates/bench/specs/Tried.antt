@@ -11,7 +11,7 @@ use Rattle.machine.specs.Calls.{Call, order, lockout, remaining}
 use Rattle.bench.specs.Lent.{Memory, Text, Verdict}
 use Rattle.bench.specs.Library.{Library}
 use Rattle.bench.specs.Rows.{Row}
-use Rattle.bench.specs.Table.{fill, at, grants, leaves, leavesOn, ordered, locksOut, stands, lockedOut, refused, offers}
+use Rattle.bench.specs.Table.{fill, at, grants, leaves, leavesOn, orderRow, lockoutRow, stands, verdictRow, refused, offerOf}
 use Rattle.bench.specs.Away.{away}
 
 -- a root that is full and a firm that is locked out, orders at one time, and what is left of the two root rules and of the firm's; nothing is locked then
@@ -19,7 +19,7 @@ abbrev cleaned : List (Call × List ℕ) → ℕ → ℕ → ℕ → Row
 cleaned orders total logged firm = record {
   text = "ABCD,abs_vol,XYZ,10\nABCD,rate_vol,XYZ,50,1000\nABCD,abs_vol,,15,,T";
   windows = 0 ∷ 1000 ∷ 0 ∷ [];
-  day = at 0 1 10 (grants 10 1 0) ∷ locksOut 1 1 ∷ orders ++ (leaves 5 0 total ∷ leaves 5 1 logged ∷ leaves 5 2 firm ∷ stands 0 0 0 64 ∷ []);
+  day = at 0 1 10 (grants 10 1 0) ∷ lockoutRow 1 1 ∷ orders ++ (leaves 5 0 total ∷ leaves 5 1 logged ∷ leaves 5 2 firm ∷ stands 0 0 0 64 ∷ []);
 }
 
 -- two full roots and a locked firm, orders at one time, and how the roots stand then
@@ -31,7 +31,7 @@ apart orders = record {
       fill 0 0 0 1 10 (grants 10 1 0)
       ∷ fill 0 1 0 1 10 (grants 10 1 0)
       ∷ stands 2 0 2 0
-      ∷ locksOut 1 1
+      ∷ lockoutRow 1 1
       ∷ orders ++ (stands 0 0 0 64 ∷ leaves 5 0 10 ∷ leaves 5 1 10 ∷ []);
 }
 
@@ -41,7 +41,7 @@ tried =
     record {
       text = "ABCD,abs_vol,XYZ,10,,,C,T";
       windows = 0 ∷ [];
-      day = fill 0 0 2 1 500 (grants 500 0 0) ∷ leavesOn 1 0 0 10 ∷ refused (remaining 0 0 0) 13 ∷ fill 1 0 1 1 12 (grants 10 1 0) ∷ ordered 2 0 2 ∷ [];
+      day = fill 0 0 2 1 500 (grants 500 0 0) ∷ leavesOn 1 0 0 10 ∷ refused (remaining 0 0 0) 13 ∷ fill 1 0 1 1 12 (grants 10 1 0) ∷ orderRow 2 0 2 ∷ [];
     }
     -- each unit counts for itself: a unit that is tripped locks its root for the others too, and SYMBOL zeroes all four
     ∷ record {
@@ -57,8 +57,8 @@ tried =
           ∷ leavesOn 2 4 0 20
           ∷ leavesOn 3 4 0 10
           ∷ fill 5 0 2 1 30 (grants 20 1 0)
-          ∷ fill 6 0 0 1 1 (lockedOut 2)
-          ∷ ordered 7 1 0
+          ∷ fill 6 0 0 1 1 (verdictRow 2)
+          ∷ orderRow 7 1 0
           ∷ leavesOn 0 7 0 100
           ∷ leavesOn 1 7 0 100
           ∷ leavesOn 2 7 0 100
@@ -77,19 +77,19 @@ tried =
       windows = 0 ∷ 0 ∷ [];
       day =
           at 0 1 10 (grants 10 1 0)
-          ∷ ordered 1 1 0
+          ∷ orderRow 1 1 0
           ∷ at 2 1 7 (grants 5 0 1)
-          ∷ ordered 3 0 1
-          ∷ ordered 4 1 1
-          ∷ at 5 1 1 (lockedOut 1)
-          ∷ ordered 6 2 0
+          ∷ orderRow 3 0 1
+          ∷ orderRow 4 1 1
+          ∷ at 5 1 1 (verdictRow 1)
+          ∷ orderRow 6 2 0
           ∷ leaves 6 0 10
           ∷ leaves 6 1 15
           ∷ at 7 1 10 (grants 10 1 0)
-          ∷ ordered 8 2 2
+          ∷ orderRow 8 2 2
           ∷ leaves 8 0 0
           ∷ leaves 8 1 15
-          ∷ ordered 9 3 0
+          ∷ orderRow 9 3 0
           ∷ leaves 9 0 10
           ∷ leaves 9 1 15
           ∷ [];
@@ -101,16 +101,16 @@ tried =
       windows = 0 ∷ [];
       day =
           at 0 1 10 (grants 10 1 0)
-          ∷ ordered 1 0 2
+          ∷ orderRow 1 0 2
           ∷ leaves 1 0 0
-          ∷ ordered 2 4 0
+          ∷ orderRow 2 4 0
           ∷ leaves 2 0 0
           ∷ fill 3 0 1 1 3 (grants 3 0 0)
           ∷ at 4 1 1 (grants 0 1 0)
-          ∷ ordered 5 0 2
-          ∷ locksOut 6 0
-          ∷ ordered 7 5 2
-          ∷ ordered 8 4 0
+          ∷ orderRow 5 0 2
+          ∷ lockoutRow 6 0
+          ∷ orderRow 7 5 2
+          ∷ orderRow 8 4 0
           ∷ stands 0 0 0 64
           ∷ [];
     }
@@ -120,31 +120,31 @@ tried =
       windows = 0 ∷ 0 ∷ [];
       day =
           at 0 1 15 (grants 15 0 1)
-          ∷ ordered 1 4 1
+          ∷ orderRow 1 4 1
           ∷ leaves 1 1 0
-          ∷ ordered 2 5 0
+          ∷ orderRow 2 5 0
           ∷ leaves 2 1 0
           ∷ at 3 1 1 (grants 0 0 1)
-          ∷ locksOut 4 0
-          ∷ locksOut 4 1
-          ∷ ordered 5 5 2
-          ∷ locksOut 6 1
-          ∷ ordered 7 6 0
+          ∷ lockoutRow 4 0
+          ∷ lockoutRow 4 1
+          ∷ orderRow 5 5 2
+          ∷ lockoutRow 6 1
+          ∷ orderRow 7 6 0
           ∷ leaves 7 0 5
           ∷ leaves 7 1 0
           ∷ [];
     }
     -- resets at one time in either order, and twice, leave what BOTH leaves, and T and E what 6 leaves
-    ∷ cleaned (ordered 5 1 1 ∷ ordered 5 2 0 ∷ []) 10 50 15
-    ∷ cleaned (ordered 5 2 2 ∷ ordered 5 1 0 ∷ []) 10 50 15
-    ∷ cleaned (ordered 5 3 0 ∷ []) 10 50 15
-    ∷ cleaned (ordered 5 3 0 ∷ ordered 5 3 0 ∷ []) 10 50 15
-    ∷ cleaned (ordered 5 4 1 ∷ ordered 5 5 0 ∷ []) 0 40 5
-    ∷ cleaned (ordered 5 5 2 ∷ ordered 5 4 0 ∷ []) 0 40 5
-    ∷ cleaned (ordered 5 6 0 ∷ []) 0 40 5
+    ∷ cleaned (orderRow 5 1 1 ∷ orderRow 5 2 0 ∷ []) 10 50 15
+    ∷ cleaned (orderRow 5 2 2 ∷ orderRow 5 1 0 ∷ []) 10 50 15
+    ∷ cleaned (orderRow 5 3 0 ∷ []) 10 50 15
+    ∷ cleaned (orderRow 5 3 0 ∷ orderRow 5 3 0 ∷ []) 10 50 15
+    ∷ cleaned (orderRow 5 4 1 ∷ orderRow 5 5 0 ∷ []) 0 40 5
+    ∷ cleaned (orderRow 5 5 2 ∷ orderRow 5 4 0 ∷ []) 0 40 5
+    ∷ cleaned (orderRow 5 6 0 ∷ []) 0 40 5
     -- resets of two roots may be exchanged
-    ∷ apart ((order 5 0 1, lockedOut 1) ∷ (order 5 1 1, lockedOut 1) ∷ [])
-    ∷ apart ((order 5 1 1, lockedOut 1) ∷ (order 5 0 1, lockedOut 1) ∷ [])
+    ∷ apart ((order 5 0 1, verdictRow 1) ∷ (order 5 1 1, verdictRow 1) ∷ [])
+    ∷ apart ((order 5 1 1, verdictRow 1) ∷ (order 5 0 1, verdictRow 1) ∷ [])
     -- lockouts at both levels, and how two roots stand
     ∷ record {
       text = "ABCD,abs_vol,XYZ,10\nABCD,abs_vol,QRS,10";
@@ -153,13 +153,13 @@ tried =
           stands 0 0 0 64
           ∷ fill 0 1 0 1 10 (grants 10 1 0)
           ∷ stands 1 0 1 1
-          ∷ locksOut 1 0
+          ∷ lockoutRow 1 0
           ∷ stands 1 1 2 0
-          ∷ at 2 1 1 (lockedOut 2)
-          ∷ locksOut 3 1
-          ∷ ordered 4 0 1
-          ∷ ordered 5 2 2
-          ∷ ordered 6 1 0
+          ∷ at 2 1 1 (verdictRow 2)
+          ∷ lockoutRow 3 1
+          ∷ orderRow 4 0 1
+          ∷ orderRow 5 2 2
+          ∷ orderRow 6 1 0
           ∷ stands 1 0 1 1
           ∷ [];
     }
@@ -168,7 +168,7 @@ tried =
       text = "ABCD,abs_vol,XYZ,10";
       windows = 0 ∷ [];
       day =
-          ordered 5 0 0
+          orderRow 5 0 0
           ∷ refused (order 4 0 0) 12
           ∷ refused (order 86_400_000 9 9) 12
           ∷ refused (order 5 1 0) 13
@@ -176,17 +176,17 @@ tried =
           ∷ refused (lockout 5 2 0) 13
           ∷ refused (lockout 5 1 1) 13
           ∷ refused (lockout 5 0 1) 13
-          ∷ refused (offers 5 4 0 0) 13
-          ∷ refused (offers 5 0 0 1) 14
-          ∷ refused (offers 5 0 100_000_001 1) 14
-          ∷ refused (offers 5 0 1 0) 14
-          ∷ refused (offers 5 0 1 1_000_001) 14
+          ∷ refused (offerOf 5 4 0 0) 13
+          ∷ refused (offerOf 5 0 0 1) 14
+          ∷ refused (offerOf 5 0 100_000_001 1) 14
+          ∷ refused (offerOf 5 0 1 0) 14
+          ∷ refused (offerOf 5 0 1 1_000_001) 14
           ∷ refused (remaining 4 0 9) 12
           ∷ refused (remaining 5 1 0) 13
           ∷ refused (remaining 5 0 4) 13
           ∷ leavesOn 3 5 0 10
           ∷ leaves 6 0 10
-          ∷ ordered 5 0 0
+          ∷ orderRow 5 0 0
           ∷ [];
     }
     -- a profile of firm rules alone has no root: orders and offers get 13
@@ -195,9 +195,9 @@ tried =
       windows = 0 ∷ [];
       day =
           refused (order 0 0 0) 13
-          ∷ refused (offers 0 0 1 1) 13
+          ∷ refused (offerOf 0 0 1 1) 13
           ∷ refused (lockout 0 0 0) 13
-          ∷ locksOut 0 1
+          ∷ lockoutRow 0 1
           ∷ leaves 0 0 100
           ∷ refused (remaining 0 0 1) 13
           ∷ stands 0 0 0 64

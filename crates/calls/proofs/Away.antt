@@ -26,7 +26,7 @@ use Rattle.machine.proofs.Register.{SentIn, sent-in, in-sent, open-has}
 use Rattle.machine.specs.declared.Offer.{Offer}
 use Rattle.machine.specs.declared.Sent.{Sent}
 use Rattle.machine.specs.declared.Answer.the-variants.{Judged}
-use Rattle.register.specs.Register.{registerNumbers, registerIn, placeOf, sentIn}
+use Rattle.register.specs.Register.{registerNumbers, registerIn, placeOfIdentity, sentAtPlace}
 use Rattle.register.proofs.Finding.{place-open, place-sent, place-identity}
 use Rattle.state.specs.State.{decode, stored}
 use Rattle.state.specs.Laid.{Laid, withClock, withRegister}
@@ -44,15 +44,15 @@ use Rattle.calls.proofs.Timed.{timed-ready, timed-refused, timed-met}
 use Rattle.calls.proofs.Offers.{timed-order, in-order}
 
 -- the place that was found for an identity, and how many orders there are
-module _ (xs : List ℕ) (h : Laid xs) (identity : ℕ) {i k : ℕ} (at : i ≡ placeOf (registerIn (registerPart xs)) identity)
+module _ (xs : List ℕ) (h : Laid xs) (identity : ℕ) {i k : ℕ} (at : i ≡ placeOfIdentity (registerIn (registerPart xs)) identity)
     (many : k ≡ length (decode xs .part .register)) where
-  pub found-at : i ≡ placeOf (decode xs .part .register) identity
-  found-at = at ∙ ap (λ (l : List Sent). placeOf l identity) (laid-sent h)
+  pub found-at : i ≡ placeOfIdentity (decode xs .part .register) identity
+  found-at = at ∙ ap (λ (l : List Sent). placeOfIdentity l identity) (laid-sent h)
 
   pub found-open : ltb i k ≡ isOpen (decode xs .part .register) identity
   found-open = rw (found-at, many) (sym (place-open identity (decode xs .part .register)))
 
-  pub found-sent : sentIn (decode xs .part .register) i ≡ sentAt (decode xs .part .register) identity
+  pub found-sent : sentAtPlace (decode xs .part .register) i ≡ sentAt (decode xs .part .register) identity
   found-sent = rw found-at (place-sent identity (decode xs .part .register))
 
   pub found-none : k ≤ i → not (isOpen (decode xs .part .register) identity) ≡ true
@@ -212,19 +212,19 @@ module _ (xs : List ℕ) (time identity : ℕ) (e : refusalIn xs (close time ide
   pub close-different : areDifferent (decode xs .part .register) ≡ true
   close-different = sound-decode xs (sound-memory xs (ready-by xs (close time identity) e)) .different
 
-  module _ {i : ℕ} (at : i ≡ placeOf (registerIn (registerPart xs)) identity) where
+  module _ {i : ℕ} (at : i ≡ placeOfIdentity (registerIn (registerPart xs)) identity) where
     pub close-at : i < length (decode xs .part .register)
     close-at = ltb-true i (length (decode xs .part .register)) (found-open xs close-laid identity at refl ∙ close-open)
 
-    pub close-identity : sentIn (decode xs .part .register) i .identity ≡ identity
+    pub close-identity : sentAtPlace (decode xs .part .register) i .identity ≡ identity
     close-identity = rw (found-at xs close-laid identity at refl) (place-identity identity (decode xs .part .register) close-open)
 
   -- the register without the order that was found
-  pub close-leaves : {ys zs : List ℕ} {i : ℕ} → Holds (withClock (decode xs) time) xs ys → i ≡ placeOf (registerIn (registerPart xs)) identity
-      → zs ≡ registerNumbers (keep (λ sent. not (hasIdentity (sentIn (registerIn (registerPart ys)) i .identity) sent)) (registerIn (registerPart ys)))
+  pub close-leaves : {ys zs : List ℕ} {i : ℕ} → Holds (withClock (decode xs) time) xs ys → i ≡ placeOfIdentity (registerIn (registerPart xs)) identity
+      → zs ≡ registerNumbers (keep (λ sent. not (hasIdentity (sentAtPlace (registerIn (registerPart ys)) i .identity) sent)) (registerIn (registerPart ys)))
       → putRegister ys zs ≡ stored (withRegister (withClock (decode xs) time) (keep (λ sent. not (hasIdentity identity sent)) (decode xs .part .register))) xs
   close-leaves {ys} {zs} {i} h at z =
-      let own : sentIn (registerIn (registerPart ys)) i .identity ≡ identity = ap (λ (l : List Sent). sentIn l i .identity) (register-now h) ∙ close-identity at in
+      let own : sentAtPlace (registerIn (registerPart ys)) i .identity ≡ identity = ap (λ (l : List Sent). sentAtPlace l i .identity) (register-now h) ∙ close-identity at in
       register-on h (keep (λ sent. not (hasIdentity identity sent)))
       (z ∙ ap (λ (n : ℕ). registerNumbers (keep (λ sent. not (hasIdentity n sent)) (registerIn (registerPart ys)))) own)
 
@@ -253,14 +253,14 @@ module _ (xs : List ℕ) (time identity n : ℕ) (e : refusalIn xs (report time 
   order : SentIn (rootsIn (decode xs)) (sentAt orders identity)
   order = sent-in (rootsIn (decode xs)) (sentAt orders identity) (open-has (isSent (rootsIn (decode xs))) orders identity (sound .registered) (met .opened))
 
-  module _ {i : ℕ} (at : i ≡ placeOf (registerIn (registerPart xs)) identity) where
-    its : sentIn orders i ≡ sentAt orders identity
+  module _ {i : ℕ} (at : i ≡ placeOfIdentity (registerIn (registerPart xs)) identity) where
+    its : sentAtPlace orders i ≡ sentAt orders identity
     its = found-sent xs report-laid identity at refl
 
     pub report-at : i < length orders
     report-at = ltb-true i (length orders) (found-open xs report-laid identity at refl ∙ met .opened)
 
-    identity-is : sentIn orders i .identity ≡ identity
+    identity-is : sentAtPlace orders i .identity ≡ identity
     identity-is = rw (found-at xs report-laid identity at refl) (place-identity identity orders (met .opened))
 
     ready : Returning xs (fillOf orders time identity n) i
@@ -284,7 +284,7 @@ module _ (xs : List ℕ) (time identity n : ℕ) (e : refusalIn xs (report time 
     }
 
     -- the fill, as the code puts it together of the order that it reads
-    module _ {sent : Sent} (read : sent ≡ sentIn (registerIn (registerPart xs)) i) where
+    module _ {sent : Sent} (read : sent ≡ sentAtPlace (registerIn (registerPart xs)) i) where
       abbrev fill : Offer
       fill = record { time = time; root = sent .root; unit = sent .unit; premium = sent .premium .0; contracts = n }
 
@@ -292,12 +292,12 @@ module _ (xs : List ℕ) (time identity n : ℕ) (e : refusalIn xs (report time 
       unfolding fillOf
       same =
           ap (λ (s : Sent). record { time = time; root = s .root; unit = s .unit; premium = s .premium .0; contracts = n })
-          (read ∙ ap (λ (l : List Sent). sentIn l i) (laid-sent report-laid) ∙ its)
+          (read ∙ ap (λ (l : List Sent). sentAtPlace l i) (laid-sent report-laid) ∙ its)
 
       pub report-ready : Returning xs fill i
       report-ready = subst (λ (o : Offer). Returning xs o i) (sym same) ready
 
-      pub report-done : {ys : List ℕ} {trips : Trips} → Returned xs fill (sentIn orders i .identity) ys trips
+      pub report-done : {ys : List ℕ} {trips : Trips} → Returned xs fill (sentAtPlace orders i .identity) ys trips
           → (Judged 0 n (trips .root) (trips .firm) ≡ callAnswer xs back) × (ys ≡ callMemory xs back)
       unfolding judged filled isRefusal fillOf
       report-done {ys} {trips} r =

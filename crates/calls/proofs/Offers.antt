@@ -29,7 +29,7 @@ use Rattle.machine.specs.declared.Answer.the-variants.{Judged}
 use Rattle.machine.specs.Deeds.{granted, filling, clockAfter}
 use Rattle.machine.specs.Step.{after, partAfter, accountsAfter, locksAfter, logAfter}
 use Rattle.machine.proofs.Lists.{ordered-wider}
-use Rattle.grant.specs.Grant.{Asked, AreCuts, Ready, HasRoom}
+use Rattle.grant.specs.Grant.{Fillable, AreCuts, Ready, HasRoom}
 use Rattle.grant.specs.declared.Cuts.{Cuts}
 use Rattle.grant.proofs.Trip.{grant-cuts}
 use Rattle.calls.specs.Calls.{memoryRefusal, timedRefusal, refusalIn, offerRefusal, callAnswer, callMemory, isShortOf, Met, Granting}
@@ -165,7 +165,7 @@ module _ (xs : List ℕ) (o : Offer) where
       go (suc j) r b t c n d p e = absurd (suc-ne-zero j (rw (ne-eqb (suc j) 0 (λ z. omega arith)) at e))
 
 module _ (xs : List ℕ) (o : Offer) (m : Met xs o) where
-  pub met-asked : Asked xs o
+  pub met-asked : Fillable xs o
   unfolding badTime isRoot
   met-asked =
       let s = decode xs in

@@ -20,7 +20,7 @@ use Rattle.machine.specs.Locks.{verdictOf}
 use Rattle.state.specs.Sound.{isSound}
 use Rattle.measures.specs.Ranges.{isIn, units, premiums, offers}
 use Rattle.machine.specs.declared.Offer.{Offer}
-use Rattle.grant.specs.Grant.{Asked}
+use Rattle.grant.specs.Grant.{Fillable}
 use Rattle.machine.specs.declared.Answer.{Answer}
 use Rattle.machine.specs.declared.Answer.the-variants.{Refused}
 use Rattle.calls.specs.declared.Clearing.{Clearing}
@@ -95,7 +95,7 @@ pub record Met (xs : List ℕ) (o : Offer) : Type 0 where
 -- and that is not locked out
 pub record Granting (xs : List ℕ) (o : Offer) : Type 0 where
   pub met : Met xs o
-  pub asked : Asked xs o
+  pub asked : Fillable xs o
   pub free : verdictOf (decode xs .part .locks) (o .root) ≡ 0
 
 -- words said: 1 for room below 20 bytes, else they stand in front and the room after them is untouched

@@ -9,7 +9,7 @@ ghost use Rattle.machine.specs.Calls.{Call};
 ghost use Rattle.machine.specs.State.{rulesIn};
 ghost use Rattle.machine.specs.Remaining.{isCell};
 ghost use Rattle.machine.specs.Register.{isOpen};
-ghost use Rattle.register.specs.Register.{sentIn};
+ghost use Rattle.register.specs.Register.{sentAtPlace};
 ghost use Rattle.state.specs.State.{decode};
 ghost use Rattle.state.specs.Laid.{Laid};
 ghost use Rattle.calls.specs.Calls.{timedRefusal, refusalIn, offerRefusal};
@@ -197,7 +197,7 @@ pub(crate) fn close_refusal(m: &[u64], time: u64, identity: u64) -> u64
 // Whether more contracts are reported than the order at a place has open, or none of its reports is left.
 fn is_overdrawn(m: &[u64], i: usize, contracts: u64) -> bool
     requires { ⌜ Laid (now m) × (i < length (decode (now m) .part .register)) ⌝ }
-    ensures { λ r. ⌜ r ≡ (ltb (sentIn (decode (now (m .entry)) .part .register) i .contracts .0) contracts || eqb (sentIn (decode (now (m .entry)) .part .register) i .reports) 0) ⌝ }
+    ensures { λ r. ⌜ r ≡ (ltb (sentAtPlace (decode (now (m .entry)) .part .register) i .contracts .0) contracts || eqb (sentAtPlace (decode (now (m .entry)) .part .register) i .reports) 0) ⌝ }
 {
     let sent = register::sent_in(&m[state::REGISTER..state::LOG], i);
     (sent.contracts.0 < contracts) | (sent.reports == 0)

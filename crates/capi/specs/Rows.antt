@@ -58,8 +58,8 @@ eventRow (Is e) = 0 ∷ take 8 (valuesOf e)
 eventRow Faulty = readRefusal Faulty ∷ 0 ∷ 0 ∷ 0 ∷ 0 ∷ 0 ∷ 0 ∷ 0 ∷ 0 ∷ []
 
 -- an event's numbers as the fields of a record, its spare bits 0
-abbrev pub fieldsOf : ℕ → ℕ → ℕ → ℕ → ℕ → ℕ → ℕ → ℕ → List ℕ
-fieldsOf kind time root unit premium contracts reset level =
+abbrev pub eventFields : ℕ → ℕ → ℕ → ℕ → ℕ → ℕ → ℕ → ℕ → List ℕ
+eventFields kind time root unit premium contracts reset level =
     kind ∷ time ∷ root ∷ unit ∷ premium ∷ contracts ∷ reset ∷ level ∷ 0 ∷ []
 
 -- writing what fields are read as: 16 if they are no valid event's, and the room is as it was

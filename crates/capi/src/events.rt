@@ -2,7 +2,7 @@
 ghost use mathlib.Core.Path.{_≡_};
 ghost use lib.ListN.{length};
 ghost use Rattle.records.specs.Event.{eventIn, readOf};
-ghost use Rattle.capi.specs.Rows.{eventRow, fieldsOf, roomOf, writingOf, writingRow};
+ghost use Rattle.capi.specs.Rows.{eventRow, eventFields, roomOf, writingOf, writingRow};
 use records::Reading as Event;
 use records::Writing;
 
@@ -55,8 +55,8 @@ pub extern "C" fn mbrumzheg_write_record(
     room: &mut [u8],
     row: &mut [u64; 5],
 )
-    ensures { λ _. ⌜ now (room .exit) ≡ roomOf (eventIn (fieldsOf kind time root unit premium contracts reset level)) (now (room .entry)) ⌝ }
-    ensures { λ _. ⌜ now (row .exit) ≡ writingRow (writingOf (eventIn (fieldsOf kind time root unit premium contracts reset level)) (length (now (room .entry)))) ⌝ }
+    ensures { λ _. ⌜ now (room .exit) ≡ roomOf (eventIn (eventFields kind time root unit premium contracts reset level)) (now (room .entry)) ⌝ }
+    ensures { λ _. ⌜ now (row .exit) ≡ writingRow (writingOf (eventIn (eventFields kind time root unit premium contracts reset level)) (length (now (room .entry)))) ⌝ }
 {
     let v = [kind, time, root, unit, premium, contracts, reset, level, 0];
     let reading = records::event_in(&v);

@@ -9,8 +9,8 @@ ghost use Rattle.machine.specs.Entries.{areOrdered};
 ghost use Rattle.machine.specs.Offers.{counted};
 ghost use Rattle.rules.specs.Units.{isUnitOf};
 ghost use Rattle.machine.specs.State.{rulesIn};
-ghost use Rattle.machine.specs.Remaining.{ruleAt, accountFor, leftOf};
-ghost use Rattle.log.specs.Memo.{sumIn, RightTwo};
+ghost use Rattle.machine.specs.Remaining.{ruleNumbered, accountFor, leftOf};
+ghost use Rattle.log.specs.Memo.{memoSum, RightTwo};
 ghost use Rattle.state.specs.State.{decode};
 ghost use Rattle.state.specs.Laid.{Laid, accountIn};
 ghost use Rattle.counting.specs.Counting.{IsLogged, memosAfter};
@@ -37,7 +37,7 @@ fn logged(m: &[u64], rule: Rule, time: u64) -> Amount
 // Memos of which the last says what the log counts for a rule at a time, as far as the rule asks for it.
 fn memos_for(m: &[u64], rule: Rule, time: u64, memos: Two) -> Two
     requires { ⌜ Laid (now m) × (isRule 64 rule ≡ true) × (areOrdered 0 time (decode (now m) .log) ≡ true) × RightTwo (decode (now m) .log) memos ⌝ }
-    ensures { λ r. ⌜ RightTwo (decode (now (m .entry)) .log) r × IsLogged (decode (now (m .entry)) .log) rule time (amountIn (rule .limit) (sumIn (rule .limit) (r .last))) × (r ≡ memosAfter (decode (now (m .entry)) .log) rule time memos) ⌝ }
+    ensures { λ r. ⌜ RightTwo (decode (now (m .entry)) .log) r × IsLogged (decode (now (m .entry)) .log) rule time (amountIn (rule .limit) (memoSum (rule .limit) (r .last))) × (r ≡ memosAfter (decode (now (m .entry)) .log) rule time memos) ⌝ }
 {
     let kind = rule.kind;
     match kind {
@@ -88,8 +88,8 @@ fn left_of(m: &[u64], time: u64, i: usize, rule: Rule) -> Amount
 
 // What remains of a rule's limit for a unit at a time, and 0 if more than the limit is counted.
 pub fn left(m: &[u64], time: u64, rule: usize, unit: u64) -> Amount
-    requires { ⌜ Laid (now m) × (rule < length (rulesIn (decode (now m)))) × (isUnitOf (ruleAt (rulesIn (decode (now m))) rule .scope) unit ≡ true) × (areOrdered 0 time (decode (now m) .log) ≡ true) ⌝ }
-    ensures { λ r. ⌜ r ≡ amountIn (ruleAt (rulesIn (decode (now (m .entry)))) rule .limit) (leftOf (decode (now (m .entry))) time (accountFor (decode (now (m .entry)) .part) rule unit)) ⌝ }
+    requires { ⌜ Laid (now m) × (rule < length (rulesIn (decode (now m)))) × (isUnitOf (ruleNumbered (rulesIn (decode (now m))) rule .scope) unit ≡ true) × (areOrdered 0 time (decode (now m) .log) ≡ true) ⌝ }
+    ensures { λ r. ⌜ r ≡ amountIn (ruleNumbered (rulesIn (decode (now (m .entry)))) rule .limit) (leftOf (decode (now (m .entry))) time (accountFor (decode (now (m .entry)) .part) rule unit)) ⌝ }
 {
     let own = state::rule_in(m, rule);
     let place = state::account_at(m, rule, unit);

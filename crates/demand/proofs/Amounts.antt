@@ -13,7 +13,7 @@ use Rattle.rules.proofs.Laws.{added-zero}
 use Rattle.rules.proofs.Held.{held-none, held-low}
 use Rattle.rules.specs.Valid.{hasRate}
 use Rattle.machine.specs.declared.Entry.{Entry}
-use Rattle.machine.specs.State.{Profile, State, cellsOf, rulesIn, ruleOf}
+use Rattle.machine.specs.State.{Profile, State, cellsOf, rulesIn, accountRule}
 use Rattle.machine.specs.declared.Offer.{Offer}
 use Rattle.machine.specs.declared.Sent.{Sent}
 use Rattle.machine.specs.declared.Effect.{Effect}
@@ -24,7 +24,7 @@ use Rattle.machine.specs.Offers.{counted, coversOffer, grantOf, credited, longe
 use Rattle.machine.specs.Step.{accountsAfter, logAfter, partAfter, after}
 use Rattle.machine.proofs.Grants.{grant-fits}
 use Rattle.machine.proofs.Meets.{Few, Meets}
-use Rattle.demand.specs.History.{timeOf, amountOf, isReported, isAway, zeroes}
+use Rattle.demand.specs.History.{deedTime, amountOf, isReported, isAway, zeroes}
 use Rattle.demand.specs.Locked.{countedIn}
 use Rattle.demand.proofs.Lists.{none-either, all-imp, all-imp₂, all-map, all-unmap}
 use Rattle.demand.proofs.Past.{Room, Kept}
@@ -61,7 +61,7 @@ closing-still time identity = record { noZero = λ level. refl; noAdd = λ rule.
 still-counted : (deed : Deed) → Still deed → (rule : Rule) (h : List Deed) (t : ℕ) → countedIn rule (deed ∷ h) t ≡ countedIn rule h t
 unfolding countedIn
 still-counted deed still rule h t =
-    rw (still .noZero, still .noAdd, none-either (counts (rule .kind) (timeOf deed) t)) (omega arith)
+    rw (still .noZero, still .noAdd, none-either (counts (rule .kind) (deedTime deed) t)) (omega arith)
 
 module _ (p : Profile) (s : State) (h : List Deed) (i : Inv p s h) where
   abbrev accounts : List Account
@@ -87,7 +87,7 @@ module _ (p : Profile) (s : State) (h : List Deed) (i : Inv p s h) where
       → countedIn rule (resetting time root effect ∷ h) t ≡ cond (zeroing effect root (levelOf (rule .scope))) 0 (countedIn rule h t)
   unfolding countedIn zeroes amountOf
   reset-counted time root effect rule t =
-      rw (none-either (counts (rule .kind) (timeOf (resetting time root effect)) t))
+      rw (none-either (counts (rule .kind) (deedTime (resetting time root effect)) t))
       (ap (λ (n : ℕ). cond (zeroing effect root (levelOf (rule .scope))) 0 n) (omega arith))
 
   reset-right : (time root : ℕ) (effect : Effect) → s .part .clock ≤ time → (a : Account) → Right s h a
@@ -123,7 +123,7 @@ module _ (p : Profile) (s : State) (h : List Deed) (i : Inv p s h) where
   right-after (filling source o n) le =
       all-map _ (credited o n) accounts
       (all-imp₂ (fill-right source o n le) accounts (i .right)
-      (all-unmap (λ rule. Fits (longest (p .rules)) (hasRate (p .rules)) (rule .kind)) ruleOf accounts (rw (i .same) (cells-fit (p .rules)))))
+      (all-unmap (λ rule. Fits (longest (p .rules)) (hasRate (p .rules)) (rule .kind)) accountRule accounts (rw (i .same) (cells-fit (p .rules)))))
   right-after (resetting time root effect) le =
       all-map _ (wiped (zeroing effect root)) accounts (all-imp (reset-right time root effect le) accounts (i .right))
   right-after (lockingOut time level) le = still-right (lockingOut time level) (lockingOut-still time level) le
@@ -161,10 +161,10 @@ module _ (p : Profile) (s : State) (h : List Deed) (i : Inv p s h) where
       still-kept (filling granted o 0) (λ rule. rw (added-zero (rule .limit) (o .premium)) (none-either (coversOffer o rule)))
   fill-kept o (suc n) le few =
       rw (← (i .same))
-      (all-map (λ rule. Kept rule (filling granted o (suc n) ∷ h)) ruleOf accounts
+      (all-map (λ rule. Kept rule (filling granted o (suc n) ∷ h)) accountRule accounts
       (all-imp₂ (λ a (x : Right s h a × Kept (a .rule) h) keeps. (fill-room o (suc n) le a (x .0) keeps, x .1)) accounts
       (all-imp₂ (λ a right kept. (right, kept)) accounts (i .right)
-      (all-unmap (λ rule. Kept rule h) ruleOf accounts (rw (i .same) (i .kept))))
+      (all-unmap (λ rule. Kept rule h) accountRule accounts (rw (i .same) (i .kept))))
       (grant-fits (s .log) o (suc n) (omega arith) accounts few)))
 
   pub kept-after : (deed : Deed) → Meets s deed → All (λ rule. Kept rule (deed ∷ h)) cells

@@ -12,7 +12,7 @@ use Rattle.rules.specs.declared.Level.{Level}
 use Rattle.rules.specs.declared.Rule.{Rule}
 use Rattle.rules.specs.declared.Account.{Account}
 use Rattle.rules.specs.Valid.{hasRate}
-use Rattle.machine.specs.State.{Profile, State, cellsOf, rootsIn, ruleOf}
+use Rattle.machine.specs.State.{Profile, State, cellsOf, rootsIn, accountRule}
 use Rattle.machine.specs.Deeds.{Deed, clockAfter}
 use Rattle.machine.specs.Locks.{isTripped, isByUser}
 use Rattle.machine.specs.Offers.{counted, longest}
@@ -39,7 +39,7 @@ pub record Right (s : State) (h : List Deed) (a : Account) : Type 0 where
 -- deeds say
 pub record Inv (p : Profile) (s : State) (h : List Deed) : Type 0 where
   pub profile : s .part .profile ≡ p
-  pub same : map ruleOf (s .part .accounts) ≡ cellsOf (p .rules)
+  pub same : map accountRule (s .part .accounts) ≡ cellsOf (p .rules)
   pub right : All (Right s h) (s .part .accounts)
   pub kept : All (λ rule. Kept rule h) (cellsOf (p .rules))
   pub tripped : (level : Level) → isTripped (s .part .locks) level ≡ trippedIn (p .rules) level h

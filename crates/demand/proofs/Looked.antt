@@ -15,10 +15,10 @@ use Rattle.rules.specs.declared.Rule.{Rule}
 use Rattle.rules.specs.declared.Account.{Account}
 use Rattle.rules.proofs.Units.{unit-level}
 use Rattle.rules.proofs.Held.{held-allowance, held-trips, held-overruns}
-use Rattle.machine.specs.State.{Profile, State, ruleOf}
+use Rattle.machine.specs.State.{Profile, State, accountRule}
 use Rattle.machine.specs.declared.Offer.{Offer}
 use Rattle.machine.specs.Deeds.{Source, granted, reported, Deed, filling}
-use Rattle.machine.specs.Offers.{counted, coversOffer, limitIn, covering, grantOf, sameLevel, tripsBy, levelTrips}
+use Rattle.machine.specs.Offers.{counted, coversOffer, limitWithCount, covering, grantOf, sameLevel, tripsBy, levelTrips}
 use Rattle.machine.proofs.Grants as machine
 use Rattle.machine.proofs.Cells.{cells-covering}
 use Rattle.demand.specs.Locked.{countedIn, tripsOn, ruleTrips}
@@ -67,10 +67,10 @@ module _ (p : Profile) (s : State) (h : List Deed) (i : Inv p s h) (o : Offer) (
 
   module _ {B : Type 0} (f : Account → B) (g : Rule → B) (same : (a : Account) → Right s h a → f a ≡ g (a .rule)) where
     each : (some : List Account) → All (Right s h) some
-        → map f (keep (λ (a : Account). coversOffer o (a .rule)) some) ≡ map g (keep (coversOffer o) (map ruleOf some))
+        → map f (keep (λ (a : Account). coversOffer o (a .rule)) some) ≡ map g (keep (coversOffer o) (map accountRule some))
     unfolding keep
     each [] right = refl
-    each (a ∷ rest) right = go (coversOffer o (a .rule)) (keep (λ (a : Account). coversOffer o (a .rule)) rest) (keep (coversOffer o) (map ruleOf rest)) (each rest (right .1))
+    each (a ∷ rest) right = go (coversOffer o (a .rule)) (keep (λ (a : Account). coversOffer o (a .rule)) rest) (keep (coversOffer o) (map accountRule rest)) (each rest (right .1))
       where
         go : (b : Bool) (kept : List Account) (rules : List Rule) → map f kept ≡ map g rules
             → map f (cond b (a ∷ kept) kept) ≡ map g (cond b (a .rule ∷ rules) rules)
@@ -89,12 +89,12 @@ module _ (p : Profile) (s : State) (h : List Deed) (i : Inv p s h) (o : Offer) (
   unfolding covering ofUnit
   grant-same le =
       machine.least-of (s .log) o accounts
-      ∙ (ap (leastOf (o .contracts)) (map-map (allowed h o) (limitIn (s .log) o) (keep (λ (a : Account). coversOffer o (a .rule)) accounts)
+      ∙ (ap (leastOf (o .contracts)) (map-map (allowed h o) (limitWithCount (s .log) o) (keep (λ (a : Account). coversOffer o (a .rule)) accounts)
       ∙ (looked-at _ (λ (cell : Rule). allowed h o (cell .limit, countedIn cell h (o .time))) same
       ∙ sym (map-map (allowed h o) (λ (rule : Rule). (rule .limit, countedIn (its rule) h (o .time))) (keep (coversOffer o) (p .rules)))))
       ∙ sym (least-of h o (p .rules)))
     where
-      same : (a : Account) → Right s h a → allowed h o (limitIn (s .log) o a) ≡ allowed h o (a .rule .limit, countedIn (a .rule) h (o .time))
+      same : (a : Account) → Right s h a → allowed h o (limitWithCount (s .log) o a) ≡ allowed h o (a .rule .limit, countedIn (a .rule) h (o .time))
       same a right =
           ap (λ (n : ℕ). allowed h o (a .rule .limit, n)) (right .counts (o .time) le)
           ∙ held-allowance (a .rule) (right .low) (countedIn (a .rule) h (o .time)) (o .premium) (o .contracts)

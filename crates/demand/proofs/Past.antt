@@ -12,13 +12,13 @@ use Rattle.rules.specs.declared.Kind.{Kind}
 use Rattle.rules.specs.declared.Kind.the-variants.{Rate, Absolute}
 use Rattle.rules.specs.declared.Rule.{Rule}
 use Rattle.machine.specs.Deeds.{Deed}
-use Rattle.demand.specs.History.{timeOf, amountOf, isAway, zeroes, NoneOf}
+use Rattle.demand.specs.History.{deedTime, amountOf, isAway, zeroes, NoneOf}
 use Rattle.demand.specs.Sums.{inStretch, sumBy, sumIn, awayIn, grantedIn, Within}
 use Rattle.demand.specs.Locked.{countedIn}
 
 -- what a deed adds for a rule found room, unless it came back from an away market
 unfoldable pub Room : Rule → Deed → List Deed → Type 0
-Room rule deed earlier = isAway deed ≡ false → 0 < amountOf rule deed → countedIn rule earlier (timeOf deed) + amountOf rule deed ≤ ceiling (rule .limit)
+Room rule deed earlier = isAway deed ≡ false → 0 < amountOf rule deed → countedIn rule earlier (deedTime deed) + amountOf rule deed ≤ ceiling (rule .limit)
 
 -- what each grant added found room
 unfoldable pub Kept : Rule → List Deed → Type 0
@@ -43,9 +43,9 @@ part-counted : (rule : Rule) (part earlier : List Deed) (start t : ℕ) → None
 unfolding sumBy countedIn NoneOf
 part-counted rule [] earlier start t none ht = zero-le
 part-counted rule (deed ∷ part) earlier start t none ht =
-    go (inStretch (rule .kind) start (timeOf deed)) refl (part-counted rule part earlier start t (none .1) ht)
+    go (inStretch (rule .kind) start (deedTime deed)) refl (part-counted rule part earlier start t (none .1) ht)
   where
-    go : (b : Bool) → inStretch (rule .kind) start (timeOf deed) ≡ b → sumIn rule start part ≤ countedIn rule (part ++ earlier) t
+    go : (b : Bool) → inStretch (rule .kind) start (deedTime deed) ≡ b → sumIn rule start part ≤ countedIn rule (part ++ earlier) t
         → sumIn rule start (deed ∷ part) ≤ countedIn rule (deed ∷ part ++ earlier) t
     go true i ih = rw (none .0, i, stretch-counts _ _ _ _ i ht) (omega arith)
     go false i ih = rw (none .0, i) (omega arith)
@@ -56,23 +56,23 @@ part-within : (rule : Rule) (part earlier : List Deed) (start : ℕ) → Kept ru
 unfolding sumBy NoneOf Kept Room
 part-within rule [] earlier start k none = zero-le
 part-within rule (deed ∷ part) earlier start k none =
-    go (isAway deed) refl (inStretch (rule .kind) start (timeOf deed)) refl (amountOf rule deed) refl
+    go (isAway deed) refl (inStretch (rule .kind) start (deedTime deed)) refl (amountOf rule deed) refl
     (part-within rule part earlier start (k .1) (none .1))
   where
-    go : (away : Bool) → isAway deed ≡ away → (b : Bool) → inStretch (rule .kind) start (timeOf deed) ≡ b → (n : ℕ) → amountOf rule deed ≡ n
+    go : (away : Bool) → isAway deed ≡ away → (b : Bool) → inStretch (rule .kind) start (deedTime deed) ≡ b → (n : ℕ) → amountOf rule deed ≡ n
         → sumIn rule start part ≤ ceiling (rule .limit) + awayIn rule start part
         → sumIn rule start (deed ∷ part) ≤ ceiling (rule .limit) + awayIn rule start (deed ∷ part)
     go true ea b i n e ih = rw ea (omega arith)
     go false ea false i n e ih = rw (i, ea) (omega arith)
     go false ea true i zero e ih = rw (i, ea) (omega arith)
     go false ea true i (suc n) e ih =
-        rw (i, ea) (omega (arith, k .0 ea (omega arith), part-counted rule part earlier start (timeOf deed) (none .1) i))
+        rw (i, ea) (omega (arith, k .0 ea (omega arith), part-counted rule part earlier start (deedTime deed) (none .1) i))
 
 -- what was filled is what was granted and what came back
 sum-both : (rule : Rule) (start : ℕ) (part : List Deed) → sumIn rule start part ≡ grantedIn rule start part + awayIn rule start part
 unfolding sumBy
 sum-both rule start [] = refl
-sum-both rule start (deed ∷ part) = go (isAway deed) (inStretch (rule .kind) start (timeOf deed)) (sum-both rule start part)
+sum-both rule start (deed ∷ part) = go (isAway deed) (inStretch (rule .kind) start (deedTime deed)) (sum-both rule start part)
   where
     go : (away b : Bool) → sumIn rule start part ≡ grantedIn rule start part + awayIn rule start part
         → cond b (amountOf rule deed) 0 + sumIn rule start part

@@ -17,13 +17,13 @@ use Rattle.rules.specs.declared.Level.the-variants.{Firm, Root}
 use Rattle.rules.specs.declared.Rule.{Rule}
 use Rattle.rules.specs.declared.Account.{Account}
 use Rattle.rules.proofs.Held.{held-left}
-use Rattle.machine.specs.State.{Profile, Locks, State, cellsOf, rulesIn, ruleOf}
+use Rattle.machine.specs.State.{Profile, Locks, State, cellsOf, rulesIn, accountRule}
 use Rattle.machine.specs.declared.Offer.{Offer}
 use Rattle.machine.specs.declared.Sent.{Sent}
 use Rattle.machine.specs.Deeds.{Source, granted, Deed}
 use Rattle.machine.specs.Locks.{isTripped, isByUser, isLocked, verdictOf}
 use Rattle.machine.specs.Offers.{grantOf}
-use Rattle.machine.specs.Remaining.{noAccount, ruleAt, Asked, cellAt, accountAt, accountFor, leftOf, standing}
+use Rattle.machine.specs.Remaining.{noAccount, ruleNumbered, RuleAndUnit, cellAt, accountAt, accountFor, leftOf, standing}
 use Rattle.machine.specs.Register.{isOpen, fillOf}
 use Rattle.machine.specs.Judge.{filled, offered}
 use Rattle.machine.proofs.Cells.{cell-place}
@@ -118,7 +118,7 @@ module _ (p : Profile) (s : State) (h : List Deed) (i : Inv p s h) where
   asked-cell time cell rule le low is =
       let a = getD accounts cell noAccount in
       let which : a .rule ≡ rule =
-      get-map ruleOf accounts cell noAccount ∙ (ap (λ (rules : List Rule). getD rules cell (noAccount .rule)) (i .same) ∙ is)
+      get-map accountRule accounts cell noAccount ∙ (ap (λ (rules : List Rule). getD rules cell (noAccount .rule)) (i .same) ∙ is)
       in
       let right : Right s h a = all-get (Right s h) accounts cell noAccount low (i .right) in
       ap (λ (n : ℕ). ceiling (a .rule .limit) - n) (right .counts time le)
@@ -126,15 +126,15 @@ module _ (p : Profile) (s : State) (h : List Deed) (i : Inv p s h) where
       ∙ ap (λ (r : Rule). ceiling (r .limit) - countedIn r h time) which)
 
   -- what remains
-  pub left-same : (time rule unit : ℕ) → s .part .clock ≤ time → Asked (rulesIn s) rule unit
-      → leftOf s time (accountFor (s .part) rule unit) ≡ leftIn (ruleAt (p .rules) rule) unit h time
+  pub left-same : (time rule unit : ℕ) → s .part .clock ≤ time → RuleAndUnit (rulesIn s) rule unit
+      → leftOf s time (accountFor (s .part) rule unit) ≡ leftIn (ruleNumbered (p .rules) rule) unit h time
   unfolding accountFor leftIn ofUnit rulesIn
   left-same time rule unit le asked =
-      let a = subst (λ (q : Profile). Asked (q .rules) rule unit) (i .profile) asked in
+      let a = subst (λ (q : Profile). RuleAndUnit (q .rules) rule unit) (i .profile) asked in
       let at = cell-place (p .rules) rule unit (noAccount .rule) (a .known) (a .unitKnown) in
       ap (λ (q : Profile). leftOf s time (accountAt accounts (cellAt (q .rules) rule unit))) (i .profile)
-      ∙ asked-cell time (cellAt (p .rules) rule unit) (ofUnit (ruleAt (p .rules) rule) unit) le
-      (rw (← (length-map accounts ruleOf), i .same) (at .0)) (at .1)
+      ∙ asked-cell time (cellAt (p .rules) rule unit) (ofUnit (ruleNumbered (p .rules) rule) unit) le
+      (rw (← (length-map accounts accountRule), i .same) (at .0)) (at .1)
 
   -- a report counts as the fill that the deeds tell
   pub fill-same : (time identity n : ℕ) → isOpen (s .part .register) identity ≡ true

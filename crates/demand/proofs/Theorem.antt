@@ -20,7 +20,7 @@ use Rattle.rules.specs.declared.Rule.{Rule}
 use Rattle.laws.specs.Folds.{every, sumOf, anyOf}
 use Rattle.rules.proofs.Amounts.{number-in}
 use Rattle.rules.proofs.Held.{ceiling-low}
-use Rattle.machine.specs.State.{Profile, State, cellsOf, ruleOf, noLocks, fresh, armed}
+use Rattle.machine.specs.State.{Profile, State, cellsOf, accountRule, noLocks, fresh, armed}
 use Rattle.machine.specs.Deeds.{Deed, nothing, passing, filling, resetting, lockingOut, sending, closing}
 use Rattle.machine.specs.Locks.{isTripped, isByUser}
 use Rattle.machine.specs.Offers.{counted, sameLevel}
@@ -97,7 +97,7 @@ module _ (p : Profile) (ranged : Ranged p) where
   armed-byUser Firm = refl
   armed-byUser (Root r) = rw (bit-beyond 0 0 r (pow-pos 0) zero-le)
 
-  armed-rules : (rules : List Rule) → map ruleOf (map fresh rules) ≡ rules
+  armed-rules : (rules : List Rule) → map accountRule (map fresh rules) ≡ rules
   unfolding fresh
   armed-rules [] = refl
   armed-rules (rule ∷ rest) = ap (λ (l : List Rule). rule ∷ l) (armed-rules rest)

@@ -19,7 +19,7 @@ use Rattle.machine.specs.Effects.{effectOf}
 use Rattle.machine.specs.Calls.{Call, order, lockout, offer, remaining, status, send, report, close}
 use Rattle.machine.specs.Deeds.{Source, granted, reported, Deed, filling, resetting, clockAfter}
 use Rattle.machine.specs.Offers.{coversOffer}
-use Rattle.machine.specs.Remaining.{ruleAt}
+use Rattle.machine.specs.Remaining.{ruleNumbered}
 use Rattle.demand.specs.Run.{Event}
 use Rattle.demand.specs.Away.{sends, closes, fillIn}
 use Rattle.demand.specs.History.{deedOf, deedsOf, contractsOf, lifts}
@@ -91,7 +91,7 @@ answerIn rules deeds (order time root reset) =
     Judged (verdictIn rules root (resetting time root (effectOf reset) ∷ deeds)) 0 false false
 answerIn rules deeds (lockout time level root) = Judged 0 0 false false
 answerIn rules deeds (offer o) = offerAnswer rules deeds o (verdictIn rules (o .root) deeds)
-answerIn rules deeds (remaining time rule unit) = Left (leftIn (ruleAt rules rule) unit deeds time)
+answerIn rules deeds (remaining time rule unit) = Left (leftIn (ruleNumbered rules rule) unit deeds time)
 answerIn rules deeds status = Stand (standingIn rules deeds)
 answerIn rules deeds (send o identity reports) = Judged (verdictIn rules (o .root) deeds) 0 false false
 answerIn rules deeds (report time identity n) = filledAnswer rules deeds (reported identity) (fillIn deeds time identity n) n

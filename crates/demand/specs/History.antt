@@ -60,8 +60,8 @@ deedsOf [] = []
 deedsOf (event ∷ earlier) = deedOf (deedsOf earlier) (event .call) (event .answer) ∷ deedsOf earlier
 
 -- the time of a deed
-abbrev pub timeOf : Deed → ℕ
-timeOf deed = clockAfter deed 0
+abbrev pub deedTime : Deed → ℕ
+deedTime deed = clockAfter deed 0
 
 -- the contracts that a deed fills
 unfoldable pub contractsOf : Deed → ℕ

@@ -10,7 +10,7 @@ use Rattle.rules.specs.declared.Level.{Level}
 use Rattle.rules.specs.declared.Rule.{Rule}
 use Rattle.machine.specs.Deeds.{Deed, nothing, passing, filling, resetting, lockingOut, sending, closing}
 use Rattle.machine.specs.Offers.{coversOffer, sameLevel, tripsBy}
-use Rattle.demand.specs.History.{timeOf, amountOf, zeroes, lifts, NoneOf}
+use Rattle.demand.specs.History.{deedTime, amountOf, zeroes, lifts, NoneOf}
 
 -- what counts for a rule at a time: what was filled since the last reset that zeroed its level, and is still inside its window; of a rule that
 -- counts for several units `ofUnit` says for which
@@ -18,7 +18,7 @@ unfoldable pub countedIn : Rule → List Deed → ℕ → ℕ
 countedIn rule [] time = 0
 countedIn rule (deed ∷ earlier) time =
     cond (zeroes (levelOf (rule .scope)) deed) 0
-    (cond (counts (rule .kind) (timeOf deed) time) (amountOf rule deed) 0 + countedIn rule earlier time)
+    (cond (counts (rule .kind) (deedTime deed) time) (amountOf rule deed) 0 + countedIn rule earlier time)
 
 -- a rule trips on a deed, judged from what was done before it on the unit of the fill
 unfoldable pub tripsOn : Rule → Deed → List Deed → Bool

@@ -10,7 +10,7 @@ use Rattle.rules.specs.declared.Kind.{Kind}
 use Rattle.rules.specs.declared.Kind.the-variants.{Rate, Absolute}
 use Rattle.rules.specs.declared.Rule.{Rule}
 use Rattle.machine.specs.Deeds.{Deed}
-use Rattle.demand.specs.History.{timeOf, amountOf, isAway, zeroes, NoneOf}
+use Rattle.demand.specs.History.{deedTime, amountOf, isAway, zeroes, NoneOf}
 
 -- a time lies in the stretch of W successive milliseconds, W the rule's window, that begins at `start`; for an absolute rule every time does
 unfoldable pub inStretch : Kind → ℕ → ℕ → Bool
@@ -21,7 +21,7 @@ inStretch Absolute start time = true
 unfoldable pub sumBy : (Deed → Bool) → Rule → ℕ → List Deed → ℕ
 sumBy sort rule start [] = 0
 sumBy sort rule start (deed ∷ earlier) =
-    cond (sort deed && inStretch (rule .kind) start (timeOf deed)) (amountOf rule deed) 0 + sumBy sort rule start earlier
+    cond (sort deed && inStretch (rule .kind) start (deedTime deed)) (amountOf rule deed) 0 + sumBy sort rule start earlier
 
 -- all that was filled, grants and reports
 abbrev pub sumIn : Rule → ℕ → List Deed → ℕ

@@ -21,7 +21,7 @@ use Rattle.machine.specs.Effects.{effectOf}
 use Rattle.machine.specs.Calls.{Call, order, lockout, offer, remaining, status, send, report, close}
 use Rattle.machine.specs.Deeds.{granted, reported, Deed, filling, resetting}
 use Rattle.machine.specs.Offers.{coversOffer}
-use Rattle.machine.specs.Remaining.{ruleAt}
+use Rattle.machine.specs.Remaining.{ruleNumbered}
 use Rattle.demand.specs.Run.{Event}
 use Rattle.demand.specs.Away.{sentIn, fillIn}
 use Rattle.demand.specs.History.{lifts}
@@ -128,6 +128,6 @@ pub record Words (rules : List Rule) (event : Event) (deeds : List Deed) : Type 
       {time identity verdict grant : ℕ} {roottrip firmtrip : Bool}
       → event ≡ (close time identity answered Judged verdict grant roottrip firmtrip) → (verdict ≡ 0) × Nothing grant roottrip firmtrip
   -- what remains is the limit less what counts for the rule on the unit asked for, 0 if more counts
-  pub remains : {time rule unit left : ℕ} → event ≡ (remaining time rule unit answered Left left) → left ≡ leftIn (ruleAt rules rule) unit deeds time
+  pub remains : {time rule unit left : ℕ} → event ≡ (remaining time rule unit answered Left left) → left ≡ leftIn (ruleNumbered rules rule) unit deeds time
   -- Status' four numbers
   pub stands : {roots : Standing} → event ≡ (status answered Stand roots) → StandingBy rules deeds roots

@@ -1,7 +1,7 @@
 -- The contracts of `capi` determine what a call gives: one theorem for each public function. Assumes nothing.
 use mathlib.Core.Path.{refl}
 use Rattle.determined.specs.Determines.{Determines}
-use Rattle.laws.specs.One.{one}
+use Rattle.laws.specs.One.{alike}
 use Rattle.capi.proofs.mbrumzheg_arm.Kinds as mbrumzheg-arm-kinds
 use Rattle.capi.proofs.mbrumzheg_arm.Reads as mbrumzheg-arm-reads
 use Rattle.capi.proofs.mbrumzheg_clear.Kinds as mbrumzheg-clear-kinds
@@ -38,52 +38,52 @@ use Rattle.capi.proofs.mbrumzheg_close.Kinds as mbrumzheg-close-kinds
 use Rattle.capi.proofs.mbrumzheg_close.Reads as mbrumzheg-close-reads
 
 pub mbrumzheg-arm : Determines 3 mbrumzheg-arm-kinds.ps mbrumzheg-arm-kinds.r mbrumzheg-arm-reads.Asked mbrumzheg-arm-reads.Learnt
-mbrumzheg-arm κs args asked x y u v p q = (refl, λ i. (one (p .0) (q .0) i, (v .1 .0, (one (p .1) (q .1) i, v .1 .1 .1))))
+mbrumzheg-arm κs args asked x y u v p q = (refl, λ i. (alike (p .0) (q .0) i, (v .1 .0, (alike (p .1) (q .1) i, v .1 .1 .1))))
 
 pub mbrumzheg-clear : Determines 2 mbrumzheg-clear-kinds.ps mbrumzheg-clear-kinds.r mbrumzheg-clear-reads.Asked mbrumzheg-clear-reads.Learnt
-mbrumzheg-clear κs args asked x y u v p q = (refl, λ i. (one (p .0) (q .0) i, (one (p .1) (q .1) i, v .1 .1)))
+mbrumzheg-clear κs args asked x y u v p q = (refl, λ i. (alike (p .0) (q .0) i, (alike (p .1) (q .1) i, v .1 .1)))
 
 pub mbrumzheg-status : Determines 2 mbrumzheg-status-kinds.ps mbrumzheg-status-kinds.r mbrumzheg-status-reads.Asked mbrumzheg-status-reads.Learnt
-mbrumzheg-status κs args asked x y u v p q = (refl, λ i. (v .0, (one p q i, v .1 .1)))
+mbrumzheg-status κs args asked x y u v p q = (refl, λ i. (v .0, (alike p q i, v .1 .1)))
 
 pub mbrumzheg-text : Determines 2 mbrumzheg-text-kinds.ps mbrumzheg-text-kinds.r mbrumzheg-text-reads.Asked mbrumzheg-text-reads.Learnt
-mbrumzheg-text κs args asked x y u v p q = (refl, λ i. (v .0, (one (p .0) (q .0) i, (one (p .1) (q .1) i, v .1 .1 .1))))
+mbrumzheg-text κs args asked x y u v p q = (refl, λ i. (v .0, (alike (p .0) (q .0) i, (alike (p .1) (q .1) i, v .1 .1 .1))))
 
 pub mbrumzheg-root-named : Determines 3 mbrumzheg-root-named-kinds.ps mbrumzheg-root-named-kinds.r mbrumzheg-root-named-reads.Asked mbrumzheg-root-named-reads.Learnt
-mbrumzheg-root-named κs args asked x y u v p q = (refl, λ i. (v .0, (v .1 .0, (one p q i, v .1 .1 .1))))
+mbrumzheg-root-named κs args asked x y u v p q = (refl, λ i. (v .0, (v .1 .0, (alike p q i, v .1 .1 .1))))
 
 pub mbrumzheg-root-name : Determines 3 mbrumzheg-root-name-kinds.ps mbrumzheg-root-name-kinds.r mbrumzheg-root-name-reads.Asked mbrumzheg-root-name-reads.Learnt
-mbrumzheg-root-name κs args asked x y u v p q = (refl, λ i. (v .0, (v .1 .0, (one (p .0) (q .0) i, (one (p .1) (q .1) i, v .1 .1 .1 .1)))))
+mbrumzheg-root-name κs args asked x y u v p q = (refl, λ i. (v .0, (v .1 .0, (alike (p .0) (q .0) i, (alike (p .1) (q .1) i, v .1 .1 .1 .1)))))
 
 pub mbrumzheg-rule : Determines 2 mbrumzheg-rule-kinds.ps mbrumzheg-rule-kinds.r mbrumzheg-rule-reads.Asked mbrumzheg-rule-reads.Learnt
-mbrumzheg-rule κs args asked x y u v p q = (refl, λ i. (v .0, (v .1 .0, (one p q i, v .1 .1 .1))))
+mbrumzheg-rule κs args asked x y u v p q = (refl, λ i. (v .0, (v .1 .0, (alike p q i, v .1 .1 .1))))
 
 pub mbrumzheg-order : Determines 2 mbrumzheg-order-kinds.ps mbrumzheg-order-kinds.r mbrumzheg-order-reads.Asked mbrumzheg-order-reads.Learnt
-mbrumzheg-order κs args asked x y u v p q = (refl, λ i. (one (p .0) (q .0) i, (v .1 .0, (v .1 .1 .0, (v .1 .1 .1 .0, (one (p .1) (q .1) i, v .1 .1 .1 .1 .1))))))
+mbrumzheg-order κs args asked x y u v p q = (refl, λ i. (alike (p .0) (q .0) i, (v .1 .0, (v .1 .1 .0, (v .1 .1 .1 .0, (alike (p .1) (q .1) i, v .1 .1 .1 .1 .1))))))
 
 pub mbrumzheg-offer : Determines 2 mbrumzheg-offer-kinds.ps mbrumzheg-offer-kinds.r mbrumzheg-offer-reads.Asked mbrumzheg-offer-reads.Learnt
-mbrumzheg-offer κs args asked x y u v p q = (refl, λ i. (one (p .0) (q .0) i, (v .1 .0, (v .1 .1 .0, (v .1 .1 .1 .0, (v .1 .1 .1 .1 .0, (v .1 .1 .1 .1 .1 .0, (one (p .1) (q .1) i, v .1 .1 .1 .1 .1 .1 .1))))))))
+mbrumzheg-offer κs args asked x y u v p q = (refl, λ i. (alike (p .0) (q .0) i, (v .1 .0, (v .1 .1 .0, (v .1 .1 .1 .0, (v .1 .1 .1 .1 .0, (v .1 .1 .1 .1 .1 .0, (alike (p .1) (q .1) i, v .1 .1 .1 .1 .1 .1 .1))))))))
 
 pub mbrumzheg-lockout : Determines 2 mbrumzheg-lockout-kinds.ps mbrumzheg-lockout-kinds.r mbrumzheg-lockout-reads.Asked mbrumzheg-lockout-reads.Learnt
-mbrumzheg-lockout κs args asked x y u v p q = (refl, λ i. (one (p .0) (q .0) i, (v .1 .0, (v .1 .1 .0, (v .1 .1 .1 .0, (one (p .1) (q .1) i, v .1 .1 .1 .1 .1))))))
+mbrumzheg-lockout κs args asked x y u v p q = (refl, λ i. (alike (p .0) (q .0) i, (v .1 .0, (v .1 .1 .0, (v .1 .1 .1 .0, (alike (p .1) (q .1) i, v .1 .1 .1 .1 .1))))))
 
 pub mbrumzheg-remaining : Determines 2 mbrumzheg-remaining-kinds.ps mbrumzheg-remaining-kinds.r mbrumzheg-remaining-reads.Asked mbrumzheg-remaining-reads.Learnt
-mbrumzheg-remaining κs args asked x y u v p q = (refl, λ i. (v .0, (v .1 .0, (v .1 .1 .0, (v .1 .1 .1 .0, (one p q i, v .1 .1 .1 .1 .1))))))
+mbrumzheg-remaining κs args asked x y u v p q = (refl, λ i. (v .0, (v .1 .0, (v .1 .1 .0, (v .1 .1 .1 .0, (alike p q i, v .1 .1 .1 .1 .1))))))
 
 pub mbrumzheg-read-record : Determines 2 mbrumzheg-read-record-kinds.ps mbrumzheg-read-record-kinds.r mbrumzheg-read-record-reads.Asked mbrumzheg-read-record-reads.Learnt
-mbrumzheg-read-record κs args asked x y u v p q = (refl, λ i. (v .0, (one p q i, v .1 .1)))
+mbrumzheg-read-record κs args asked x y u v p q = (refl, λ i. (v .0, (alike p q i, v .1 .1)))
 
 pub mbrumzheg-write-record : Determines 2 mbrumzheg-write-record-kinds.ps mbrumzheg-write-record-kinds.r mbrumzheg-write-record-reads.Asked mbrumzheg-write-record-reads.Learnt
-mbrumzheg-write-record κs args asked x y u v p q = (refl, λ i. (v .0, (v .1 .0, (v .1 .1 .0, (v .1 .1 .1 .0, (v .1 .1 .1 .1 .0, (v .1 .1 .1 .1 .1 .0, (v .1 .1 .1 .1 .1 .1 .0, (v .1 .1 .1 .1 .1 .1 .1 .0, (one (p .0) (q .0) i, (one (p .1) (q .1) i, v .1 .1 .1 .1 .1 .1 .1 .1 .1 .1)))))))))))
+mbrumzheg-write-record κs args asked x y u v p q = (refl, λ i. (v .0, (v .1 .0, (v .1 .1 .0, (v .1 .1 .1 .0, (v .1 .1 .1 .1 .0, (v .1 .1 .1 .1 .1 .0, (v .1 .1 .1 .1 .1 .1 .0, (v .1 .1 .1 .1 .1 .1 .1 .0, (alike (p .0) (q .0) i, (alike (p .1) (q .1) i, v .1 .1 .1 .1 .1 .1 .1 .1 .1 .1)))))))))))
 
 pub mbrumzheg-profile : Determines 3 mbrumzheg-profile-kinds.ps mbrumzheg-profile-kinds.r mbrumzheg-profile-reads.Asked mbrumzheg-profile-reads.Learnt
-mbrumzheg-profile κs args asked x y u v p q = (refl, λ i. (v .0, (one (p .0) (q .0) i, (one (p .1) (q .1) i, v .1 .1 .1))))
+mbrumzheg-profile κs args asked x y u v p q = (refl, λ i. (v .0, (alike (p .0) (q .0) i, (alike (p .1) (q .1) i, v .1 .1 .1))))
 
 pub mbrumzheg-send : Determines 2 mbrumzheg-send-kinds.ps mbrumzheg-send-kinds.r mbrumzheg-send-reads.Asked mbrumzheg-send-reads.Learnt
-mbrumzheg-send κs args asked x y u v p q = (refl, λ i. (one (p .0) (q .0) i, (v .1 .0, (v .1 .1 .0, (v .1 .1 .1 .0, (v .1 .1 .1 .1 .0, (v .1 .1 .1 .1 .1 .0, (v .1 .1 .1 .1 .1 .1 .0, (v .1 .1 .1 .1 .1 .1 .1 .0, (one (p .1) (q .1) i, v .1 .1 .1 .1 .1 .1 .1 .1 .1))))))))))
+mbrumzheg-send κs args asked x y u v p q = (refl, λ i. (alike (p .0) (q .0) i, (v .1 .0, (v .1 .1 .0, (v .1 .1 .1 .0, (v .1 .1 .1 .1 .0, (v .1 .1 .1 .1 .1 .0, (v .1 .1 .1 .1 .1 .1 .0, (v .1 .1 .1 .1 .1 .1 .1 .0, (alike (p .1) (q .1) i, v .1 .1 .1 .1 .1 .1 .1 .1 .1))))))))))
 
 pub mbrumzheg-report : Determines 2 mbrumzheg-report-kinds.ps mbrumzheg-report-kinds.r mbrumzheg-report-reads.Asked mbrumzheg-report-reads.Learnt
-mbrumzheg-report κs args asked x y u v p q = (refl, λ i. (one (p .0) (q .0) i, (v .1 .0, (v .1 .1 .0, (v .1 .1 .1 .0, (one (p .1) (q .1) i, v .1 .1 .1 .1 .1))))))
+mbrumzheg-report κs args asked x y u v p q = (refl, λ i. (alike (p .0) (q .0) i, (v .1 .0, (v .1 .1 .0, (v .1 .1 .1 .0, (alike (p .1) (q .1) i, v .1 .1 .1 .1 .1))))))
 
 pub mbrumzheg-close : Determines 2 mbrumzheg-close-kinds.ps mbrumzheg-close-kinds.r mbrumzheg-close-reads.Asked mbrumzheg-close-reads.Learnt
-mbrumzheg-close κs args asked x y u v p q = (refl, λ i. (one (p .0) (q .0) i, (v .1 .0, (v .1 .1 .0, (one (p .1) (q .1) i, v .1 .1 .1 .1)))))
+mbrumzheg-close κs args asked x y u v p q = (refl, λ i. (alike (p .0) (q .0) i, (v .1 .0, (v .1 .1 .0, (alike (p .1) (q .1) i, v .1 .1 .1 .1)))))

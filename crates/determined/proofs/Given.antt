@@ -1,7 +1,7 @@
 -- The contracts of `given` determine what a call gives: one theorem for each public function. Assumes nothing.
 use mathlib.Core.Path.{refl}
 use Rattle.determined.specs.Determines.{Determines}
-use Rattle.laws.specs.One.{one}
+use Rattle.laws.specs.One.{alike}
 use Rattle.given.proofs.is_name_number.Kinds as is-name-number-kinds
 use Rattle.given.proofs.is_name_number.Reads as is-name-number-reads
 use Rattle.given.proofs.are_roots.Kinds as are-roots-kinds
@@ -18,22 +18,22 @@ use Rattle.given.proofs.longest_window.Kinds as longest-window-kinds
 use Rattle.given.proofs.longest_window.Reads as longest-window-reads
 
 pub is-name-number : Determines 0 is-name-number-kinds.ps is-name-number-kinds.r is-name-number-reads.Asked is-name-number-reads.Learnt
-is-name-number κs args asked x y u v p q = (one p q, refl)
+is-name-number κs args asked x y u v p q = (alike p q, refl)
 
 pub are-roots : Determines 1 are-roots-kinds.ps are-roots-kinds.r are-roots-reads.Asked are-roots-reads.Learnt
-are-roots κs args asked x y u v p q = (one p q, refl)
+are-roots κs args asked x y u v p q = (alike p q, refl)
 
 pub are-rules : Determines 1 are-rules-kinds.ps are-rules-kinds.r are-rules-reads.Asked are-rules-reads.Learnt
-are-rules κs args asked x y u v p q = (one p q, refl)
+are-rules κs args asked x y u v p q = (alike p q, refl)
 
 pub are-totals : Determines 2 are-totals-kinds.ps are-totals-kinds.r are-totals-reads.Asked are-totals-reads.Learnt
-are-totals κs args asked x y u v p q = (one p q, refl)
+are-totals κs args asked x y u v p q = (alike p q, refl)
 
 pub has-rate : Determines 1 has-rate-kinds.ps has-rate-kinds.r has-rate-reads.Asked has-rate-reads.Learnt
-has-rate κs args asked x y u v p q = (one p q, refl)
+has-rate κs args asked x y u v p q = (alike p q, refl)
 
 pub rule-at : Determines 1 rule-at-kinds.ps rule-at-kinds.r rule-at-reads.Asked rule-at-reads.Learnt
-rule-at κs args asked x y u v p q = (one p q, refl)
+rule-at κs args asked x y u v p q = (alike p q, refl)
 
 pub longest-window : Determines 1 longest-window-kinds.ps longest-window-kinds.r longest-window-reads.Asked longest-window-reads.Learnt
-longest-window κs args asked x y u v p q = (one p q, refl)
+longest-window κs args asked x y u v p q = (alike p q, refl)

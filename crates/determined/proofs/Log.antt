@@ -1,7 +1,7 @@
 -- The contracts of `log` determine what a call gives: one theorem for each public function. Assumes nothing.
 use mathlib.Core.Path.{refl}
 use Rattle.determined.specs.Determines.{Determines}
-use Rattle.laws.specs.One.{one}
+use Rattle.laws.specs.One.{alike}
 use Rattle.log.proofs.is_log.Kinds as is-log-kinds
 use Rattle.log.proofs.is_log.Reads as is-log-reads
 use Rattle.log.proofs.counted.Kinds as counted-kinds
@@ -22,28 +22,28 @@ use Rattle.log.proofs.recalled.Kinds as recalled-kinds
 use Rattle.log.proofs.recalled.Reads as recalled-reads
 
 pub is-log : Determines 1 is-log-kinds.ps is-log-kinds.r is-log-reads.Asked is-log-reads.Learnt
-is-log κs args asked x y u v p q = (one p q, refl)
+is-log κs args asked x y u v p q = (alike p q, refl)
 
 pub counted : Determines 1 counted-kinds.ps counted-kinds.r counted-reads.Asked counted-reads.Learnt
-counted κs args asked x y u v p q = (one p q, refl)
+counted κs args asked x y u v p q = (alike p q, refl)
 
 pub unflag : Determines 1 unflag-kinds.ps unflag-kinds.r unflag-reads.Asked unflag-reads.Learnt
-unflag κs args asked x y u v p q = (refl, λ i. (one p q i, v .1))
+unflag κs args asked x y u v p q = (refl, λ i. (alike p q i, v .1))
 
 pub recent-entries : Determines 1 recent-entries-kinds.ps recent-entries-kinds.r recent-entries-reads.Asked recent-entries-reads.Learnt
-recent-entries κs args asked x y u v p q = (one p q, refl)
+recent-entries κs args asked x y u v p q = (alike p q, refl)
 
 pub blank : Determines 1 blank-kinds.ps blank-kinds.r blank-reads.Asked blank-reads.Learnt
-blank κs args asked x y u v p q = (refl, λ i. (one p q i, v .1))
+blank κs args asked x y u v p q = (refl, λ i. (alike p q i, v .1))
 
 pub join : Determines 1 join-kinds.ps join-kinds.r join-reads.Asked join-reads.Learnt
-join κs args asked x y u v p q = (refl, λ i. (one p q i, v .1))
+join κs args asked x y u v p q = (refl, λ i. (alike p q i, v .1))
 
 pub no-memos : Determines 0 no-memos-kinds.ps no-memos-kinds.r no-memos-reads.Asked no-memos-reads.Learnt
-no-memos κs args asked x y u v p q = (one (p .1) (q .1), refl)
+no-memos κs args asked x y u v p q = (alike (p .1) (q .1), refl)
 
 pub sum-in : Determines 0 sum-in-kinds.ps sum-in-kinds.r sum-in-reads.Asked sum-in-reads.Learnt
-sum-in κs args asked x y u v p q = (one p q, refl)
+sum-in κs args asked x y u v p q = (alike p q, refl)
 
 pub recalled : Determines 1 recalled-kinds.ps recalled-kinds.r recalled-reads.Asked recalled-reads.Learnt
-recalled κs args asked x y u v p q = (one (p .2) (q .2), refl)
+recalled κs args asked x y u v p q = (alike (p .2) (q .2), refl)

@@ -1,7 +1,7 @@
 -- The contracts of `packing` determine what a call gives: one theorem for each public function. Assumes nothing.
 use mathlib.Core.Path.{refl}
 use Rattle.determined.specs.Determines.{Determines}
-use Rattle.laws.specs.One.{one}
+use Rattle.laws.specs.One.{alike}
 use Rattle.packing.proofs.rule_of.Kinds as rule-of-kinds
 use Rattle.packing.proofs.rule_of.Reads as rule-of-reads
 use Rattle.packing.proofs.is_rule.Kinds as is-rule-kinds
@@ -18,22 +18,22 @@ use Rattle.packing.proofs.limit_number.Kinds as limit-number-kinds
 use Rattle.packing.proofs.limit_number.Reads as limit-number-reads
 
 pub rule-of : Determines 0 rule-of-kinds.ps rule-of-kinds.r rule-of-reads.Asked rule-of-reads.Learnt
-rule-of κs args asked x y u v p q = (one p q, refl)
+rule-of κs args asked x y u v p q = (alike p q, refl)
 
 pub is-rule : Determines 0 is-rule-kinds.ps is-rule-kinds.r is-rule-reads.Asked is-rule-reads.Learnt
-is-rule κs args asked x y u v p q = (one p q, refl)
+is-rule κs args asked x y u v p q = (alike p q, refl)
 
 pub rule-place : Determines 0 rule-place-kinds.ps rule-place-kinds.r rule-place-reads.Asked rule-place-reads.Learnt
-rule-place κs args asked x y u v p q = (one p q, refl)
+rule-place κs args asked x y u v p q = (alike p q, refl)
 
 pub entry-of : Determines 0 entry-of-kinds.ps entry-of-kinds.r entry-of-reads.Asked entry-of-reads.Learnt
-entry-of κs args asked x y u v p q = (one p q, refl)
+entry-of κs args asked x y u v p q = (alike p q, refl)
 
 pub is-entry-but-time : Determines 0 is-entry-but-time-kinds.ps is-entry-but-time-kinds.r is-entry-but-time-reads.Asked is-entry-but-time-reads.Learnt
-is-entry-but-time κs args asked x y u v p q = (one p q, refl)
+is-entry-but-time κs args asked x y u v p q = (alike p q, refl)
 
 pub entry-place : Determines 0 entry-place-kinds.ps entry-place-kinds.r entry-place-reads.Asked entry-place-reads.Learnt
-entry-place κs args asked x y u v p q = (one p q, refl)
+entry-place κs args asked x y u v p q = (alike p q, refl)
 
 pub limit-number : Determines 0 limit-number-kinds.ps limit-number-kinds.r limit-number-reads.Asked limit-number-reads.Learnt
-limit-number κs args asked x y u v p q = (one p q, refl)
+limit-number κs args asked x y u v p q = (alike p q, refl)

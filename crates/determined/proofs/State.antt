@@ -1,7 +1,7 @@
 -- The contracts of `state` determine what a call gives: one theorem for each public function. Assumes nothing.
 use mathlib.Core.Path.{refl}
 use Rattle.determined.specs.Determines.{Determines}
-use Rattle.laws.specs.One.{one}
+use Rattle.laws.specs.One.{alike}
 use Rattle.state.proofs.write_armed.Kinds as write-armed-kinds
 use Rattle.state.proofs.write_armed.Reads as write-armed-reads
 use Rattle.state.proofs.is_sound.Kinds as is-sound-kinds
@@ -36,49 +36,49 @@ use Rattle.state.proofs.orders_in.Kinds as orders-in-kinds
 use Rattle.state.proofs.orders_in.Reads as orders-in-reads
 
 pub write-armed : Determines 3 write-armed-kinds.ps write-armed-kinds.r write-armed-reads.Asked write-armed-reads.Learnt
-write-armed κs args asked x y u v p q = (refl, λ i. (one p q i, v .1))
+write-armed κs args asked x y u v p q = (refl, λ i. (alike p q i, v .1))
 
 pub is-sound : Determines 1 is-sound-kinds.ps is-sound-kinds.r is-sound-reads.Asked is-sound-reads.Learnt
-is-sound κs args asked x y u v p q = (one p q, refl)
+is-sound κs args asked x y u v p q = (alike p q, refl)
 
 pub clock-in : Determines 1 clock-in-kinds.ps clock-in-kinds.r clock-in-reads.Asked clock-in-reads.Learnt
-clock-in κs args asked x y u v p q = (one p q, refl)
+clock-in κs args asked x y u v p q = (alike p q, refl)
 
 pub roots-in : Determines 1 roots-in-kinds.ps roots-in-kinds.r roots-in-reads.Asked roots-in-reads.Learnt
-roots-in κs args asked x y u v p q = (one p q, refl)
+roots-in κs args asked x y u v p q = (alike p q, refl)
 
 pub name-in : Determines 1 name-in-kinds.ps name-in-kinds.r name-in-reads.Asked name-in-reads.Learnt
-name-in κs args asked x y u v p q = (one p q, refl)
+name-in κs args asked x y u v p q = (alike p q, refl)
 
 pub entries-in : Determines 1 entries-in-kinds.ps entries-in-kinds.r entries-in-reads.Asked entries-in-reads.Learnt
-entries-in κs args asked x y u v p q = (one p q, refl)
+entries-in κs args asked x y u v p q = (alike p q, refl)
 
 pub rules-in : Determines 1 rules-in-kinds.ps rules-in-kinds.r rules-in-reads.Asked rules-in-reads.Learnt
-rules-in κs args asked x y u v p q = (one p q, refl)
+rules-in κs args asked x y u v p q = (alike p q, refl)
 
 pub rule-in : Determines 1 rule-in-kinds.ps rule-in-kinds.r rule-in-reads.Asked rule-in-reads.Learnt
-rule-in κs args asked x y u v p q = (one p q, refl)
+rule-in κs args asked x y u v p q = (alike p q, refl)
 
 pub account-at : Determines 1 account-at-kinds.ps account-at-kinds.r account-at-reads.Asked account-at-reads.Learnt
-account-at κs args asked x y u v p q = (one p q, refl)
+account-at κs args asked x y u v p q = (alike p q, refl)
 
 pub total-in : Determines 1 total-in-kinds.ps total-in-kinds.r total-in-reads.Asked total-in-reads.Learnt
-total-in κs args asked x y u v p q = (one p q, refl)
+total-in κs args asked x y u v p q = (alike p q, refl)
 
 pub put-total : Determines 1 put-total-kinds.ps put-total-kinds.r put-total-reads.Asked put-total-reads.Learnt
-put-total κs args asked x y u v p q = (refl, λ i. (one p q i, v .1))
+put-total κs args asked x y u v p q = (refl, λ i. (alike p q i, v .1))
 
 pub put-clock : Determines 1 put-clock-kinds.ps put-clock-kinds.r put-clock-reads.Asked put-clock-reads.Learnt
-put-clock κs args asked x y u v p q = (refl, λ i. (one p q i, v .1))
+put-clock κs args asked x y u v p q = (refl, λ i. (alike p q i, v .1))
 
 pub longest-window : Determines 1 longest-window-kinds.ps longest-window-kinds.r longest-window-reads.Asked longest-window-reads.Learnt
-longest-window κs args asked x y u v p q = (one p q, refl)
+longest-window κs args asked x y u v p q = (alike p q, refl)
 
 pub used-at : Determines 1 used-at-kinds.ps used-at-kinds.r used-at-reads.Asked used-at-reads.Learnt
-used-at κs args asked x y u v p q = (one p q, refl)
+used-at κs args asked x y u v p q = (alike p q, refl)
 
 pub uses-less : Determines 1 uses-less-kinds.ps uses-less-kinds.r uses-less-reads.Asked uses-less-reads.Learnt
-uses-less κs args asked x y u v p q = (one p q, refl)
+uses-less κs args asked x y u v p q = (alike p q, refl)
 
 pub orders-in : Determines 1 orders-in-kinds.ps orders-in-kinds.r orders-in-reads.Asked orders-in-reads.Learnt
-orders-in κs args asked x y u v p q = (one p q, refl)
+orders-in κs args asked x y u v p q = (alike p q, refl)

@@ -1,9 +1,9 @@
 -- The contracts of `tables` determine what a call gives: one theorem for each public function. Assumes nothing.
 use mathlib.Core.Path.{refl}
 use Rattle.determined.specs.Determines.{Determines}
-use Rattle.laws.specs.One.{one}
+use Rattle.laws.specs.One.{alike}
 use Rattle.tables.proofs.is_zero.Kinds as is-zero-kinds
 use Rattle.tables.proofs.is_zero.Reads as is-zero-reads
 
 pub is-zero : Determines 1 is-zero-kinds.ps is-zero-kinds.r is-zero-reads.Asked is-zero-reads.Learnt
-is-zero κs args asked x y u v p q = (one p q, refl)
+is-zero κs args asked x y u v p q = (alike p q, refl)

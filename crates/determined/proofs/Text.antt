@@ -3,7 +3,7 @@ use Prim.Native.Nat.{ℕ}
 use mathlib.Core.List.{List}
 use mathlib.Core.Path.{refl}
 use Rattle.determined.specs.Determines.{DeterminesSeen, Determines}
-use Rattle.laws.specs.One.{one}
+use Rattle.laws.specs.One.{alike}
 use Rattle.text.proofs.find.Kinds as find-kinds
 use Rattle.text.proofs.find.Reads as find-reads
 use Rattle.text.proofs.field_at.Kinds as field-at-kinds
@@ -28,35 +28,35 @@ use Rattle.text.proofs.put_decimal.Kinds as put-decimal-kinds
 use Rattle.text.proofs.put_decimal.Reads as put-decimal-reads
 
 pub find : Determines 1 find-kinds.ps find-kinds.r find-reads.Asked find-reads.Learnt
-find κs args asked x y u v p q = (one p q, refl)
+find κs args asked x y u v p q = (alike p q, refl)
 
 -- the answer is a part of the line that was lent: the bytes in it are determined, and where it lies is not said
 pub field-at : DeterminesSeen 1 field-at-kinds.ps field-at-kinds.r (λ κs. List ℕ) (λ κs part. part .now) field-at-reads.Asked field-at-reads.Learnt
-field-at κs args asked x y u v p q = (one p q, refl)
+field-at κs args asked x y u v p q = (alike p q, refl)
 
 pub equal : Determines 2 equal-kinds.ps equal-kinds.r equal-reads.Asked equal-reads.Learnt
-equal κs args asked x y u v p q = (one p q, refl)
+equal κs args asked x y u v p q = (alike p q, refl)
 
 pub firm-name : Determines 1 firm-name-kinds.ps firm-name-kinds.r firm-name-reads.Asked firm-name-reads.Learnt
-firm-name κs args asked x y u v p q = (one p q, refl)
+firm-name κs args asked x y u v p q = (alike p q, refl)
 
 pub root-name : Determines 1 root-name-kinds.ps root-name-kinds.r root-name-reads.Asked root-name-reads.Learnt
-root-name κs args asked x y u v p q = (one p q, refl)
+root-name κs args asked x y u v p q = (alike p q, refl)
 
 pub digits : Determines 1 digits-kinds.ps digits-kinds.r digits-reads.Asked digits-reads.Learnt
-digits κs args asked x y u v p q = (one p q, refl)
+digits κs args asked x y u v p q = (alike p q, refl)
 
 pub decimal-size : Determines 0 decimal-size-kinds.ps decimal-size-kinds.r decimal-size-reads.Asked decimal-size-reads.Learnt
-decimal-size κs args asked x y u v p q = (one p q, refl)
+decimal-size κs args asked x y u v p q = (alike p q, refl)
 
 pub name-size : Determines 0 name-size-kinds.ps name-size-kinds.r name-size-reads.Asked name-size-reads.Learnt
-name-size κs args asked x y u v p q = (one p q, refl)
+name-size κs args asked x y u v p q = (alike p q, refl)
 
 pub put-words : Determines 2 put-words-kinds.ps put-words-kinds.r put-words-reads.Asked put-words-reads.Learnt
-put-words κs args asked x y u v p q = (one (p .0) (q .0), λ i. (v .0, (one (p .1) (q .1) i, v .1 .1)))
+put-words κs args asked x y u v p q = (alike (p .0) (q .0), λ i. (v .0, (alike (p .1) (q .1) i, v .1 .1)))
 
 pub put-name : Determines 1 put-name-kinds.ps put-name-kinds.r put-name-reads.Asked put-name-reads.Learnt
-put-name κs args asked x y u v p q = (one (p .0) (q .0), λ i. (v .0, (one (p .1) (q .1) i, v .1 .1)))
+put-name κs args asked x y u v p q = (alike (p .0) (q .0), λ i. (v .0, (alike (p .1) (q .1) i, v .1 .1)))
 
 pub put-decimal : Determines 1 put-decimal-kinds.ps put-decimal-kinds.r put-decimal-reads.Asked put-decimal-reads.Learnt
-put-decimal κs args asked x y u v p q = (one (p .0) (q .0), λ i. (v .0, (one (p .1) (q .1) i, v .1 .1)))
+put-decimal κs args asked x y u v p q = (alike (p .0) (q .0), λ i. (v .0, (alike (p .1) (q .1) i, v .1 .1)))

@@ -17,7 +17,7 @@ use Rattle.packing.proofs.EntryPlace.{entry-valid}
 use Rattle.state.specs.Laid.{Fits, withLog}
 use Rattle.machine.specs.declared.Offer.{Offer}
 use Rattle.machine.proofs.Lists.{every-keep, every-join}
-use Rattle.grant.specs.Grant.{Asked, HasRoom}
+use Rattle.grant.specs.Grant.{Fillable, HasRoom}
 use Rattle.machine.proofs.Windows.{rate-longest}
 
 -- whether a fill joins the log, by the longest window
@@ -52,7 +52,7 @@ module _ (s : State) (f : Fits s) {window : ℕ} (is : window ≡ longest (rules
           subst (λ (w : ℕ). length (recent w (o .time) (s .log)) < 512) (sym is) (room (rate-is ∙ and-l (ltb 0 window) (ltb 0 grant) both) grant-some)
 
 -- the entry of a fill is in range
-pub entry-in : {xs : List ℕ} {o : Offer} {grant : ℕ} (roots : ℕ) → Asked xs o → o .root < roots → 0 < grant → grant ≤ offers .most
+pub entry-in : {xs : List ℕ} {o : Offer} {grant : ℕ} (roots : ℕ) → Fillable xs o → o .root < roots → 0 < grant → grant ≤ offers .most
     → isEntry roots (entryOf o grant) ≡ true
 unfolding entryOf
 entry-in {o = o} {grant = grant} roots a r pos most = entry-valid roots (entryOf o grant) (record {
@@ -64,7 +64,7 @@ entry-in {o = o} {grant = grant} roots a r pos most = entry-valid roots (entryOf
 })
 
 -- a state with the log after a fill still fits
-pub fits-joined : {xs : List ℕ} {o : Offer} {grant : ℕ} (s : State) → Fits s → Asked xs o → o .root < length (s .part .profile .roots) → grant ≤ offers .most
+pub fits-joined : {xs : List ℕ} {o : Offer} {grant : ℕ} (s : State) → Fits s → Fillable xs o → o .root < length (s .part .profile .roots) → grant ≤ offers .most
     → HasRoom s o grant → Fits (withLog s (joinedLog (rulesIn s) (s .log) o grant))
 unfolding joinedLog recent rulesIn rootsIn
 fits-joined {o = o} {grant = grant} s f a r most room = go (hasRate (rulesIn s)) refl (ltb 0 grant) refl

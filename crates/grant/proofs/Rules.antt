@@ -14,7 +14,7 @@ use Rattle.rules.specs.declared.Rule.{Rule}
 use Rattle.rules.specs.declared.Account.{Account}
 use Rattle.machine.specs.declared.Offer.{Offer}
 use Rattle.machine.specs.State.{rulesIn, Fitting}
-use Rattle.machine.specs.Remaining.{noAccount, ruleAt, firstCell}
+use Rattle.machine.specs.Remaining.{noAccount, ruleNumbered, firstCell}
 use Rattle.machine.specs.Offers.{coversOffer, credited}
 use Rattle.machine.proofs.Walk.{facing-account, facing-rule, through}
 use Rattle.state.specs.State.{decode}
@@ -36,9 +36,9 @@ module _ {xs : List ℕ} (h : Laid xs) where
   abbrev accounts : List Account
   accounts = decode xs .part .accounts
 
-  module _ {r : ℕ} (low : r < length rules) {place : ℕ} (at : place ≡ firstCell rules r) {rule : Rule} (is : rule ≡ ruleAt rules r) where
+  module _ {r : ℕ} (low : r < length rules) {place : ℕ} (at : place ≡ firstCell rules r) {rule : Rule} (is : rule ≡ ruleNumbered rules r) where
     module _ (o : Offer) (known : In units (o .unit)) {n : ℕ} (own : n ≡ placeIn (rule .scope) (o .unit)) where
-      facing : place + n ≡ firstCell rules r + placeIn (ruleAt rules r .scope) (o .unit)
+      facing : place + n ≡ firstCell rules r + placeIn (ruleNumbered rules r .scope) (o .unit)
       facing = ap₂ (λ (a b : ℕ). a + b) at (own ∙ ap (λ (q : Rule). placeIn (q .scope) (o .unit)) is)
 
       -- the account that the offer looks at, and its rule

@@ -25,7 +25,7 @@ use Rattle.machine.specs.declared.Sent.{Sent}
 use Rattle.machine.specs.Deeds.{Source, granted, reported, filling, clockAfter}
 use Rattle.machine.specs.Step.{after, partAfter, accountsAfter, locksAfter, logAfter}
 use Rattle.machine.proofs.Grants.{grant-le}
-use Rattle.grant.specs.Grant.{leastAt, reachedAt, Asked, HasRoom, AllCredited, marked, Ready, Returning}
+use Rattle.grant.specs.Grant.{leastAt, reachedAt, Fillable, HasRoom, AllCredited, marked, Ready, Returning}
 use Rattle.grant.specs.declared.Cuts.{Cuts}
 use Rattle.grant.specs.declared.Reached.{Reached}
 use Rattle.grant.specs.declared.Trips.{Trips}
@@ -34,7 +34,7 @@ use Rattle.grant.proofs.Credits.{credit-fair}
 use Rattle.grant.proofs.Joined.{fits-joined}
 use Rattle.machine.specs.Register.{usedUp, areDifferent, registerAfter, registerBy}
 use Rattle.machine.proofs.Register.{registered-used}
-use Rattle.register.specs.Register.{registerNumbers, registerIn, RegisterHeld, sentIn}
+use Rattle.register.specs.Register.{registerNumbers, registerIn, RegisterHeld, sentAtPlace}
 
 -- a state with its totals after a grant, and with its log after it
 abbrev pub paid : Offer → ℕ → State → State
@@ -53,7 +53,7 @@ clock-holds {time = time} h e = record { fits = fits-clock (h .fits) time; is = 
 
 -- so many contracts of an offer to be filled, for which the log has a place
 pub record Filling (xs : List ℕ) (o : Offer) (n : ℕ) : Type 0 where
-  pub asked : Asked xs o
+  pub asked : Fillable xs o
   pub most : n ≤ offers .most
   pub room : HasRoom (decode xs) o n
 
@@ -150,17 +150,17 @@ module _ {xs : List ℕ} {o : Offer} {i : ℕ} (r : Returning xs o i) where
 
     -- the order at place i is as it was
     pub still-placed : RegisterHeld (registerPart zs) × (areDifferent (registerIn (registerPart zs)) ≡ true) × (i < length (registerIn (registerPart zs)))
-        × (o .contracts ≤ sentIn (registerIn (registerPart zs)) i .contracts .0) × (0 < sentIn (registerIn (registerPart zs)) i .reports)
+        × (o .contracts ≤ sentAtPlace (registerIn (registerPart zs)) i .contracts .0) × (0 < sentAtPlace (registerIn (registerPart zs)) i .reports)
     still-placed = rw same-register (laid-orders (held-laid h), r .different, r .placed, r .within, r .allowed)
 
     pub reported-holds : {part : List ℕ}
-        → part ≡ registerNumbers (map (usedUp (sentIn (registerIn (registerPart zs)) i .identity) (o .contracts)) (registerIn (registerPart zs)))
-        → Holds (used (reported (sentIn (decode xs .part .register) i .identity)) (o .contracts) (logged o (o .contracts) (paid o (o .contracts) (decode xs)))) xs (putRegister zs part)
+        → part ≡ registerNumbers (map (usedUp (sentAtPlace (registerIn (registerPart zs)) i .identity) (o .contracts)) (registerIn (registerPart zs)))
+        → Holds (used (reported (sentAtPlace (decode xs .part .register) i .identity)) (o .contracts) (logged o (o .contracts) (paid o (o .contracts) (decode xs)))) xs (putRegister zs part)
     unfolding registerBy rootsIn
     reported-holds e =
         let register = decode xs .part .register in
-        let uses : List Sent → List Sent = λ sent. map (usedUp (sentIn sent i .identity) (o .contracts)) sent in
+        let uses : List Sent → List Sent = λ sent. map (usedUp (sentAtPlace sent i .identity) (o .contracts)) sent in
         record {
-          fits = fits-register (h .fits) (registered-used (record { few = h .fits .few; registered = h .fits .sent; different = r .different }) (sentIn register i .identity) (o .contracts));
+          fits = fits-register (h .fits) (registered-used (record { few = h .fits .few; registered = h .fits .sent; different = r .different }) (sentAtPlace register i .identity) (o .contracts));
           is = step-on h (λ (s : State). withRegister s (uses (s .part .register))) (register-after (held-laid h) (uses (decode zs .part .register)) (e ∙ ap (λ (l : List Sent). registerNumbers (uses l)) (laid-sent (held-laid h))));
         }

@@ -22,7 +22,7 @@ use Rattle.machine.specs.Offers.{counted, coversOffer, sameLevel, grantOf, leve
 use Rattle.state.specs.State.{stored, decode}
 use Rattle.state.specs.Laid.{Laid, accountIn, withClock, withLocks, withAccounts}
 use Rattle.locks.specs.Locks.{tripping}
-use Rattle.register.specs.Register.{sentIn}
+use Rattle.register.specs.Register.{sentAtPlace}
 use Rattle.machine.specs.declared.Offer.{Offer}
 use Rattle.machine.specs.Deeds.{granted, reported, filling}
 use Rattle.machine.specs.Register.{areDifferent}
@@ -63,7 +63,7 @@ unfoldable pub reachedAt : Offer → ℕ → List Account → Level → Bool
 reachedAt o grant accounts level = anyOf (λ a. concerns o level a && fills o grant a) accounts
 
 -- a memory in which a state is laid out, its log in order of time, and an offer in range for it that is no earlier than any entry
-pub record Asked (xs : List ℕ) (o : Offer) : Type 0 where
+pub record Fillable (xs : List ℕ) (o : Offer) : Type 0 where
   pub laid : Laid xs
   pub root : o .root < length (decode xs .part .profile .roots)
   pub unit : In units (o .unit)
@@ -118,7 +118,7 @@ marked s o trips = withLocks (withClock s (o .time)) (trippedBy (tripping (trips
 
 -- an offer with its cuts and its grant, for which the log has a place
 pub record Ready (xs : List ℕ) (o : Offer) (grant : ℕ) (cuts : Cuts) : Type 0 where
-  pub asked : Asked xs o
+  pub asked : Fillable xs o
   pub totals : areTotals (decode xs) ≡ true
   pub levels : AreCuts xs o cuts
   pub least : grant ≡ grantOf (decode xs .log) o (decode xs .part .accounts)
@@ -132,12 +132,12 @@ pub record Filled (xs : List ℕ) (o : Offer) (grant : ℕ) (ys : List ℕ) (tri
 
 -- a report of contracts for the order at place i of the register, which it does not overdraw and for which the log has a place
 pub record Returning (xs : List ℕ) (o : Offer) (i : ℕ) : Type 0 where
-  pub asked : Asked xs o
+  pub asked : Fillable xs o
   pub totals : areTotals (decode xs) ≡ true
   pub different : areDifferent (decode xs .part .register) ≡ true
   pub placed : i < length (decode xs .part .register)
-  pub within : o .contracts ≤ sentIn (decode xs .part .register) i .contracts .0
-  pub allowed : 0 < sentIn (decode xs .part .register) i .reports
+  pub within : o .contracts ≤ sentAtPlace (decode xs .part .register) i .contracts .0
+  pub allowed : 0 < sentAtPlace (decode xs .part .register) i .reports
   pub room : HasRoom (decode xs) o (o .contracts)
 
 -- the memory after a report for the order of an identity, and the levels that it trips

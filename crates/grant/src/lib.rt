@@ -12,8 +12,8 @@ ghost use Rattle.rules.specs.Valid.{isTotal};
 ghost use Rattle.machine.specs.State.{rulesIn};
 ghost use Rattle.state.specs.State.{stored, decode};
 ghost use Rattle.state.specs.Laid.{Laid, accountIn, withLog};
-ghost use Rattle.register.specs.Register.{sentIn};
-ghost use Rattle.grant.specs.Grant.{Asked, areTotals, Lowered, AreCuts, Credited, AllCredited, HasRoom, marked, Ready, Filled, Returning, Returned};
+ghost use Rattle.register.specs.Register.{sentAtPlace};
+ghost use Rattle.grant.specs.Grant.{Fillable, areTotals, Lowered, AreCuts, Credited, AllCredited, HasRoom, marked, Ready, Filled, Returning, Returned};
 
 mod overruns;
 
@@ -75,7 +75,7 @@ struct Lowering {
 
 // The cuts after account i, which has this rule: that of its level is lowered to what it allows, if it covers the offer.
 fn lower(m: &[u64], o: Offer, i: usize, rule: Rule, cuts: Cuts, memos: Two) -> Lowering
-    requires { ⌜ Asked (now m) o × (i < length (decode (now m) .part .accounts)) × (rule ≡ accountIn (now m) i .rule) × RightTwo (decode (now m) .log) memos ⌝ }
+    requires { ⌜ Fillable (now m) o × (i < length (decode (now m) .part .accounts)) × (rule ≡ accountIn (now m) i .rule) × RightTwo (decode (now m) .log) memos ⌝ }
     ensures { λ r. ⌜ Lowered (now (m .entry)) o i cuts (r .cuts) × RightTwo (decode (now (m .entry)) .log) (r .memos) ⌝ }
 {
     if !rule.covers(o.root, o.unit) {
@@ -107,7 +107,7 @@ fn lower(m: &[u64], o: Offer, i: usize, rule: Rule, cuts: Cuts, memos: Two) -> L
 
 // The cuts of an offer: of each rule, the account for the offer's unit is asked.
 pub fn cuts_of(m: &[u64], o: Offer) -> Cuts
-    requires { ⌜ Asked (now m) o ⌝ }
+    requires { ⌜ Fillable (now m) o ⌝ }
     ensures { λ r. ⌜ AreCuts (now (m .entry)) o r ⌝ }
 {
     let rules = state::rules_in(m);
@@ -153,7 +153,7 @@ fn credit_one(m: &mut [u64], o: Offer, grant: u64, i: usize, rule: Rule, before:
 
 // Every account is credited with a grant: of each rule, that for the offer's unit may rise.
 fn credit(m: &mut [u64], o: Offer, grant: u64) -> Reached
-    requires { ⌜ Asked (now m) o × (areTotals (decode (now m)) ≡ true) × (grant ≤ offers .most) ⌝ }
+    requires { ⌜ Fillable (now m) o × (areTotals (decode (now m)) ≡ true) × (grant ≤ offers .most) ⌝ }
     ensures { λ r. ⌜ AllCredited o grant (now (m .entry)) (now (m .exit)) r ⌝ }
 {
     let rules = state::rules_in(m);
@@ -175,7 +175,7 @@ fn credit(m: &mut [u64], o: Offer, grant: u64) -> Reached
 
 // The fill joins the log, if the grant is above 0 and a rule is a rate rule.
 fn join_log(m: &mut [u64], o: Offer, grant: u64)
-    requires { ⌜ Asked (now m) o × (grant ≤ offers .most) × HasRoom (decode (now m)) o grant ⌝ }
+    requires { ⌜ Fillable (now m) o × (grant ≤ offers .most) × HasRoom (decode (now m)) o grant ⌝ }
     ensures { λ _. ⌜ now (m .exit) ≡ stored (withLog (decode (now (m .entry))) (joinedLog (rulesIn (decode (now (m .entry)))) (decode (now (m .entry)) .log) o grant)) (now (m .entry)) ⌝ }
 {
     let longest = state::longest_window(m);
@@ -227,7 +227,7 @@ pub fn fill(m: &mut [u64], o: Offer, grant: u64, cuts: Cuts) -> Trips
 // Memory after a report of the offer's contracts for the order at place i of the register: totals, log, register, clock and trips. Returns the trips.
 pub fn come_back(m: &mut [u64], o: Offer, i: usize) -> Trips
     requires { ⌜ Returning (now m) o i ⌝ }
-    ensures { λ r. ⌜ Returned (now (m .entry)) o (sentIn (decode (now (m .entry)) .part .register) i .identity) (now (m .exit)) r ⌝ }
+    ensures { λ r. ⌜ Returned (now (m .entry)) o (sentAtPlace (decode (now (m .entry)) .part .register) i .identity) (now (m .exit)) r ⌝ }
 {
     let trips = overruns::trips_of(m, o);
     credit(m, o, o.contracts);

@@ -6,7 +6,7 @@ ghost use lib.ListN.{length};
 ghost use Rattle.rules.specs.Valid.{isTotal};
 ghost use Rattle.state.specs.State.{decode};
 ghost use Rattle.state.specs.Laid.{accountIn};
-ghost use Rattle.grant.specs.Grant.{Asked, areTotals, Overrun, AreTrips};
+ghost use Rattle.grant.specs.Grant.{Fillable, areTotals, Overrun, AreTrips};
 use crate::Trips;
 use crate::is_firm;
 use machine::Offer;
@@ -16,7 +16,7 @@ use rules::Rule;
 
 // The trips after account i, which has this rule: its level trips if the rule covers the report and its limit is passed after it.
 fn overrun_one(m: &[u64], o: Offer, i: usize, rule: Rule, before: Trips) -> Trips
-    requires { ⌜ Asked (now m) o × (i < length (decode (now m) .part .accounts)) × (rule ≡ accountIn (now m) i .rule) × (isTotal (accountIn (now m) i .rule) (accountIn (now m) i .total) ≡ true) ⌝ }
+    requires { ⌜ Fillable (now m) o × (i < length (decode (now m) .part .accounts)) × (rule ≡ accountIn (now m) i .rule) × (isTotal (accountIn (now m) i .rule) (accountIn (now m) i .total) ≡ true) ⌝ }
     ensures { λ r. ⌜ Overrun (now (m .entry)) o i before r ⌝ }
 {
     if !rule.covers(o.root, o.unit) {
@@ -33,7 +33,7 @@ fn overrun_one(m: &[u64], o: Offer, i: usize, rule: Rule, before: Trips) -> Trip
 
 // The trips of a report: of each rule, the account for the report's unit is asked.
 pub(crate) fn trips_of(m: &[u64], o: Offer) -> Trips
-    requires { ⌜ Asked (now m) o × (areTotals (decode (now m)) ≡ true) ⌝ }
+    requires { ⌜ Fillable (now m) o × (areTotals (decode (now m)) ≡ true) ⌝ }
     ensures { λ r. ⌜ AreTrips (now (m .entry)) o r ⌝ }
 {
     let rules = state::rules_in(m);

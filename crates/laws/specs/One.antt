@@ -1,5 +1,5 @@
 -- Two values that a contract says are one are equal. Assumes nothing.
 use mathlib.Core.Path.{_≡_, sym, _∙_}
 
-pub one : {A : Type 0} {x y z : A} → x ≡ z → y ≡ z → x ≡ y
-one p q = p ∙ sym q
+pub alike : {A : Type 0} {x y z : A} → x ≡ z → y ≡ z → x ≡ y
+alike p q = p ∙ sym q

@@ -10,7 +10,7 @@ use Rattle.rules.specs.declared.Kind.{Kind}
 use Rattle.rules.specs.declared.Kind.the-variants.{Rate, Absolute}
 use Rattle.rules.specs.declared.Limit.{Limit}
 use Rattle.rules.specs.declared.Limit.the-variants.{Notional, Volume, Count}
-use Rattle.text.specs.Text.{bytes, all, onto, pieces, made, numeral, nameNumber, numberOf, nameOf}
+use Rattle.text.specs.Text.{bytes, all, onto, pieces, made, numeral, nameNumber, fieldNumber, nameOf}
 use Rattle.line.specs.Line.{typeOf, isAbsolute, limitsOf, limitOf, kindOf, timeOf, letterOf, malformed, otherFirm, outOfRange, levelClash, unitClash, faultOf, scopeOf, ruleOf, lineOf}
 use Rattle.line.specs.declared.Line.{Line}
 use Rattle.line.specs.declared.Line.the-variants.{Is, Refused}
@@ -135,5 +135,5 @@ rows =
     ∷ []
 
 pub right : map (λ r. lineOf (nameNumber (bytes "ABCD")) (bytes (r .0))) rows ≡ map (λ r. r .1) rows
-unfolding same all onto pieces made numeral numberOf nameOf typeOf isAbsolute limitsOf limitOf kindOf timeOf letterOf malformed otherFirm outOfRange levelClash unitClash faultOf scopeOf ruleOf lineOf
+unfolding same all onto pieces made numeral fieldNumber nameOf typeOf isAbsolute limitsOf limitOf kindOf timeOf letterOf malformed otherFirm outOfRange levelClash unitClash faultOf scopeOf ruleOf lineOf
 right = refl

@@ -13,7 +13,7 @@ use Rattle.rules.specs.declared.Kind.the-variants.{Rate, Absolute}
 use Rattle.rules.specs.declared.Limit.{Limit}
 use Rattle.rules.specs.declared.Limit.the-variants.{Notional, Volume, Count}
 use Rattle.rules.specs.declared.Rule.{Rule}
-use Rattle.text.specs.Text.{bytes, fields, field, numberOf, nameOf}
+use Rattle.text.specs.Text.{bytes, fields, field, fieldNumber, nameOf}
 use Rattle.text.specs.declared.Number.{Number}
 use Rattle.text.specs.declared.Number.the-variants.{Is as Read, Bad}
 use Rattle.line.specs.declared.LimitType.{LimitType}
@@ -64,7 +64,7 @@ kindOf type time = cond (isAbsolute type) Absolute (Rate (max 100 time))
 
 -- a time limit: an absolute type ignores the field, whichever bytes it has, and an empty one reads as 0
 unfoldable pub timeOf : Bool → List ℕ → Number
-timeOf absolute f = cond absolute (Read 0) (cond (eqb (length f) 0) (Read 0) (numberOf f))
+timeOf absolute f = cond absolute (Read 0) (cond (eqb (length f) 0) (Read 0) (fieldNumber f))
 
 -- a field that may be empty (0), the letter a (1) or the letter b (2); anything else is 3
 unfoldable pub letterOf : ℕ → ℕ → List ℕ → ℕ
@@ -98,7 +98,7 @@ abbrev pub rootField : List ℕ → Number
 rootField line = nameOf 0 6 (field line 2)
 
 abbrev pub limitField : List ℕ → Number
-limitField line = numberOf (field line 3)
+limitField line = fieldNumber (field line 3)
 
 abbrev pub timeField : List ℕ → Number
 timeField line = timeOf (isAbsolute (theType (typeField line))) (field line 4)

@@ -3,7 +3,7 @@ use Prim.Native.Nat.{ℕ}
 use mathlib.Core.Path.{_≡_, sym, ap, _∙_}
 use mathlib.Core.List.{List, _++_}
 use lib.ListN.{length, take, drop}
-use Rattle.shapes.specs.Shape.{both, named, word, flag, one}
+use Rattle.shapes.specs.Shape.{both, named, word, flag, cell}
 use Rattle.machine.specs.State.{Locks}
 use Rattle.state.specs.State.{number, locksOf, locksShape, locksNumbers, stored, decode}
 use Rattle.state.specs.Laid.{Laid, withLocks}
@@ -15,7 +15,7 @@ use Rattle.locks.proofs.Numbers.{flag-told}
 
 -- the numbers of locks stand for these
 locks-back : (l : Locks) → locksIn (locksNumbers l) ≡ l
-unfolding locksIn locksShape locksOf named both word flag number one
+unfolding locksIn locksShape locksOf named both word flag number cell
 locks-back l = λ i. record {
   firmTripped = flag-told (l .firmTripped) i;
   firmByUser = flag-told (l .firmByUser) i;

@@ -8,7 +8,7 @@ use native.Mathlib.Omega.{arith}
 use lib.ListN.{length, getD, take, drop, set, length-append, length-drop, take-append-drop}
 use lib.Seq.{take-at, drop-at, take-suc, length-take-le, getD-append-add, getD-drop}
 use Rattle.laws.specs.Tests.{and-l, and-r}
-use Rattle.tables.specs.Tables.{zeros, flat, table}
+use Rattle.tables.specs.Tables.{zeros, flat, tableNumbers}
 use Rattle.packing.specs.EntryPlace.{entryNumbers}
 use Rattle.machine.specs.declared.Entry.{Entry}
 use Rattle.rules.specs.Rules.{counts}
@@ -19,7 +19,7 @@ use Rattle.laws.specs.Folds.{every, keep}
 use Rattle.machine.proofs.Lists.{keep-le}
 use Rattle.tables.proofs.Tables.{length-flat, length-places}
 use Rattle.packing.proofs.EntryPlace.{entry-ranged}
-use Rattle.log.specs.Log.{Held, entriesOf, Last, Kept}
+use Rattle.log.specs.Log.{HeldLog, entriesOf, Last, Kept}
 use Rattle.log.specs.Newest.{isSince, newest, lookedAt}
 use Rattle.log.specs.Sieve.{firstTime}
 use Rattle.log.proofs.Logs.{codec, held-valid, held-table}
@@ -36,13 +36,13 @@ counts-since kind time (e ∷ es) v =
     rw (still-counts kind (e .time) time here, counts-since kind time es (and-r (isEntry 64 e) (every (isEntry 64) es) v))
 
 -- a reading for a kind looks at no more entries than those that still count, which are those inside its window, and one
-pub few-for-kind : (kind : Kind) (time k : ℕ) (xs : List ℕ) → Held k xs → areOrdered 0 time (entriesOf k xs) ≡ true
+pub few-for-kind : (kind : Kind) (time k : ℕ) (xs : List ℕ) → HeldLog k xs → areOrdered 0 time (entriesOf k xs) ≡ true
     → lookedAt (firstTime kind time) (entriesOf k xs) ≤ length (keep (λ e. counts kind (e .time) time) (entriesOf k xs)) + 1
 few-for-kind kind time k xs held ordered =
     omega (arith, few-looked-at (firstTime kind time) 0 time (entriesOf k xs) ordered, ap length (counts-since kind time (entriesOf k xs) (held-valid held)))
 
 -- in order of time those inside a window are the last ones
-module _ (window time k : ℕ) (xs : List ℕ) (held : Held k xs) (ordered : areOrdered 0 time (entriesOf k xs) ≡ true) where
+module _ (window time k : ℕ) (xs : List ℕ) (held : HeldLog k xs) (ordered : areOrdered 0 time (entriesOf k xs) ≡ true) where
   abbrev first : ℕ
   first = firstTime (Rate window) time
 
@@ -70,7 +70,7 @@ flat-drop es d zs h =
     ∙ drop-at (flat entryNumbers (take d es)) (flat entryNumbers (drop d es) ++ zs) (d * 2)
     (length-flat codec (take d es) ∙ ap (λ (n : ℕ). n * 2) (length-take-le d es h))
 
-module _ {window time k : ℕ} {xs : List ℕ} (held : Held k xs) {r : ℕ} (inside : Last window time k xs r) where
+module _ {window time k : ℕ} {xs : List ℕ} (held : HeldLog k xs) {r : ℕ} (inside : Last window time k xs r) where
   abbrev es : List Entry
   es = entriesOf k xs
 
@@ -83,7 +83,7 @@ module _ {window time k : ℕ} {xs : List ℕ} (held : Held k xs) {r : ℕ} (ins
       all-kept held (inside .last ∙ ap (λ (n : ℕ). drop n es) none)
 
   pub kept-moved : {ys : List ℕ} → ys ≡ take (r * 2) (drop ((k - r) * 2) xs) ++ drop (r * 2) xs → Kept window time k xs ys r
-  unfolding table
+  unfolding tableNumbers
   kept-moved {ys} e =
       let n = r * 2 in
       let gone = k - r in

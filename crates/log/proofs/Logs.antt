@@ -18,7 +18,7 @@ use Rattle.packing.proofs.Parts.{two}
 use Rattle.tables.proofs.Tables.{Codec, is-table, valid-places, length-table, length-places, place-table, places-table, rest-table}
 use Rattle.tables.proofs.Passing.{pass-each, each-pass}
 use Rattle.packing.proofs.EntryPlace.{entry-codec, entry-wider}
-use Rattle.log.specs.Log.{isLogPlace, entriesHold, logHolds, Held, HeldIn, entriesOf, placesIn, entriesIn, logNumbers}
+use Rattle.log.specs.Log.{isLogPlace, entriesHold, logHolds, HeldLog, HeldIn, entriesOf, placesIn, entriesIn, logNumbers}
 
 -- an entry of at most 64 roots in its place
 pub codec : Codec 2 (isEntry 64) entryAt entryNumbers
@@ -43,7 +43,7 @@ place-numbers xs at h pass =
     let first : take 2 (drop at xs) ≡ getD xs at 0 ∷ getD xs (at + 1) 0 ∷ [] = ap (take 2) (two xs at h) in
     sym first ∙ same-eq (take 2 (drop at xs)) numbers (and-l (same (take 2 (drop at xs)) numbers) (isEntry 64 (entryAt (drop at xs))) pass)
 
-module _ {k : ℕ} {xs : List ℕ} (h : Held k xs) where
+module _ {k : ℕ} {xs : List ℕ} (h : HeldLog k xs) where
   pub held-entry : {i : ℕ} {e : Entry} → i < k → e ≡ entryAt (drop (i * 2) xs) → isEntry 64 e ≡ true
   held-entry {i = i} l is = ap (isEntry 64) is ∙ place-valid 64 (drop (i * 2) xs) (pass-each 2 (isEntryPlace 64) k xs (h .entries) i l)
 
@@ -86,7 +86,7 @@ holds-parts n clock k xs =
     turn false b c = refl
 
 -- a log that passes the test holds entries, and so does the table of entries in range
-pub log-held : (n clock k : ℕ) (xs : List ℕ) → n ≤ 64 → length xs ≡ 1024 → k ≤ 512 → entriesHold n clock k xs ≡ true → Held k xs
+pub log-held : (n clock k : ℕ) (xs : List ℕ) → n ≤ 64 → length xs ≡ 1024 → k ≤ 512 → entriesHold n clock k xs ≡ true → HeldLog k xs
 unfolding entriesHold isLogPlace
 log-held n clock k xs few size fits h =
     let pass = placesPass 2 (isLogPlace n) k xs in
@@ -100,7 +100,7 @@ log-held n clock k xs few size fits h =
       rest = and-r (pass && ordered) rest h;
     }
 
-pub table-held : (es : List Entry) → length es ≤ 512 → every (isEntry 64) es ≡ true → Held (length es) (logTable es)
+pub table-held : (es : List Entry) → length es ≤ 512 → every (isEntry 64) es ≡ true → HeldLog (length es) (logTable es)
 table-held es fits v = record {
   size = length-table codec 512 es fits;
   fits = fits;
@@ -135,7 +135,7 @@ module _ (n clock : ℕ) (xs : List ℕ) where
 pub numbers-held : (es : List Entry) → length es ≤ 512 → every (isEntry 64) es ≡ true → HeldIn (logNumbers es)
 numbers-held es fits v =
     let h = table-held es fits v in
-    record { long = omega (arith, h .size); held = subst (Held (length es)) (sym (take-all 1024 (logTable es) (omega (arith, h .size)))) h }
+    record { long = omega (arith, h .size); held = subst (HeldLog (length es)) (sym (take-all 1024 (logTable es) (omega (arith, h .size)))) h }
 
 pub numbers-entries : (es : List Entry) → length es ≤ 512 → every (isEntry 64) es ≡ true → entriesIn (logNumbers es) ≡ es
 numbers-entries es fits v =

@@ -23,10 +23,10 @@ use Rattle.packing.proofs.EntryPlace.{entry-here, entry-ranged}
 use Rattle.log.proofs.Logs.{held-entry}
 use Rattle.log.specs.declared.sieves.Sieve.{Sieve}
 use Rattle.log.specs.declared.Memo.{Memo}
-use Rattle.log.specs.Log.{Held, entriesOf}
+use Rattle.log.specs.Log.{HeldLog, entriesOf}
 use Rattle.log.specs.Newest.{isSince, newest}
 use Rattle.log.specs.Sieve.{sieveOf, isWanted, passes, fillNumber, sifted}
-use Rattle.log.specs.Memo.{sumIn, sieveFor, isFor, memoFor, noMemo, Right}
+use Rattle.log.specs.Memo.{memoSum, sieveFor, isMemoOf, memoFor, noMemo, Right}
 use Rattle.log.proofs.Newest.{newest-sum}
 use Rattle.log.proofs.Sifting.{sieve-counts, held-fill, place-since, sifted-most}
 use Rattle.log.proofs.Sums.{Summed, summed-more, picked-most}
@@ -67,7 +67,7 @@ memo-right s es (Notional l) = refl
 memo-right s es (Volume l) = refl
 memo-right s es (Count l) = refl
 
-memo-for : (s : Sieve) (es : List Entry) → isFor s (memoFor s es) ≡ true
+memo-for : (s : Sieve) (es : List Entry) → isMemoOf s (memoFor s es) ≡ true
 unfolding memoFor
 memo-for s es = rw (eq-eqb (s .mask) (s .mask) refl, eq-eqb (s .want) (s .want) refl, eq-eqb (s .from) (s .from) refl)
 
@@ -82,19 +82,19 @@ memo-read s clock es ordered =
 -- a memo of a sieve is right of all entries, and is the one that all of them give
 pub record Memoed (s : Sieve) (es : List Entry) (m : Memo) : Type 0 where
   pub right : Right es m
-  pub is-for : isFor s m ≡ true
+  pub is-for : isMemoOf s m ≡ true
   pub all : m ≡ memoFor s es
 
 -- in order of time a reading gives that
 pub memoed : {s : Sieve} (clock : ℕ) {es : List Entry} {m : Memo} → areOrdered 0 clock es ≡ true → m ≡ memoFor s (newest (s .from) es) → Memoed s es m
 memoed {s} clock {es} {m} ordered is =
     let whole = is ∙ memo-read s clock es ordered in
-    record { right = subst (Right es) (sym whole) (memo-right s es); is-for = ap (isFor s) whole ∙ memo-for s es; all = whole }
+    record { right = subst (Right es) (sym whole) (memo-right s es); is-for = ap (isMemoOf s) whole ∙ memo-for s es; all = whole }
 
 -- a memo of a rule's sieve says what the rule counts
-pub for-rule : {k : ℕ} {xs : List ℕ} → Held k xs → (rule : Rule) (time : ℕ) → isRule 64 rule ≡ true → (m : Memo) → Right (entriesOf k xs) m
-    → {s : Sieve} → s ≡ sieveOf rule time → isFor s m ≡ true
-    → sumIn (rule .limit) m ≡ sumOf (entryShare rule time) (entriesOf k xs)
+pub for-rule : {k : ℕ} {xs : List ℕ} → HeldLog k xs → (rule : Rule) (time : ℕ) → isRule 64 rule ≡ true → (m : Memo) → Right (entriesOf k xs) m
+    → {s : Sieve} → s ≡ sieveOf rule time → isMemoOf s m ≡ true
+    → memoSum (rule .limit) m ≡ sumOf (entryShare rule time) (entriesOf k xs)
 unfolding Right
 for-rule {k} {xs} held rule time ok m right {s} is e =
     right (rule .limit)
@@ -119,7 +119,7 @@ nothing (Volume l) premium = refl
 nothing (Count l) premium = refl
 
 -- a place that is not before the sieve's time: its entry, and what its contracts count, or none if its first number is not wanted
-module _ {k : ℕ} {xs : List ℕ} (held : Held k xs) (s : Sieve) (i : ℕ) (some : 0 < i) (within : i ≤ k)
+module _ {k : ℕ} {xs : List ℕ} (held : HeldLog k xs) (s : Sieve) (i : ℕ) (some : 0 < i) (within : i ≤ k)
     (inside : s .from * 1024 ≤ getD xs ((i - 1) * 2) 0) where
   abbrev at : ℕ
   at = (i - 1) * 2
@@ -172,5 +172,5 @@ module _ {k : ℕ} {xs : List ℕ} (held : Held k xs) (s : Sieve) (i : ℕ) (som
     more-count sum number = sift-more inExecutions sum number
 
 -- what is summed so far fits 64 bits
-pub sum-fits : {f : Entry → ℕ} {first k i sum : ℕ} {xs : List ℕ} → Held k xs → Summed f first k xs i sum → sum < 18_446_744_073_709_551_616
+pub sum-fits : {f : Entry → ℕ} {first k i sum : ℕ} {xs : List ℕ} → HeldLog k xs → Summed f first k xs i sum → sum < 18_446_744_073_709_551_616
 sum-fits held h = omega (arith, held .fits, h .small)

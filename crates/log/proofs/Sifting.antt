@@ -26,7 +26,7 @@ use Rattle.bits.specs.Fields.{total, packed}
 use Rattle.packing.specs.EntryPlace.{flagNumber, fillValues, entryAt, entryNumbers, isEntryPlace}
 use Rattle.tables.proofs.Passing.{pass-each}
 use Rattle.packing.proofs.EntryPlace.{Ranged, entry-ranged}
-use Rattle.log.specs.Log.{Held, entriesOf}
+use Rattle.log.specs.Log.{HeldLog, entriesOf}
 use Rattle.log.specs.Sieve.{firstTime, sieveIn, sieveOf, passes, fillNumber, sifted}
 use Rattle.log.specs.Newest.{isSince}
 use Rattle.log.specs.declared.sieves.Sieve.{Sieve}
@@ -177,7 +177,7 @@ module _ (rule : Rule) (time : ℕ) (ok : isRule 64 rule ≡ true) where
       rw (sifted-share e (and-l (isEntry 64 e) (every (isEntry 64) es) v), all-shares es (and-r (isEntry 64 e) (every (isEntry 64) es) v))
 
   -- the entries that pass the rule's sieve count what all count for the rule
-  pub sieve-counts : {k : ℕ} {xs : List ℕ} → Held k xs → sumOf (sifted (rule .limit) (sieveOf rule time)) (entriesOf k xs) ≡ sumOf (entryShare rule time) (entriesOf k xs)
+  pub sieve-counts : {k : ℕ} {xs : List ℕ} → HeldLog k xs → sumOf (sifted (rule .limit) (sieveOf rule time)) (entriesOf k xs) ≡ sumOf (entryShare rule time) (entriesOf k xs)
   sieve-counts {k = k} {xs = xs} h = all-shares (entriesOf k xs) (held-valid h)
 
 pub sifted-most : (limit : Limit) (s : Sieve) (e : Entry) → isEntry 64 e ≡ true → sifted limit s e ≤ 100_000_000_000_000
@@ -205,16 +205,16 @@ from-most rule time is =
     omega (arith, ap (λ (t : Sieve). t .from) is, from-is (rule .scope) (firstTime (rule .kind) time), first-most (rule .kind) time)
 
 -- the first number of a place that is used is its entry's
-pub held-fill : {k i : ℕ} {xs : List ℕ} → Held k xs → i < k → getD xs (i * 2) 0 ≡ fillNumber (entryAt (drop (i * 2) xs))
+pub held-fill : {k i : ℕ} {xs : List ℕ} → HeldLog k xs → i < k → getD xs (i * 2) 0 ≡ fillNumber (entryAt (drop (i * 2) xs))
 unfolding fillNumber entryNumbers
 held-fill {k = k} {i = i} {xs = xs} h l =
     ap (λ (ns : List ℕ). getD ns 0 0) (place-numbers xs (i * 2) (omega (arith, h .size, h .fits)) (pass-each 2 (isEntryPlace 64) k xs (h .entries) i l))
 
 -- and tells whether its entry is before a time
-pub place-since : {k : ℕ} {xs : List ℕ} (first i : ℕ) → Held k xs → i < k → first * 1024 ≤ getD xs (i * 2) 0 → isSince first (entryAt (drop (i * 2) xs)) ≡ true
+pub place-since : {k : ℕ} {xs : List ℕ} (first i : ℕ) → HeldLog k xs → i < k → first * 1024 ≤ getD xs (i * 2) 0 → isSince first (entryAt (drop (i * 2) xs)) ≡ true
 place-since first i h l t = fill-since _ (held-entry h l refl) first (omega (arith, held-fill h l))
 
-pub place-before : {k : ℕ} {xs : List ℕ} (first i : ℕ) → Held k xs → i < k → getD xs (i * 2) 0 < first * 1024 → isSince first (entryAt (drop (i * 2) xs)) ≡ false
+pub place-before : {k : ℕ} {xs : List ℕ} (first i : ℕ) → HeldLog k xs → i < k → getD xs (i * 2) 0 < first * 1024 → isSince first (entryAt (drop (i * 2) xs)) ≡ false
 place-before first i h l t = fill-before _ (held-entry h l refl) first (omega (arith, held-fill h l))
 
 -- what a rule in range says of its root and its unit

@@ -7,7 +7,7 @@ use native.Mathlib.Numerals.{add-one}
 use native.Mathlib.Omega.{arith}
 use lib.ListN.{length, getD, take, drop, set, length-append, length-drop, drop-of-length-le}
 use lib.Seq.{sets, drop-cons, getD-append-add, getD-drop, set-at, append-snoc, take-at, drop-at, length-take-le}
-use Rattle.tables.specs.Tables.{zeros, flat, table}
+use Rattle.tables.specs.Tables.{zeros, flat, tableNumbers}
 use Rattle.laws.specs.Folds.{every}
 use Rattle.laws.specs.Every.{every-first, every-drop, every-append, every-join}
 use Rattle.machine.specs.Entries.{isEntry, recent}
@@ -16,7 +16,7 @@ use Rattle.packing.specs.EntryPlace.{entryAt, entryNumbers, isEntryPlace, logTa
 use Rattle.shapes.proofs.Tables.{length-zeros}
 use Rattle.tables.proofs.Tables.{length-flat, length-places, length-table, place-table, read-table, put-at, put-next}
 use Rattle.tables.proofs.AllZero.{zeros-add}
-use Rattle.log.specs.Log.{Held, entriesOf, joined, Kept}
+use Rattle.log.specs.Log.{HeldLog, entriesOf, joinedEntries, Kept}
 use Rattle.log.proofs.Logs.{codec, held-valid, held-table}
 
 -- a list p and then another from p's length on: what stands past p, one more at p's end, and how long they are
@@ -43,11 +43,11 @@ pub record Turned (out : List Entry → List Entry) (k : ℕ) (xs : List ℕ) (i
   pub whole : made ++ out (drop i (entriesOf k xs)) ≡ out (entriesOf k xs)
   pub log : ys ≡ logTable (made ++ drop j (entriesOf k xs))
 
-pub turned-none : {k : ℕ} {xs : List ℕ} (out : List Entry → List Entry) → Held k xs → Turned out k xs 0 0 xs
+pub turned-none : {k : ℕ} {xs : List ℕ} (out : List Entry → List Entry) → HeldLog k xs → Turned out k xs 0 0 xs
 unfolding every
 turned-none out h = record { made = []; count = refl; within = zero-le; valid = refl; whole = refl; log = held-table h }
 
-module _ {out : List Entry → List Entry} {k : ℕ} {xs : List ℕ} {i j : ℕ} {ys : List ℕ} (h : Held k xs) (t : Turned out k xs i j ys) where
+module _ {out : List Entry → List Entry} {k : ℕ} {xs : List ℕ} {i j : ℕ} {ys : List ℕ} (h : HeldLog k xs) (t : Turned out k xs i j ys) where
   abbrev stands : List Entry
   stands = t .made ++ drop j (entriesOf k xs)
 
@@ -120,7 +120,7 @@ module _ {out : List Entry → List Entry} {k : ℕ} {xs : List ℕ} {i j : ℕ}
   turned-made l none = sym (append-nil (t .made)) ∙ ap (λ (l : List Entry). t .made ++ l) (sym (ap out (over l) ∙ none)) ∙ t .whole
 
 -- where all entries are inside the window nothing moves
-pub all-kept : {window time k : ℕ} {xs : List ℕ} → Held k xs → recent window time (entriesOf k xs) ≡ entriesOf k xs → Kept window time k xs xs k
+pub all-kept : {window time k : ℕ} {xs : List ℕ} → HeldLog k xs → recent window time (entriesOf k xs) ≡ entriesOf k xs → Kept window time k xs xs k
 all-kept {k = k} {xs = xs} h same =
     let es = entriesOf k xs in
     let long = length-places codec k xs in
@@ -140,7 +140,7 @@ flat-append (e ∷ p) q =
 -- the last places that are used, set to 0, are used no longer
 blanked : (p q : List Entry) (from n : ℕ) → length (p ++ q) ≤ 512 → length p * 2 ≡ from → length q * 2 ≡ n
     → take from (logTable (p ++ q)) ++ (zeros n ++ drop n (drop from (logTable (p ++ q)))) ≡ logTable p
-unfolding table
+unfolding tableNumbers
 blanked p q from n h a b =
     let fp = flat entryNumbers p in
     let fq = flat entryNumbers q in
@@ -153,7 +153,7 @@ blanked p q from n h a b =
     rw (split, take-at fp (fq ++ zeros m) from la, drop-at fp (fq ++ zeros m) from la, drop-at fq (zeros m) n lb, zeros-add n m, left)
 
 -- the entries p, which stand in front of the k in xs from place r on, are all that is left once the places up to the last used are set to 0
-pub rest-blanked : {k r : ℕ} {xs ys bs : List ℕ} → Held k xs → (p : List Entry) → length p ≡ r → r ≤ k → ys ≡ logTable (p ++ drop r (entriesOf k xs))
+pub rest-blanked : {k r : ℕ} {xs ys bs : List ℕ} → HeldLog k xs → (p : List Entry) → length p ≡ r → r ≤ k → ys ≡ logTable (p ++ drop r (entriesOf k xs))
     → bs ≡ zeros (length (take (k * 2 - r * 2) (drop (r * 2) ys)))
     → take (r * 2) ys ++ (bs ++ drop (k * 2 - r * 2) (drop (r * 2) ys)) ≡ logTable p
 rest-blanked {k = k} {r = r} {xs = xs} {ys = ys} h p count most log is =
@@ -167,9 +167,9 @@ rest-blanked {k = k} {r = r} {xs = xs} {ys = ys} h p count most log is =
     rw (is, many, log) (blanked p (drop r es) (r * 2) n (omega (arith, h .fits)) (ap (λ (m : ℕ). m * 2) count) rest)
 
 -- an entry put after those that stay, once the places after these are set to 0
-pub joined-log : {window time k r : ℕ} {xs ys bs : List ℕ} → Held k xs → Kept window time k xs ys r → (e : Entry) → r < 512
+pub joined-log : {window time k r : ℕ} {xs ys bs : List ℕ} → HeldLog k xs → Kept window time k xs ys r → (e : Entry) → r < 512
     → bs ≡ zeros (length (take (k * 2 - r * 2) (drop (r * 2) ys)))
-    → sets (take (r * 2) ys ++ (bs ++ drop (k * 2 - r * 2) (drop (r * 2) ys))) (r * 2) (entryNumbers e) ≡ logTable (joined window time e (entriesOf k xs))
+    → sets (take (r * 2) ys ++ (bs ++ drop (k * 2 - r * 2) (drop (r * 2) ys))) (r * 2) (entryNumbers e) ≡ logTable (joinedEntries window time e (entriesOf k xs))
 joined-log {window = window} {time = time} {k = k} {xs = xs} h s e room is =
     let rs = recent window time (entriesOf k xs) in
     rw (rest-blanked h rs (sym (s .count)) (s .most) (s .log) is, s .count) (put-next codec 512 rs e (omega (arith, s .count)))

@@ -13,7 +13,7 @@ use Rattle.machine.specs.declared.Entry.{Entry}
 use Rattle.machine.specs.Order.{unflagged, unflaggedLog}
 use Rattle.tables.specs.Tables.{zeros}
 use Rattle.packing.specs.EntryPlace.{amountValues, entryAt, entryNumbers, logTable}
-use Rattle.log.specs.Log.{Held, Left, entriesOf}
+use Rattle.log.specs.Log.{HeldLog, Left, entriesOf}
 use Rattle.log.specs.Sieve.{fillNumber, hasFlag, withoutFlags}
 use Rattle.log.proofs.Logs.{place-numbers}
 use Rattle.log.proofs.Flags.{unflagged-entry, unflagged-fill, fill-flagged}
@@ -29,7 +29,7 @@ gone-next : (zeroes : Level → Bool) (e : Entry) (es : List Entry) → isFlagge
 unfolding unflaggedLog keep
 gone-next zeroes e es h = rw h
 
-module _ (zeroes : Level → Bool) {k : ℕ} {xs : List ℕ} {i j : ℕ} {ys : List ℕ} (h : Held k xs) (t : Turned (unflaggedLog zeroes) k xs i j ys) where
+module _ (zeroes : Level → Bool) {k : ℕ} {xs : List ℕ} {i j : ℕ} {ys : List ℕ} (h : HeldLog k xs) (t : Turned (unflaggedLog zeroes) k xs i j ys) where
   pub unflag-turn : {fill n : ℕ} {zs : List ℕ} → i < k → length ys ≡ 1024 → fill ≡ withoutFlags zeroes (getD ys (i * 2) 0)
       → n ≡ cond (hasFlag fill) (j + 1) j
       → zs ≡ cond (hasFlag fill) (sets ys (j * 2) (fill ∷ getD ys (i * 2 + 1) 0 ∷ [])) ys

@@ -19,7 +19,7 @@ unfoldable pub entriesHold : ℕ → ℕ → ℕ → List ℕ → Bool
 entriesHold n clock k xs = placesPass 2 (isLogPlace n) k xs && areOrdered 0 clock (places 2 entryAt k xs) && allZero (drop (k * 2) xs)
 
 -- the numbers of the log's 512 places: the first k places hold entries, of at most 64 roots, and the others 0
-pub record Held (k : ℕ) (xs : List ℕ) : Type 0 where
+pub record HeldLog (k : ℕ) (xs : List ℕ) : Type 0 where
   pub size : length xs ≡ 1024
   pub fits : k ≤ 512
   pub entries : placesPass 2 (isEntryPlace 64) k xs ≡ true
@@ -36,7 +36,7 @@ logHolds n clock xs = leb (getD xs 0 0) 512 && entriesHold n clock (getD xs 0 0)
 -- a table of the log that holds as many entries as it says
 pub record HeldIn (xs : List ℕ) : Type 0 where
   pub long : length xs ≡ 1025
-  pub held : Held (getD xs 0 0) (placesIn xs)
+  pub held : HeldLog (getD xs 0 0) (placesIn xs)
 
 -- the entries in the first k places
 abbrev pub entriesOf : ℕ → List ℕ → List Entry
@@ -51,8 +51,8 @@ abbrev pub logNumbers : List Entry → List ℕ
 logNumbers es = length es ∷ logTable es
 
 -- the entries after one joined: those inside a window at a time, and then the new one
-abbrev pub joined : ℕ → ℕ → Entry → List Entry → List Entry
-joined window time e log = recent window time log ++ (e ∷ [])
+abbrev pub joinedEntries : ℕ → ℕ → Entry → List Entry → List Entry
+joinedEntries window time e log = recent window time log ++ (e ∷ [])
 
 -- of the k entries in xs the r inside a window are the last ones
 pub record Last (window time k : ℕ) (xs : List ℕ) (r : ℕ) : Type 0 where

@@ -14,18 +14,18 @@ use Rattle.log.specs.declared.Two.{Two}
 use Rattle.log.specs.Sieve.{sifted}
 
 -- what a memo says in a limit's measure
-abbrev pub sumIn : Limit → Memo → ℕ
-sumIn (Notional l) m = m .notional .0
-sumIn (Volume l) m = m .volume .0
-sumIn (Count l) m = m .count .0
+abbrev pub memoSum : Limit → Memo → ℕ
+memoSum (Notional l) m = m .notional .0
+memoSum (Volume l) m = m .volume .0
+memoSum (Count l) m = m .count .0
 
 -- the sieve of a memo
 abbrev pub sieveFor : Memo → Sieve
 sieveFor m = record { mask = m .mask; want = m .want; from = m .from }
 
 -- a memo is that of a sieve
-abbrev pub isFor : Sieve → Memo → Bool
-isFor s m = eqb (m .mask) (s .mask) && eqb (m .want) (s .want) && eqb (m .from) (s .from)
+abbrev pub isMemoOf : Sieve → Memo → Bool
+isMemoOf s m = eqb (m .mask) (s .mask) && eqb (m .want) (s .want) && eqb (m .from) (s .from)
 
 -- the memo of a sieve over these entries
 unfoldable pub memoFor : Sieve → List Entry → Memo
@@ -45,12 +45,12 @@ noMemo = record { mask = 0; want = 1; from = 0; notional = record { 0 = 0 }; vol
 -- memos of which the last is that of a sieve: one of those before, or a new one
 unfoldable pub recalledOf : Sieve → List Entry → Two → Two
 recalledOf s es before =
-    cond (isFor s (before .last)) before
-    (cond (isFor s (before .other)) (record { last = before .other; other = before .last }) (record { last = memoFor s es; other = before .last }))
+    cond (isMemoOf s (before .last)) before
+    (cond (isMemoOf s (before .other)) (record { last = before .other; other = before .last }) (record { last = memoFor s es; other = before .last }))
 
 -- a memo says what these entries count
 unfoldable pub Right : List Entry → Memo → Type 0
-Right es m = (limit : Limit) → sumIn limit m ≡ sumOf (sifted limit (sieveFor m)) es
+Right es m = (limit : Limit) → memoSum limit m ≡ sumOf (sifted limit (sieveFor m)) es
 
 pub record RightTwo (es : List Entry) (t : Two) : Type 0 where
   pub last : Right es (t .last)

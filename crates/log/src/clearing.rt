@@ -8,7 +8,7 @@ ghost use Prim.Native.Nat.{_+_, _*_, _<_};
 ghost use lib.ListN.{length};
 ghost use lib.Seq.{sets};
 ghost use Rattle.packing.specs.EntryPlace.{flagNumber};
-ghost use Rattle.log.specs.Log.{Held, entriesOf, Left};
+ghost use Rattle.log.specs.Log.{HeldLog, entriesOf, Left};
 ghost use Rattle.log.specs.Sieve.{hasFlag, withoutFlags};
 use crate::blank;
 use machine::Effect;
@@ -52,7 +52,7 @@ fn put_flagged(log: &mut [u64], i: usize, fill: u64, amount: u64) -> usize
 // Clears the flags of the log's k entries that an effect for a root clears: the entries that keep a flag stand in their order from the first place on, and
 // the places after them hold 0. Returns how many these entries are.
 pub(crate) fn unflag_places(log: &mut [u64], k: usize, root: u64, effect: Effect) -> usize
-    requires { ⌜ Held k (now log) ⌝ }
+    requires { ⌜ HeldLog k (now log) ⌝ }
     ensures { λ r. ⌜ Left (unflaggedLog (zeroing effect root) (entriesOf k (now (log .entry)))) (now (log .exit)) r ⌝ }
 {
     let mut kept: usize = 0;

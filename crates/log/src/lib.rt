@@ -12,8 +12,8 @@ ghost use Prim.Native.Nat.{_≤_, _<_};
 ghost use lib.ListN.{length};
 ghost use Rattle.rules.specs.Amounts.{amountIn};
 ghost use Rattle.tables.specs.Tables.{zeros};
-ghost use Rattle.log.specs.Log.{entriesHold, logHolds, HeldIn, entriesIn, logNumbers, joined};
-ghost use Rattle.log.specs.Memo.{sumIn, noMemo, recalledOf, RightTwo};
+ghost use Rattle.log.specs.Log.{entriesHold, logHolds, HeldIn, entriesIn, logNumbers, joinedEntries};
+ghost use Rattle.log.specs.Memo.{memoSum, noMemo, recalledOf, RightTwo};
 ghost use Rattle.log.specs.Sieve.{sieveOf};
 
 mod clearing;
@@ -106,7 +106,7 @@ pub fn no_memos() -> Two
 
 // What a memo says in a limit's measure.
 pub fn sum_in(limit: Limit, m: Memo) -> Amount
-    ensures { λ r. ⌜ r ≡ amountIn limit (sumIn limit m) ⌝ }
+    ensures { λ r. ⌜ r ≡ amountIn limit (memoSum limit m) ⌝ }
 {
     let notional = m.notional;
     let volume = m.volume;
@@ -132,7 +132,7 @@ pub fn counted(log: &[u64], rule: Rule, time: u64) -> Amount
 // Memos of which the last is that of a rule at a time: one of those before, or a new one.
 pub fn recalled(log: &[u64], rule: Rule, time: u64, before: Two) -> Two
     requires { ⌜ HeldIn (now log) × (isRule 64 rule ≡ true) × RightTwo (entriesIn (now log)) before × (areOrdered 0 time (entriesIn (now log)) ≡ true) ⌝ }
-    ensures { λ r. ⌜ RightTwo (entriesIn (now (log .entry))) r × (sumIn (rule .limit) (r .last) ≡ sumOf (entryShare rule time) (entriesIn (now (log .entry)))) × (r ≡ recalledOf (sieveOf rule time) (entriesIn (now (log .entry))) before) ⌝ }
+    ensures { λ r. ⌜ RightTwo (entriesIn (now (log .entry))) r × (memoSum (rule .limit) (r .last) ≡ sumOf (entryShare rule time) (entriesIn (now (log .entry)))) × (r ≡ recalledOf (sieveOf rule time) (entriesIn (now (log .entry))) before) ⌝ }
 {
     let s = sieves::sieve_of(rule, time);
     let last = before.last;
@@ -187,7 +187,7 @@ pub fn blank(s: &mut [u64])
 // The entries that are no longer inside a window at a time leave the log, and e joins.
 pub fn join(log: &mut [u64], window: u64, time: u64, e: Entry)
     requires { ⌜ HeldIn (now log) × (window ≤ 86_400_000) × (areOrdered 0 time (entriesIn (now log)) ≡ true) × (isEntry 64 e ≡ true) × (length (recent window time (entriesIn (now log))) < 512) ⌝ }
-    ensures { λ _. ⌜ now (log .exit) ≡ logNumbers (joined window time e (entriesIn (now (log .entry)))) ⌝ }
+    ensures { λ _. ⌜ now (log .exit) ≡ logNumbers (joinedEntries window time e (entriesIn (now (log .entry)))) ⌝ }
 {
     let k = log[0] as usize;
     let n = windows::join_places(&mut log[1..SIZE], k, window, time, e);

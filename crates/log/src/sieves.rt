@@ -3,8 +3,8 @@ ghost use mathlib.Core.Path.{_≡_};
 ghost use mathlib.Core.Bool.{true, cond};
 ghost use Rattle.rules.specs.Valid.{isRule};
 ghost use Prim.Native.Nat.{_≤_};
-ghost use Rattle.log.specs.Log.{Held, entriesOf};
-ghost use Rattle.log.specs.Memo.{memoFor, isFor};
+ghost use Rattle.log.specs.Log.{HeldLog, entriesOf};
+ghost use Rattle.log.specs.Memo.{memoFor, isMemoOf};
 ghost use Rattle.log.specs.Newest.{newest};
 ghost use Rattle.log.specs.Sieve.{firstTime, sieveOf, isWanted};
 use crate::Memo;
@@ -84,14 +84,14 @@ fn sieved(s: Sieve, fill: u64, contracts: Contracts) -> Contracts
 
 // Whether a memo is that of a sieve.
 pub(crate) fn is_for(s: Sieve, m: Memo) -> bool
-    ensures { λ r. ⌜ r ≡ isFor s m ⌝ }
+    ensures { λ r. ⌜ r ≡ isMemoOf s m ⌝ }
 {
     (m.mask == s.mask) & (m.want == s.want) & (m.from == s.from)
 }
 
 // What the entries that pass a sieve count in each measure, in one reading from the newest on, up to the first that is before the sieve's time.
 pub(crate) fn memo_of(log: &[u64], k: usize, s: Sieve) -> Memo
-    requires { ⌜ Held k (now log) × (s .from ≤ 86_400_000) ⌝ }
+    requires { ⌜ HeldLog k (now log) × (s .from ≤ 86_400_000) ⌝ }
     ensures { λ r. ⌜ r ≡ memoFor s (newest (s .from) (entriesOf k (now (log .entry)))) ⌝ }
 {
     let from = s.from * 1024;

@@ -8,7 +8,7 @@ ghost use Prim.Native.Nat.{_+_, _*_, _≤_, _<_};
 ghost use lib.ListN.{length, take, drop};
 ghost use lib.Seq.{sets};
 ghost use Rattle.packing.specs.EntryPlace.{entryNumbers};
-ghost use Rattle.log.specs.Log.{Held, entriesOf, joined, Last, Kept, Left};
+ghost use Rattle.log.specs.Log.{HeldLog, entriesOf, joinedEntries, Last, Kept, Left};
 ghost use Rattle.log.specs.Newest.{newest};
 use crate::blank;
 use crate::sieves::first_time;
@@ -17,7 +17,7 @@ use rules::Kind;
 
 // How many of the log's k entries a reading from the newest on passes, up to the first that is before a time.
 fn since(log: &[u64], k: usize, first: u64) -> usize
-    requires { ⌜ Held k (now log) × (first ≤ 86_400_000) ⌝ }
+    requires { ⌜ HeldLog k (now log) × (first ≤ 86_400_000) ⌝ }
     ensures { λ r. ⌜ r ≡ length (newest first (entriesOf k (now (log .entry)))) ⌝ }
 {
     let from = first * 1024;
@@ -34,7 +34,7 @@ fn since(log: &[u64], k: usize, first: u64) -> usize
 
 // How many of the log's k entries, in order of time, are inside a window at a time: those that stand last.
 pub(crate) fn inside(log: &[u64], k: usize, window: u64, time: u64) -> usize
-    requires { ⌜ Held k (now log) × (areOrdered 0 time (entriesOf k (now log)) ≡ true) ⌝ }
+    requires { ⌜ HeldLog k (now log) × (areOrdered 0 time (entriesOf k (now log)) ≡ true) ⌝ }
     ensures { λ r. ⌜ Last window time k (now (log .entry)) r ⌝ }
 {
     since(log, k, first_time(Kind::Rate(window), time))
@@ -54,7 +54,7 @@ fn move_down(s: &mut [u64], d: usize, n: usize)
 
 // The entries inside a window at a time move down, in their order. Returns how many they are.
 fn keep(log: &mut [u64], k: usize, window: u64, time: u64) -> usize
-    requires { ⌜ Held k (now log) × (areOrdered 0 time (entriesOf k (now log)) ≡ true) ⌝ }
+    requires { ⌜ HeldLog k (now log) × (areOrdered 0 time (entriesOf k (now log)) ≡ true) ⌝ }
     ensures { λ r. ⌜ Kept window time k (now (log .entry)) (now (log .exit)) r ⌝ }
 {
     let left = inside(log, k, window, time);
@@ -80,8 +80,8 @@ fn put_entry(log: &mut [u64], i: usize, e: Entry)
 
 // The entries that are no longer inside a window at a time leave, and e joins. Returns how many there are then.
 pub(crate) fn join_places(log: &mut [u64], k: usize, window: u64, time: u64, e: Entry) -> usize
-    requires { ⌜ Held k (now log) × (areOrdered 0 time (entriesOf k (now log)) ≡ true) × (isEntry 64 e ≡ true) × (length (recent window time (entriesOf k (now log))) < 512) ⌝ }
-    ensures { λ r. ⌜ Left (joined window time e (entriesOf k (now (log .entry)))) (now (log .exit)) r ⌝ }
+    requires { ⌜ HeldLog k (now log) × (areOrdered 0 time (entriesOf k (now log)) ≡ true) × (isEntry 64 e ≡ true) × (length (recent window time (entriesOf k (now log))) < 512) ⌝ }
+    ensures { λ r. ⌜ Left (joinedEntries window time e (entriesOf k (now (log .entry)))) (now (log .exit)) r ⌝ }
 {
     let kept = keep(log, k, window, time);
     let from = kept * 2;

@@ -18,7 +18,7 @@ use Rattle.rules.specs.declared.Scope.the-variants.{EveryFill, WholeRoot, OneUn
 use Rattle.rules.specs.declared.Rule.{Rule}
 use Rattle.rules.proofs.Units.{units-few, units-some, unit-known, unit-place, unit-self, unit-valid, unit-alone}
 use Rattle.machine.specs.State.{cellsBy, cellsOf}
-use Rattle.machine.specs.Remaining.{ruleAt, firstCell, cellAt}
+use Rattle.machine.specs.Remaining.{ruleNumbered, firstCell, cellAt}
 use Rattle.machine.specs.Offers.{coversOffer}
 use Rattle.machine.specs.declared.Offer.{Offer}
 use Rattle.machine.proofs.Lists.{every-all, all-every, keep-append, map-at}
@@ -75,9 +75,9 @@ cell-in rule unit known rules (List·Memᴰ·tail {x = first} {xs = rest} m) =
     Memᴰ·append-right (cellsBy first) (cell-in rule unit known rest m)
 
 -- the accounts of rule r stand one after the other, from where its first one is
-pub cells-at : (rules : List Rule) (r j : ℕ) (none : Rule) → r < length rules → j < length (cellsBy (ruleAt rules r))
-    → (firstCell rules r + j < length (cellsOf rules)) × (getD (cellsOf rules) (firstCell rules r + j) none ≡ getD (cellsBy (ruleAt rules r)) j none)
-unfolding ruleAt cellsOf
+pub cells-at : (rules : List Rule) (r j : ℕ) (none : Rule) → r < length rules → j < length (cellsBy (ruleNumbered rules r))
+    → (firstCell rules r + j < length (cellsOf rules)) × (getD (cellsOf rules) (firstCell rules r + j) none ≡ getD (cellsBy (ruleNumbered rules r)) j none)
+unfolding ruleNumbered cellsOf
 cells-at [] r j none low few = absurd (omega arith)
 cells-at (rule ∷ rest) zero j none low few =
     (rw length-append (omega arith), rw zero-add (List·getD-append (cellsBy rule) (cellsOf rest) none j few))
@@ -86,11 +86,11 @@ cells-at (rule ∷ rest) (suc r) j none low few =
     (simp length-append (omega (arith, at .0)), rw (length-append, add-assoc, getD-append-add) (at .1))
 
 -- and that for a unit at its place among them, whatever stands for none
-pub cell-place : (rules : List Rule) (rule unit : ℕ) (none : Rule) → rule < length rules → isUnitOf (ruleAt rules rule .scope) unit ≡ true
-    → (cellAt rules rule unit < length (cellsOf rules)) × (getD (cellsOf rules) (cellAt rules rule unit) none ≡ ofUnit (ruleAt rules rule) unit)
+pub cell-place : (rules : List Rule) (rule unit : ℕ) (none : Rule) → rule < length rules → isUnitOf (ruleNumbered rules rule .scope) unit ≡ true
+    → (cellAt rules rule unit < length (cellsOf rules)) × (getD (cellsOf rules) (cellAt rules rule unit) none ≡ ofUnit (ruleNumbered rules rule) unit)
 unfolding cellAt cellsBy
 cell-place rules rule unit none low known =
-    let own = ruleAt rules rule in
+    let own = ruleNumbered rules rule in
     let at = unit-place (own .scope) unit known in
     let cell = cells-at rules rule (placeIn (own .scope) unit) none low (rw length-map (at .0)) in
     (cell .0, cell .1 ∙ map-at (ofUnit own) (unitsOf (own .scope)) _ none 0 (at .0) ∙ ap (ofUnit own) (at .1))

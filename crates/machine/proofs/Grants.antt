@@ -15,7 +15,7 @@ use Rattle.rules.proofs.Laws.{allowance-keeps, added-most, grant-largest as lea
 use Rattle.laws.specs.Folds.{every, keep, sumOf}
 use Rattle.machine.specs.declared.Entry.{Entry}
 use Rattle.machine.specs.Entries.{isEntry, flagOf, entryShare}
-use Rattle.machine.specs.Offers.{counted, coversOffer, limitIn, covering, grantOf}
+use Rattle.machine.specs.Offers.{counted, coversOffer, limitWithCount, covering, grantOf}
 use Rattle.machine.specs.declared.Offer.{Offer}
 use Rattle.machine.proofs.Lists.{sum-most}
 
@@ -30,9 +30,9 @@ module _ (log : List Entry) (o : Offer) where
   least-of [] = refl
   least-of (a ∷ rest) = go (coversOffer o (a .rule)) (keep (λ b. coversOffer o (b .rule)) rest) (least-of rest)
     where
-      go : (b : Bool) (more : List Account) {n : ℕ} → n ≡ leastOf (o .contracts) (map allowed (map (limitIn log o) more))
-          → cond b (min (allowed (limitIn log o a)) n) n ≡ leastOf (o .contracts) (map allowed (map (limitIn log o) (cond b (a ∷ more) more)))
-      go true more e = ap (min (allowed (limitIn log o a))) e
+      go : (b : Bool) (more : List Account) {n : ℕ} → n ≡ leastOf (o .contracts) (map allowed (map (limitWithCount log o) more))
+          → cond b (min (allowed (limitWithCount log o a)) n) n ≡ leastOf (o .contracts) (map allowed (map (limitWithCount log o) (cond b (a ∷ more) more)))
+      go true more e = ap (min (allowed (limitWithCount log o a))) e
       go false more e = e
 
   -- the grant is the largest number up to the offer that keeps every covering limit
@@ -44,12 +44,12 @@ module _ (log : List Entry) (o : Offer) where
 
   -- what is within the grant is within what the first rule allows, if it covers the offer, and within the grant of the others
   pub grant-first : (n : ℕ) (a : Account) (rest : List Account) → n ≤ grantOf log o (a ∷ rest)
-      → (coversOffer o (a .rule) ≡ true → n ≤ allowed (limitIn log o a)) × (n ≤ grantOf log o rest)
+      → (coversOffer o (a .rule) ≡ true → n ≤ allowed (limitWithCount log o a)) × (n ≤ grantOf log o rest)
   unfolding grantOf
   grant-first n a rest = go (coversOffer o (a .rule))
     where
-      go : (b : Bool) → n ≤ cond b (min (allowed (limitIn log o a)) (grantOf log o rest)) (grantOf log o rest)
-          → (b ≡ true → n ≤ allowed (limitIn log o a)) × (n ≤ grantOf log o rest)
+      go : (b : Bool) → n ≤ cond b (min (allowed (limitWithCount log o a)) (grantOf log o rest)) (grantOf log o rest)
+          → (b ≡ true → n ≤ allowed (limitWithCount log o a)) × (n ≤ grantOf log o rest)
       go true h = (λ e. omega arith, omega arith)
       go false h = (λ e. absurd (false≢true e), h)
 

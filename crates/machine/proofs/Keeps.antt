@@ -3,7 +3,7 @@ use Prim.Native.Nat.{ℕ, zero, suc}
 use mathlib.Core.Path.{_≡_, refl, ap, _∙_}
 use mathlib.Core.List.{List, map, map-map}
 use Rattle.rules.specs.declared.Account.{Account}
-use Rattle.machine.specs.State.{State, ruleOf, Fitting}
+use Rattle.machine.specs.State.{State, accountRule, Fitting}
 use Rattle.machine.specs.Deeds.{Deed, nothing, passing, filling, resetting, lockingOut, sending, closing, clockAfter}
 use Rattle.machine.specs.Order.{wiped}
 use Rattle.machine.specs.Offers.{credited}
@@ -14,7 +14,7 @@ use Rattle.machine.specs.Step.{accountsAfter, locksAfter, logAfter, part
 use Rattle.machine.specs.Judge.{judged, unless, judge, stepIn}
 
 -- totals change, and no rule does
-pub same-rules : (deed : Deed) (accounts : List Account) → map ruleOf (accountsAfter deed accounts) ≡ map ruleOf accounts
+pub same-rules : (deed : Deed) (accounts : List Account) → map accountRule (accountsAfter deed accounts) ≡ map accountRule accounts
 unfolding accountsAfter credited wiped
 same-rules nothing accounts = refl
 same-rules (passing time) accounts = refl

@@ -16,7 +16,7 @@ use Rattle.machine.specs.State.{Part, State, rulesIn}
 use Rattle.machine.specs.Calls.{order, lockout, offer, remaining, send, report, close}
 use Rattle.machine.specs.Effects.{lastReset}
 use Rattle.machine.specs.Order.{levelNamed}
-use Rattle.machine.specs.Remaining.{ruleAt, isCell, Asked}
+use Rattle.machine.specs.Remaining.{ruleNumbered, isCell, RuleAndUnit}
 use Rattle.machine.specs.Register.{registerPlaces, isOpen, sentAt}
 use Rattle.machine.specs.Refusals.{logFull, noPlaces, overdrawn, firstOf, badTime, isRoot, refusalOf}
 use Rattle.machine.specs.declared.Offer.{Offer}
@@ -66,13 +66,13 @@ lockable room s time level root e =
 
 -- what Remaining asks for is a rule of the profile, and a unit that it counts for
 pub askable : (room : ℕ) (s : State) (time rule unit : ℕ) → refusalOf room s (remaining time rule unit) ≡ 0
-    → Timely (s .part) time × Asked (rulesIn s) rule unit
+    → Timely (s .part) time × RuleAndUnit (rulesIn s) rule unit
 unfolding refusalOf isCell
 askable room s time rule unit e =
     let t = passed (badTime (s .part) time) 11 _ e in
     let k = not-false _ (passed (not (isCell (rulesIn s) rule unit)) 12 [] (t .1) .0) in
     let known = ltb rule (length (rulesIn s)) in
-    let its = isUnitOf (ruleAt (rulesIn s) rule .scope) unit in
+    let its = isUnitOf (ruleNumbered (rulesIn s) rule .scope) unit in
     (timely (s .part) time (t .0), record { known = ltb-true _ _ (and-l known its k); unitKnown = and-r known its k })
 
 -- an offer whose numbers are in range, and which finds the log not full

@@ -16,12 +16,12 @@ use Rattle.rules.specs.declared.Account.{Account}
 use Rattle.rules.proofs.Units.{unit-level}
 use Rattle.machine.specs.declared.Offer.{Offer}
 use Rattle.machine.specs.declared.Effect.{Effect}
-use Rattle.machine.specs.State.{State, rulesIn, ruleOf, Fitting, fresh}
+use Rattle.machine.specs.State.{State, rulesIn, accountRule, Fitting, fresh}
 use Rattle.machine.specs.Effects.{zeroing}
 use Rattle.machine.specs.Deeds.{Source, filling, resetting}
 use Rattle.machine.specs.Order.{wiped}
 use Rattle.machine.specs.Offers.{coversOffer, credited}
-use Rattle.machine.specs.Remaining.{noAccount, ruleAt, Asked, cellAt, accountAt, accountFor}
+use Rattle.machine.specs.Remaining.{noAccount, ruleNumbered, RuleAndUnit, cellAt, accountAt, accountFor}
 use Rattle.machine.specs.Step.{accountsAfter, partAfter}
 use Rattle.machine.proofs.Lists.{map-at}
 use Rattle.machine.proofs.Cells.{cell-place}
@@ -40,7 +40,7 @@ credited-none o n a out = rw out (go (isRate (a .rule .kind)))
     go true = refl
     go false = refl
 
-module _ (s : State) (fits : Fitting (s .part)) (rule unit : ℕ) (asked : Asked (rulesIn s) rule unit) where
+module _ (s : State) (fits : Fitting (s .part)) (rule unit : ℕ) (asked : RuleAndUnit (rulesIn s) rule unit) where
   abbrev accounts : List Account
   accounts = s .part .accounts
 
@@ -51,13 +51,13 @@ module _ (s : State) (fits : Fitting (s .part)) (rule unit : ℕ) (asked : Asked
   -- its place holds one
   pub place-low : cellAt (rulesIn s) rule unit < length accounts
   unfolding rulesIn Fitting
-  place-low = rw (← (length-map accounts ruleOf), fits) (cell-place (rulesIn s) rule unit (noAccount .rule) (asked .known) (asked .unitKnown) .0)
+  place-low = rw (← (length-map accounts accountRule), fits) (cell-place (rulesIn s) rule unit (noAccount .rule) (asked .known) (asked .unitKnown) .0)
 
   -- it is of the rule, as it counts for the unit
-  pub account-rule : account .rule ≡ ofUnit (ruleAt (rulesIn s) rule) unit
+  pub account-rule : account .rule ≡ ofUnit (ruleNumbered (rulesIn s) rule) unit
   unfolding accountFor accountAt rulesIn Fitting
   account-rule =
-      sym (List·getD-map ruleOf accounts (cellAt (rulesIn s) rule unit) noAccount)
+      sym (List·getD-map accountRule accounts (cellAt (rulesIn s) rule unit) noAccount)
       ∙ (ap (λ (cells : List Rule). getD cells (cellAt (rulesIn s) rule unit) (noAccount .rule)) fits
       ∙ cell-place (rulesIn s) rule unit (noAccount .rule) (asked .known) (asked .unitKnown) .1)
 
@@ -67,16 +67,16 @@ module _ (s : State) (fits : Fitting (s .part)) (rule unit : ℕ) (asked : Asked
   each-account f = map-at f accounts (cellAt (rulesIn s) rule unit) noAccount noAccount place-low
 
   -- a reset that zeroes the rule's level zeroes it, whichever of the rule's units it is for
-  pub reset-zeroes : (time root : ℕ) (effect : Effect) → zeroing effect root (levelOf (ruleAt (rulesIn s) rule .scope)) ≡ true
-      → accountFor (partAfter (resetting time root effect) s) rule unit ≡ fresh (ofUnit (ruleAt (rulesIn s) rule) unit)
+  pub reset-zeroes : (time root : ℕ) (effect : Effect) → zeroing effect root (levelOf (ruleNumbered (rulesIn s) rule .scope)) ≡ true
+      → accountFor (partAfter (resetting time root effect) s) rule unit ≡ fresh (ofUnit (ruleNumbered (rulesIn s) rule) unit)
   unfolding partAfter accountsAfter accountFor rulesIn ofUnit
   reset-zeroes time root effect zeroed =
       each-account (wiped (zeroing effect root))
-      ∙ wiped-zero (zeroing effect root) account (ofUnit (ruleAt (rulesIn s) rule) unit) account-rule
-      (ap (zeroing effect root) (unit-level (ruleAt (rulesIn s) rule .scope) unit) ∙ zeroed)
+      ∙ wiped-zero (zeroing effect root) account (ofUnit (ruleNumbered (rulesIn s) rule) unit) account-rule
+      (ap (zeroing effect root) (unit-level (ruleNumbered (rulesIn s) rule .scope) unit) ∙ zeroed)
 
   -- a fill on another unit leaves it, where the rule is one without unit fields
-  pub fill-elsewhere : (root : ℕ) → ruleAt (rulesIn s) rule .scope ≡ WholeRoot root → (source : Source) (o : Offer) (n : ℕ) → (unit ≡ o .unit → ⊥)
+  pub fill-elsewhere : (root : ℕ) → ruleNumbered (rulesIn s) rule .scope ≡ WholeRoot root → (source : Source) (o : Offer) (n : ℕ) → (unit ≡ o .unit → ⊥)
       → accountFor (partAfter (filling source o n) s) rule unit ≡ account
   unfolding partAfter accountsAfter accountFor rulesIn coversOffer covers ofUnit scopeFor
   fill-elsewhere root whole source o n other =

@@ -17,8 +17,8 @@ use Rattle.rules.specs.declared.Scope.{Scope}
 use Rattle.rules.specs.declared.Scope.the-variants.{EveryFill, WholeRoot, OneUnit}
 use Rattle.rules.specs.declared.Rule.{Rule}
 use Rattle.rules.specs.declared.Account.{Account}
-use Rattle.machine.specs.State.{cellsBy, cellsOf, ruleOf}
-use Rattle.machine.specs.Remaining.{noAccount, ruleAt, firstCell}
+use Rattle.machine.specs.State.{cellsBy, cellsOf, accountRule}
+use Rattle.machine.specs.Remaining.{noAccount, ruleNumbered, firstCell}
 use Rattle.machine.specs.Offers.{coversOffer}
 use Rattle.machine.specs.declared.Offer.{Offer}
 use Rattle.rules.proofs.Units.{four, facing-low, facing-scope}
@@ -26,13 +26,13 @@ use Rattle.machine.proofs.Lists.{map-at}
 use Rattle.machine.proofs.Cells.{cells-at}
 
 -- the accounts of the next rule begin past those of rule r
-cells-suc : (rules : List Rule) (r : ℕ) → r < length rules → firstCell rules (suc r) ≡ firstCell rules r + length (unitsOf (ruleAt rules r .scope))
-unfolding ruleAt cellsOf cellsBy
+cells-suc : (rules : List Rule) (r : ℕ) → r < length rules → firstCell rules (suc r) ≡ firstCell rules r + length (unitsOf (ruleNumbered rules r .scope))
+unfolding ruleNumbered cellsOf cellsBy
 cells-suc [] r low = absurd (omega arith)
 cells-suc (rule ∷ rest) zero low = rw (length-append, length-map) (omega arith)
 cells-suc (rule ∷ rest) (suc r) low = rw (length-append, length-append) (omega (arith, cells-suc rest r (omega arith)))
 
-pub cells-next : (rules : List Rule) (r : ℕ) → r < length rules → firstCell rules (r + 1) ≡ firstCell rules r + length (unitsOf (ruleAt rules r .scope))
+pub cells-next : (rules : List Rule) (r : ℕ) → r < length rules → firstCell rules (r + 1) ≡ firstCell rules r + length (unitsOf (ruleNumbered rules r .scope))
 cells-next rules r low = rw (add-one r) (cells-suc rules r low)
 
 pub cells-within : (rules : List Rule) (r : ℕ) → firstCell rules r ≤ length (cellsOf rules)
@@ -45,22 +45,22 @@ cells-within (rule ∷ rest) (suc r) = rw (length-append, length-append) (omega 
 pub cells-end : (rules : List Rule) (r : ℕ) → length rules ≤ r → firstCell rules r ≡ length (cellsOf rules)
 cells-end rules r all = ap (λ (l : List Rule). length (cellsOf l)) (take-all r rules all)
 
-module _ (accounts : List Account) (rules : List Rule) (fits : map ruleOf accounts ≡ cellsOf rules) (r : ℕ) (low : r < length rules) where
+module _ (accounts : List Account) (rules : List Rule) (fits : map accountRule accounts ≡ cellsOf rules) (r : ℕ) (low : r < length rules) where
   abbrev rule : Rule
-  rule = ruleAt rules r
+  rule = ruleNumbered rules r
 
   -- account j of rule r
   abbrev cell : ℕ → Account
   cell j = getD accounts (firstCell rules r + j) noAccount
 
   own-low : (j : ℕ) → j < length (cellsBy rule) → firstCell rules r + j < length accounts
-  own-low j few = omega (arith, length-map accounts ruleOf, ap length fits, cells-at rules r j (noAccount .rule) low few .0)
+  own-low j few = omega (arith, length-map accounts accountRule, ap length fits, cells-at rules r j (noAccount .rule) low few .0)
 
   pub own-rule : (j : ℕ) → j < length (unitsOf (rule .scope)) → cell j .rule ≡ ofUnit rule (getD (unitsOf (rule .scope)) j 0)
   unfolding cellsBy
   own-rule j few =
       let inside : j < length (cellsBy rule) = rw length-map few in
-      sym (List·getD-map ruleOf accounts (firstCell rules r + j) noAccount)
+      sym (List·getD-map accountRule accounts (firstCell rules r + j) noAccount)
       ∙ ap (λ (cells : List Rule). getD cells (firstCell rules r + j) (noAccount .rule)) fits
       ∙ cells-at rules r j (noAccount .rule) low inside .1
       ∙ map-at (ofUnit rule) (unitsOf (rule .scope)) j (noAccount .rule) 0 few

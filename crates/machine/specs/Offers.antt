@@ -28,12 +28,12 @@ unfoldable pub coversOffer : Offer → Rule → Bool
 coversOffer o rule = covers (rule .scope) (o .root) (o .unit)
 
 -- a rule's limit, with what is counted against it at the offer's time
-abbrev pub limitIn : List Entry → Offer → Account → Limit × ℕ
-limitIn log o a = (a .rule .limit, counted log (o .time) a)
+abbrev pub limitWithCount : List Entry → Offer → Account → Limit × ℕ
+limitWithCount log o a = (a .rule .limit, counted log (o .time) a)
 
 -- the limits of the rules that cover the offer: what the grant has to keep
 unfoldable pub covering : List Entry → Offer → List Account → List (Limit × ℕ)
-covering log o accounts = map (limitIn log o) (keep (λ a. coversOffer o (a .rule)) accounts)
+covering log o accounts = map (limitWithCount log o) (keep (λ a. coversOffer o (a .rule)) accounts)
 
 -- the grant: the least allowance of the rules that cover the offer, or all of it if none does
 unfoldable pub grantOf : List Entry → Offer → List Account → ℕ

@@ -23,17 +23,17 @@ unfoldable pub noAccount : Account
 noAccount = record { rule = record { scope = EveryFill; kind = Absolute; limit = Count (record { 0 = 0 }) }; total = Fills (record { 0 = 0 }) }
 
 -- the rule with a number, by line from 0
-unfoldable pub ruleAt : List Rule → ℕ → Rule
-ruleAt rules rule = getD rules rule (noAccount .rule)
+unfoldable pub ruleNumbered : List Rule → ℕ → Rule
+ruleNumbered rules rule = getD rules rule (noAccount .rule)
 
 -- there is such a rule, and it counts for such a unit
 unfoldable pub isCell : List Rule → ℕ → ℕ → Bool
-isCell rules rule unit = ltb rule (length rules) && isUnitOf (ruleAt rules rule .scope) unit
+isCell rules rule unit = ltb rule (length rules) && isUnitOf (ruleNumbered rules rule .scope) unit
 
 -- a rule of the profile, and a unit that it counts for
-pub record Asked (rules : List Rule) (rule unit : ℕ) : Type 0 where
+pub record RuleAndUnit (rules : List Rule) (rule unit : ℕ) : Type 0 where
   pub known : rule < length rules
-  pub unitKnown : isUnitOf (ruleAt rules rule .scope) unit ≡ true
+  pub unitKnown : isUnitOf (ruleNumbered rules rule .scope) unit ≡ true
 
 -- where the accounts of a rule begin: after those of the rules before it
 abbrev pub firstCell : List Rule → ℕ → ℕ
@@ -41,7 +41,7 @@ firstCell rules rule = length (cellsOf (take rule rules))
 
 -- where the account of a rule for a unit stands
 unfoldable pub cellAt : List Rule → ℕ → ℕ → ℕ
-cellAt rules rule unit = firstCell rules rule + placeIn (ruleAt rules rule .scope) unit
+cellAt rules rule unit = firstCell rules rule + placeIn (ruleNumbered rules rule .scope) unit
 
 -- the account at a place
 unfoldable pub accountAt : List Account → ℕ → Account

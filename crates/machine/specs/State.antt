@@ -54,12 +54,12 @@ rulesIn s = s .part .profile .rules
 unfoldable pub rootsIn : State → ℕ
 rootsIn s = length (s .part .profile .roots)
 
-abbrev pub ruleOf : Account → Rule
-ruleOf a = a .rule
+abbrev pub accountRule : Account → Rule
+accountRule a = a .rule
 
 -- the accounts are those that the profile's rules have
 unfoldable pub Fitting : Part → Type 0
-Fitting p = map ruleOf (p .accounts) ≡ cellsOf (p .profile .rules)
+Fitting p = map accountRule (p .accounts) ≡ cellsOf (p .profile .rules)
 
 unfoldable pub noLocks : Locks
 noLocks = record { firmTripped = false; firmByUser = false; tripped = 0; byUser = 0 }

@@ -18,7 +18,7 @@ use Rattle.machine.specs.declared.Entry.{Entry}
 use Rattle.machine.specs.Entries.{isEntry}
 use Rattle.tables.specs.declared.Place.{Place}
 use Rattle.tables.specs.Tables.{isPlace}
-use Rattle.packing.specs.EntryPlace.{flagNumber, fillWidths, amountWidths, fillValues, amountValues, entryNumbers, entryOf, entryAt, isEntryPlace, isEntryButTime, entryPlace}
+use Rattle.packing.specs.EntryPlace.{flagNumber, fillWidths, amountWidths, fillValues, amountValues, entryNumbers, entryFrom, entryAt, isEntryPlace, isEntryButTime, entryPlace}
 use Rattle.tables.proofs.Tables.{Codec, placed}
 use Rattle.packing.proofs.Parts.{told, shifted, by-shift, spare-test}
 
@@ -87,8 +87,8 @@ module _ (roots : ℕ) (e : Entry) (few : roots ≤ 64) (h : isEntry roots e ≡
       fits (most 0 zero-le tt (most 100_000_000 (r .premium .1) tt (most 1_000_000 (r .contracts .1) tt done)))
 
 -- the values of an entry stand for it
-entry-back : (e : Entry) → entryOf (fillValues e) (amountValues e) ≡ e
-unfolding entryOf fillValues amountValues
+entry-back : (e : Entry) → entryFrom (fillValues e) (amountValues e) ≡ e
+unfolding entryFrom fillValues amountValues
 entry-back e = λ k. record {
   time = e .time;
   root = e .root;
@@ -105,7 +105,7 @@ unfolding entryNumbers entryAt
 entry-codec roots few = record {
   long = λ e. refl;
   back = λ e rest h.
-      ap₂ entryOf (unpacked-packed fillWidths (fillValues e) (fill-fit roots e few h))
+      ap₂ entryFrom (unpacked-packed fillWidths (fillValues e) (fill-fit roots e few h))
       (unpacked-packed amountWidths (amountValues e) (amount-fit roots e few h))
       ∙ entry-back e;
 }
@@ -123,8 +123,8 @@ entryIn fill amount = record {
 }
 
 pub entry-in : (f s : ℕ) (rest : List ℕ) → entryAt (f ∷ s ∷ rest) ≡ entryIn f s
-unfolding entryAt entryOf total
-entry-in f s rest = ap₂ entryOf (by-shift 27 (27 ∷ 6 ∷ 2 ∷ 1 ∷ 1 ∷ []) f) (by-shift 17 (27 ∷ 20 ∷ []) s)
+unfolding entryAt entryFrom total
+entry-in f s rest = ap₂ entryFrom (by-shift 27 (27 ∷ 6 ∷ 2 ∷ 1 ∷ 1 ∷ []) f) (by-shift 17 (27 ∷ 20 ∷ []) s)
 
 -- an entry's own values but the spare bits are those that its numbers hold
 fill-held : (f s : ℕ) → fillValues (entryIn f s) ≡ 0 ∷ shifted (27 ∷ 6 ∷ 2 ∷ 1 ∷ 1 ∷ []) f

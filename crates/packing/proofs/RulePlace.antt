@@ -21,7 +21,7 @@ use Rattle.rules.specs.declared.Limit.{Limit}
 use Rattle.rules.specs.declared.Limit.the-variants.{Notional, Volume, Count}
 use Rattle.rules.specs.declared.Rule.{Rule}
 use Rattle.tables.specs.declared.Place.{Place}
-use Rattle.packing.specs.RulePlace.{limitNumber, measureNumber, windowNumber, kindNumber, scopeNumber, rootNumber, unitNumber, limitWidths, scopeWidths, limitValues, scopeValues, ruleNumbers, limitOf, kindOf, scopeOf, ruleOf, ruleAt, rulePlace}
+use Rattle.packing.specs.RulePlace.{limitNumber, measureNumber, windowNumber, kindNumber, scopeNumber, rootNumber, unitNumber, limitWidths, scopeWidths, limitValues, scopeValues, ruleNumbers, limitFrom, kindFrom, scopeFrom, ruleFrom, ruleAt, rulePlace}
 use Rattle.rules.specs.Valid.{windows, isLimit, isKind, isScope, isRule}
 use Rattle.tables.proofs.Tables.{Codec, placed}
 use Rattle.packing.proofs.Parts.{told, by-shift}
@@ -120,25 +120,25 @@ module _ (roots : ℕ) (rule : Rule) (few : roots ≤ 64) (h : isRule roots rule
       scope-fits rule (root-most roots (rule .scope) few s) (unit-most roots (rule .scope) s)
 
 -- the values of a rule stand for it
-pub limit-back : (limit : Limit) → limitOf (measureNumber limit) (limitNumber limit) ≡ limit
-unfolding limitOf
+pub limit-back : (limit : Limit) → limitFrom (measureNumber limit) (limitNumber limit) ≡ limit
+unfolding limitFrom
 limit-back (Notional l) = refl
 limit-back (Volume l) = refl
 limit-back (Count l) = refl
 
-pub kind-back : (kind : Kind) → kindOf (kindNumber kind) (windowNumber kind) ≡ kind
-unfolding kindOf
+pub kind-back : (kind : Kind) → kindFrom (kindNumber kind) (windowNumber kind) ≡ kind
+unfolding kindFrom
 kind-back (Rate w) = refl
 kind-back Absolute = refl
 
-pub scope-back : (scope : Scope) → scopeOf (scopeNumber scope) (rootNumber scope) (unitNumber scope) ≡ scope
-unfolding scopeOf
+pub scope-back : (scope : Scope) → scopeFrom (scopeNumber scope) (rootNumber scope) (unitNumber scope) ≡ scope
+unfolding scopeFrom
 scope-back EveryFill = refl
 scope-back (WholeRoot r) = refl
 scope-back (OneUnit r u) = refl
 
-rule-back : (rule : Rule) → ruleOf (limitValues rule) (scopeValues rule) ≡ rule
-unfolding ruleOf limitValues scopeValues
+rule-back : (rule : Rule) → ruleFrom (limitValues rule) (scopeValues rule) ≡ rule
+unfolding ruleFrom limitValues scopeValues
 rule-back rule = λ k. record { scope = scope-back (rule .scope) k; kind = kind-back (rule .kind) k; limit = limit-back (rule .limit) k }
 
 -- a rule in its table: two numbers, which stand for it
@@ -147,7 +147,7 @@ unfolding ruleNumbers ruleAt
 rule-codec roots few = record {
   long = λ rule. refl;
   back = λ rule rest h.
-      ap₂ ruleOf (unpacked-packed limitWidths (limitValues rule) (limit-fit roots rule few h))
+      ap₂ ruleFrom (unpacked-packed limitWidths (limitValues rule) (limit-fit roots rule few h))
       (unpacked-packed scopeWidths (scopeValues rule) (scope-fit roots rule few h))
       ∙ rule-back rule;
 }
@@ -162,12 +162,12 @@ unfolding total
 scope-fields s = by-shift 51 (2 ∷ 1 ∷ 2 ∷ 6 ∷ 2 ∷ []) s
 
 pub rule-in : (f s : ℕ) (rest : List ℕ) → ruleAt (f ∷ s ∷ rest) ≡ record {
-  scope = scopeOf (s / 256 % 4) (s / 4 % 64) (s % 4);
-  kind = kindOf (s / 1024 % 2) (f % 134_217_728);
-  limit = limitOf (s / 2048 % 4) (f / 134_217_728);
+  scope = scopeFrom (s / 256 % 4) (s / 4 % 64) (s % 4);
+  kind = kindFrom (s / 1024 % 2) (f % 134_217_728);
+  limit = limitFrom (s / 2048 % 4) (f / 134_217_728);
 }
-unfolding ruleAt ruleOf
-rule-in f s rest = ap₂ ruleOf (limit-fields f) (scope-fields s)
+unfolding ruleAt ruleFrom
+rule-in f s rest = ap₂ ruleFrom (limit-fields f) (scope-fields s)
 
 -- the rule at a place, by the place's two numbers as code reads them
 module _ (xs : List ℕ) (at : ℕ) (h : at + 1 < length xs) where

@@ -19,7 +19,7 @@ use Rattle.rules.specs.declared.Kind.the-variants.{Rate, Absolute}
 use Rattle.rules.specs.declared.Limit.{Limit}
 use Rattle.rules.specs.declared.Rule.{Rule}
 use Rattle.tables.specs.Tables.{isPlace}
-use Rattle.packing.specs.RulePlace.{limitNumber, measureNumber, windowNumber, kindNumber, scopeNumber, rootNumber, unitNumber, limitWidths, scopeWidths, limitValues, scopeValues, ruleNumbers, limitOf, kindOf, scopeOf, ruleOf, ruleAt, isLimitPlace, isKindPlace, isScopePlace, isRulePlace}
+use Rattle.packing.specs.RulePlace.{limitNumber, measureNumber, windowNumber, kindNumber, scopeNumber, rootNumber, unitNumber, limitWidths, scopeWidths, limitValues, scopeValues, ruleNumbers, limitFrom, kindFrom, scopeFrom, ruleFrom, ruleAt, isLimitPlace, isKindPlace, isScopePlace, isRulePlace}
 use Rattle.rules.specs.Valid.{isLimit, isKind, isScope, isRule}
 use Rattle.packing.proofs.Parts.{told, field-test}
 use Rattle.packing.proofs.RulePlace.{kind-back, limit-back, limit-fields, measure-most, scope-back, scope-fields, scope-fits}
@@ -30,7 +30,7 @@ zero-test zero = refl
 zero-test (suc n) = rw (lt-leb (suc n) 0 (omega arith), ne-eqb (suc n) 0 (λ e. omega arith))
 
 pub limit-test : (m n : ℕ) → (leb m 2 && leb 1 n && leb n (cond (eqb m 0) 100_000_000_000 1_000_000_000)) ≡ isLimitPlace m n
-unfolding isLimitPlace isLimit limitOf
+unfolding isLimitPlace isLimit limitFrom
 limit-test zero n = rw (eq-eqb n n refl)
 limit-test (suc zero) n = rw (eq-eqb n n refl)
 limit-test (suc (suc zero)) n = rw (eq-eqb n n refl)
@@ -39,7 +39,7 @@ limit-test (suc (suc (suc m))) n =
     rw (lt-leb k 2 (omega arith), ne-eqb k 0 (λ e. omega arith), ne-eqb k 1 (λ e. omega arith), ne-eqb k 2 (λ e. omega arith))
 
 pub kind-test : (n w : ℕ) → (leb n 1 && leb (cond (eqb n 0) 100 0) w && leb w (cond (eqb n 0) 86_400_000 0)) ≡ isKindPlace n w
-unfolding isKindPlace isKind kindOf
+unfolding isKindPlace isKind kindFrom
 kind-test zero w = rw (eq-eqb w w refl)
 kind-test (suc zero) w = rw (le-leb 0 w zero-le, zero-test w, and-true)
 kind-test (suc (suc n)) w =
@@ -47,7 +47,7 @@ kind-test (suc (suc n)) w =
     rw (lt-leb k 1 (omega arith), ne-eqb k 0 (λ e. omega arith), ne-eqb k 1 (λ e. omega arith))
 
 pub scope-test : (roots n r u : ℕ) → (leb n 2 && ltb r (cond (eqb n 0) 1 roots) && leb u (cond (eqb n 2) 3 0)) ≡ isScopePlace roots n r u
-unfolding isScopePlace isScope scopeOf
+unfolding isScopePlace isScope scopeFrom
 scope-test roots zero r u = rw (leb·suc-suc r 0, zero-test r, zero-test u, and-true)
 scope-test roots (suc zero) r u = rw (eq-eqb r r refl, zero-test u) (and-comm (ltb r roots) (eqb u 0))
 scope-test roots (suc (suc zero)) r u = rw (eq-eqb r r refl, eq-eqb u u refl, le-leb 0 u zero-le)
@@ -59,7 +59,7 @@ scope-test roots (suc (suc (suc n))) r u =
 measure-known : (m n : ℕ) → isLimitPlace m n ≡ true → m ≤ 2
 unfolding isLimitPlace
 measure-known m n h =
-    let limit = limitOf m n in
+    let limit = limitFrom m n in
     let e = eqb-true m (measureNumber limit) (and-l (eqb m (measureNumber limit)) (eqb n (limitNumber limit)) (and-l (eqb m (measureNumber limit) && eqb n (limitNumber limit)) (isLimit limit) h)) in
     omega (arith, measure-most limit)
 
@@ -73,16 +73,16 @@ measure-whole m n =
     rw e at (and-r (eqb (m / 4) 0) (isLimitPlace (m % 4) n) h))
 
 -- what the rule of any numbers has in its fields is no more than stood there
-window-kept : (k w : ℕ) → windowNumber (kindOf k w) ≤ w
-unfolding kindOf
+window-kept : (k w : ℕ) → windowNumber (kindFrom k w) ≤ w
+unfolding kindFrom
 window-kept k w = go (eqb k 0)
   where
     go : (a : Bool) → windowNumber (cond a (Rate w) Absolute) ≤ w
     go true = le-refl w
     go false = zero-le
 
-scope-kept : (c r u : ℕ) → (rootNumber (scopeOf c r u) ≤ r) × (unitNumber (scopeOf c r u) ≤ u)
-unfolding scopeOf
+scope-kept : (c r u : ℕ) → (rootNumber (scopeFrom c r u) ≤ r) × (unitNumber (scopeFrom c r u) ≤ u)
+unfolding scopeFrom
 scope-kept c r u = go (eqb c 0) (eqb c 1)
   where
     go : (a b : Bool) → let scope = cond a EveryFill (cond b (WholeRoot r) (OneUnit r u)) in (rootNumber scope ≤ r) × (unitNumber scope ≤ u)
@@ -101,28 +101,28 @@ regroup l w p m k c r u lim kin sco =
 module _ (roots f s l w p m k c r u : ℕ) (rest : List ℕ) (w-lt : w < 2 ^ 27) (r-le : r ≤ 63) (u-le : u ≤ 3)
     (first : unpacked limitWidths f ≡ l ∷ w ∷ []) (second : unpacked scopeWidths s ≡ p ∷ m ∷ k ∷ c ∷ r ∷ u ∷ []) where
   rule : Rule
-  rule = ruleOf (l ∷ w ∷ []) (p ∷ m ∷ k ∷ c ∷ r ∷ u ∷ [])
+  rule = ruleFrom (l ∷ w ∷ []) (p ∷ m ∷ k ∷ c ∷ r ∷ u ∷ [])
 
   limit-same : eqb f (packed limitWidths (limitValues rule)) ≡ same (l ∷ w ∷ []) (limitValues rule)
-  unfolding rule ruleOf limitValues Fit
+  unfolding rule ruleFrom limitValues Fit
   limit-same =
-      field-test 37 _ (27 ∷ []) (windowNumber (kindOf k w) ∷ []) f (lt-of-le-of-lt (window-kept k w) w-lt, tt)
+      field-test 37 _ (27 ∷ []) (windowNumber (kindFrom k w) ∷ []) f (lt-of-le-of-lt (window-kept k w) w-lt, tt)
       ∙ ap (λ (v : List ℕ). same v (limitValues rule)) first
 
   scope-same : eqb s (packed scopeWidths (scopeValues rule)) ≡ same (p ∷ m ∷ k ∷ c ∷ r ∷ u ∷ []) (scopeValues rule)
-  unfolding rule ruleOf scopeValues Fit
+  unfolding rule ruleFrom scopeValues Fit
   scope-same =
       let kept = scope-kept c r u in
       field-test 51 0 _ _ s (scope-fits rule (le-trans (kept .0) r-le) (le-trans (kept .1) u-le) .1)
       ∙ ap (λ (v : List ℕ). same v (scopeValues rule)) second
 
   rule-parts : isRulePlace roots (f ∷ s ∷ rest) ≡ (eqb p 0 && isLimitPlace m l && isKindPlace k w && isScopePlace roots c r u)
-  unfolding isPlace ruleAt ruleNumbers same rule ruleOf limitValues scopeValues isRule isLimitPlace isKindPlace isScopePlace
+  unfolding isPlace ruleAt ruleNumbers same rule ruleFrom limitValues scopeValues isRule isLimitPlace isKindPlace isScopePlace
   rule-parts =
-      let limit = limitOf m l in
-      let kind = kindOf k w in
-      let scope = scopeOf c r u in
-      ap (λ (x : Rule). same (f ∷ s ∷ []) (ruleNumbers x) && isRule roots x) (ap₂ ruleOf first second)
+      let limit = limitFrom m l in
+      let kind = kindFrom k w in
+      let scope = scopeFrom c r u in
+      ap (λ (x : Rule). same (f ∷ s ∷ []) (ruleNumbers x) && isRule roots x) (ap₂ ruleFrom first second)
       ∙ ap₂ (λ (a b : Bool). (a && (b && true)) && isRule roots rule) limit-same scope-same
       ∙ regroup (eqb l (limitNumber limit)) (eqb w (windowNumber kind)) (eqb p 0) (eqb m (measureNumber limit)) (eqb k (kindNumber kind))
       (eqb c (scopeNumber scope)) (eqb r (rootNumber scope)) (eqb u (unitNumber scope)) (isLimit limit) (isKind kind) (isScope roots scope)

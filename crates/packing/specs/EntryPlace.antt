@@ -10,7 +10,7 @@ use Rattle.machine.specs.Entries.{isEntry}
 use Rattle.machine.specs.declared.Entry.{Entry}
 use Rattle.tables.specs.declared.Place.{Place}
 use Rattle.shapes.specs.Shape.{Shape, coded, table as counted}
-use Rattle.tables.specs.Tables.{table, isPlace, placeOf}
+use Rattle.tables.specs.Tables.{tableNumbers, isPlace, placeOf}
 
 -- a flag as a bit
 abbrev pub flagNumber : Bool → ℕ
@@ -36,8 +36,8 @@ unfoldable pub entryNumbers : Entry → List ℕ
 entryNumbers e = packed fillWidths (fillValues e) ∷ packed amountWidths (amountValues e) ∷ []
 
 -- the entry that the values of the fields stand for
-unfoldable pub entryOf : List ℕ → List ℕ → Entry
-entryOf v w = record {
+unfoldable pub entryFrom : List ℕ → List ℕ → Entry
+entryFrom v w = record {
   time = getD v 1 0;
   root = getD v 2 0;
   unit = getD v 3 0;
@@ -49,7 +49,7 @@ entryOf v w = record {
 
 -- the entry that the first two numbers stand for
 unfoldable pub entryAt : List ℕ → Entry
-entryAt xs = entryOf (unpacked fillWidths (getD xs 0 0)) (unpacked amountWidths (getD xs 1 0))
+entryAt xs = entryFrom (unpacked fillWidths (getD xs 0 0)) (unpacked amountWidths (getD xs 1 0))
 
 -- the first two numbers are just those of such an entry
 abbrev pub isEntryPlace : ℕ → List ℕ → Bool
@@ -65,7 +65,7 @@ entryPlace e = placeOf (isEntry 64) entryNumbers e
 
 -- the entries in the log's 512 places
 abbrev pub logTable : List Entry → List ℕ
-logTable es = table 2 512 entryNumbers es
+logTable es = tableNumbers 2 512 entryNumbers es
 
 -- an entry with so many roots, in its two numbers
 unfoldable pub entryShape : ℕ → Shape 2 Entry

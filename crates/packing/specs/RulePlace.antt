@@ -15,7 +15,7 @@ use Rattle.rules.specs.declared.Limit.the-variants.{Notional, Volume, Count}
 use Rattle.rules.specs.declared.Rule.{Rule}
 use Rattle.tables.specs.declared.Place.{Place}
 use Rattle.shapes.specs.Shape.{Shape, coded, table as counted}
-use Rattle.tables.specs.Tables.{table, isPlace, placeOf}
+use Rattle.tables.specs.Tables.{tableNumbers, isPlace, placeOf}
 
 -- the limit's number
 abbrev pub limitNumber : Limit → ℕ
@@ -78,45 +78,45 @@ unfoldable pub ruleNumbers : Rule → List ℕ
 ruleNumbers rule = packed limitWidths (limitValues rule) ∷ packed scopeWidths (scopeValues rule) ∷ []
 
 -- the limit of a measure, by the measure's number
-unfoldable pub limitOf : ℕ → ℕ → Limit
-limitOf measure n = cond (eqb measure 0) (Notional (record { 0 = n })) (cond (eqb measure 1) (Volume (record { 0 = n })) (Count (record { 0 = n })))
+unfoldable pub limitFrom : ℕ → ℕ → Limit
+limitFrom measure n = cond (eqb measure 0) (Notional (record { 0 = n })) (cond (eqb measure 1) (Volume (record { 0 = n })) (Count (record { 0 = n })))
 
 -- the kind, by its number and the window
-unfoldable pub kindOf : ℕ → ℕ → Kind
-kindOf kind window = cond (eqb kind 0) (Rate window) Absolute
+unfoldable pub kindFrom : ℕ → ℕ → Kind
+kindFrom kind window = cond (eqb kind 0) (Rate window) Absolute
 
 -- the scope, by its number, the root and the unit
-unfoldable pub scopeOf : ℕ → ℕ → ℕ → Scope
-scopeOf scope root unit = cond (eqb scope 0) EveryFill (cond (eqb scope 1) (WholeRoot root) (OneUnit root unit))
+unfoldable pub scopeFrom : ℕ → ℕ → ℕ → Scope
+scopeFrom scope root unit = cond (eqb scope 0) EveryFill (cond (eqb scope 1) (WholeRoot root) (OneUnit root unit))
 
 -- the rule that the values of the fields stand for
-unfoldable pub ruleOf : List ℕ → List ℕ → Rule
-ruleOf v w = record {
-  scope = scopeOf (getD w 3 0) (getD w 4 0) (getD w 5 0);
-  kind = kindOf (getD w 2 0) (getD v 1 0);
-  limit = limitOf (getD w 1 0) (getD v 0 0);
+unfoldable pub ruleFrom : List ℕ → List ℕ → Rule
+ruleFrom v w = record {
+  scope = scopeFrom (getD w 3 0) (getD w 4 0) (getD w 5 0);
+  kind = kindFrom (getD w 2 0) (getD v 1 0);
+  limit = limitFrom (getD w 1 0) (getD v 0 0);
 }
 
 -- the rule that the first two numbers stand for
 unfoldable pub ruleAt : List ℕ → Rule
-ruleAt xs = ruleOf (unpacked limitWidths (getD xs 0 0)) (unpacked scopeWidths (getD xs 1 0))
+ruleAt xs = ruleFrom (unpacked limitWidths (getD xs 0 0)) (unpacked scopeWidths (getD xs 1 0))
 
 -- a measure and a number are just those of a limit in its range
 unfoldable pub isLimitPlace : ℕ → ℕ → Bool
 isLimitPlace measure n =
-    let limit = limitOf measure n in
+    let limit = limitFrom measure n in
     eqb measure (measureNumber limit) && eqb n (limitNumber limit) && isLimit limit
 
 -- a kind and a window are just those of a kind with its window in range
 unfoldable pub isKindPlace : ℕ → ℕ → Bool
 isKindPlace n window =
-    let kind = kindOf n window in
+    let kind = kindFrom n window in
     eqb n (kindNumber kind) && eqb window (windowNumber kind) && isKind kind
 
 -- a scope, a root and a unit are just those of a scope with a root that is known
 unfoldable pub isScopePlace : ℕ → ℕ → ℕ → ℕ → Bool
 isScopePlace roots n root unit =
-    let scope = scopeOf n root unit in
+    let scope = scopeFrom n root unit in
     eqb n (scopeNumber scope) && eqb root (rootNumber scope) && eqb unit (unitNumber scope) && isScope roots scope
 
 -- the first two numbers are just those of a rule that a profile with so many roots may hold
@@ -129,7 +129,7 @@ rulePlace rule = placeOf (isRule 64) ruleNumbers rule
 
 -- the rules in their 256 places
 abbrev pub rulesTable : List Rule → List ℕ
-rulesTable rules = table 2 256 ruleNumbers rules
+rulesTable rules = tableNumbers 2 256 ruleNumbers rules
 
 -- a rule of a profile with so many roots, in its two numbers
 unfoldable pub ruleShape : ℕ → Shape 2 Rule

@@ -1,6 +1,6 @@
 // A rule's limit, kind and scope as numbers: the number of each, what numbers stand for, and which may stand there.
 ghost use mathlib.Core.Path.{_≡_};
-ghost use Rattle.packing.specs.RulePlace.{measureNumber, windowNumber, kindNumber, scopeNumber, rootNumber, unitNumber, limitOf, kindOf, scopeOf, isLimitPlace, isKindPlace, isScopePlace};
+ghost use Rattle.packing.specs.RulePlace.{measureNumber, windowNumber, kindNumber, scopeNumber, rootNumber, unitNumber, limitFrom, kindFrom, scopeFrom, isLimitPlace, isKindPlace, isScopePlace};
 use measures::Contracts;
 use measures::Dollars;
 use measures::Executions;
@@ -76,7 +76,7 @@ pub(crate) fn unit_number(scope: Scope) -> u64
 
 // The limit of a measure, by the measure's number.
 pub(crate) fn limit_of(measure: u64, n: u64) -> Limit
-    ensures { λ r. ⌜ r ≡ limitOf measure n ⌝ }
+    ensures { λ r. ⌜ r ≡ limitFrom measure n ⌝ }
 {
     if measure == 0 {
         return Limit::Notional(Dollars(n));
@@ -89,7 +89,7 @@ pub(crate) fn limit_of(measure: u64, n: u64) -> Limit
 
 // The kind with a window, by the kind's number.
 pub(crate) fn kind_of(n: u64, window: u64) -> Kind
-    ensures { λ r. ⌜ r ≡ kindOf n window ⌝ }
+    ensures { λ r. ⌜ r ≡ kindFrom n window ⌝ }
 {
     if n == 0 {
         return Kind::Rate(window);
@@ -99,7 +99,7 @@ pub(crate) fn kind_of(n: u64, window: u64) -> Kind
 
 // The scope of a root and a unit, by the scope's number.
 pub(crate) fn scope_of(n: u64, root: u64, unit: u64) -> Scope
-    ensures { λ r. ⌜ r ≡ scopeOf n root unit ⌝ }
+    ensures { λ r. ⌜ r ≡ scopeFrom n root unit ⌝ }
 {
     if n == 0 {
         return Scope::EveryFill;

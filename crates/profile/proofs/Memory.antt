@@ -10,7 +10,7 @@ use native.Mathlib.Omega.{arith}
 use Rattle.rules.specs.declared.Scope.{Scope}
 use Rattle.rules.specs.declared.Scope.the-variants.{EveryFill, WholeRoot, OneUnit}
 use Rattle.rules.specs.declared.Rule.{Rule}
-use Rattle.tables.specs.Tables.{flat, table}
+use Rattle.tables.specs.Tables.{flat, tableNumbers}
 use Rattle.packing.specs.RulePlace.{rootNumber, ruleNumbers, rulesTable}
 use Rattle.tables.proofs.Tables.{Codec, length-table, put-next}
 use Rattle.packing.proofs.RulePlace.{rule-codec}
@@ -32,7 +32,7 @@ module _ (roots : List ℕ) where
   length-roots h = length-table root-codec 64 roots h
 
   pub names-known : take (length roots) (rootsTable roots) ≡ roots
-  unfolding rootsTable table
+  unfolding rootsTable tableNumbers
   names-known = rw flat-names (take-at roots _ (length roots) refl)
 
   roots-next : (name : ℕ) → length roots < 64 → set (rootsTable roots) (length roots) name ≡ rootsTable (roots ++ (name ∷ []))

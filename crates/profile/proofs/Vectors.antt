@@ -7,7 +7,7 @@ use lib.ListN.{replicate}
 use Rattle.laws.specs.Lists.{same}
 use Rattle.rules.specs.Rules.{covers}
 use Rattle.rules.specs.declared.Scope.the-variants.{EveryFill, WholeRoot, OneUnit}
-use Rattle.text.specs.Text.{bytes, all, onto, pieces, indexOf, made, numeral, numberOf, nameOf}
+use Rattle.text.specs.Text.{bytes, all, onto, pieces, indexOf, made, numeral, fieldNumber, nameOf}
 use Rattle.line.specs.Line.{typeOf, isAbsolute, limitsOf, limitOf, kindOf, timeOf, letterOf, malformed, otherFirm, outOfRange, levelClash, unitClash, faultOf, scopeOf, ruleOf, lineOf}
 use Rattle.admission.specs.Admission.{howMany, isFirmRule, onUnit, crowded}
 use Rattle.profile.specs.Profile.{withRoot, rootsWith, numbered, joined, tooMany, afterLine, readOn, outcomeOf, readingOf}
@@ -102,5 +102,5 @@ mixed = bytes "A,abs_vol,Q,5\nA,abs_vol,,5,,T\nA,abs_vol,P,5,,,P,T\nA,abs_vol,Q,
 
 right : (map (λ t. readingOf (outcomeOf (t .0))) texts ≡ map (λ t. t .1) texts)
     × (map (λ rule. rule .scope) (outcomeOf mixed .profile .rules) ≡ WholeRoot 0 ∷ EveryFill ∷ OneUnit 1 3 ∷ OneUnit 0 0 ∷ [])
-unfolding same covers all onto pieces indexOf made numeral numberOf nameOf typeOf isAbsolute limitsOf limitOf kindOf timeOf letterOf malformed otherFirm outOfRange levelClash unitClash faultOf scopeOf ruleOf lineOf withRoot rootsWith numbered joined howMany isFirmRule onUnit crowded tooMany afterLine readOn outcomeOf readingOf
+unfolding same covers all onto pieces indexOf made numeral fieldNumber nameOf typeOf isAbsolute limitsOf limitOf kindOf timeOf letterOf malformed otherFirm outOfRange levelClash unitClash faultOf scopeOf ruleOf lineOf withRoot rootsWith numbered joined howMany isFirmRule onUnit crowded tooMany afterLine readOn outcomeOf readingOf
 right = (refl, refl)

@@ -14,14 +14,14 @@ use Rattle.reader.specs.Lines.{lineFrom}
 use Rattle.reader.proofs.Lines.{line-on, line-inside}
 use Rattle.line.specs.Line.{firmIn, lineOf, anyLine}
 use Rattle.line.proofs.Laws.{any-line}
-use Rattle.tables.specs.Tables.{zeros, flat, table}
+use Rattle.tables.specs.Tables.{zeros, flat, tableNumbers}
 use Rattle.line.specs.declared.Line.the-variants.{Is, Refused as Faulty}
 use Rattle.line.proofs.Laws.{line-refused}
 use Rattle.admission.specs.Admission.{howMany}
 use Rattle.profile.specs.Profile.{joined, Outcome, afterLine, readOn, startOf, outcomeOf, readingOf, rootsTable, scanOf}
 use Rattle.machine.specs.State.{Profile}
 use Rattle.admission.specs.Counting.{noRules}
-use Rattle.profile.specs.Held.{Stored, Held, Joins, Told}
+use Rattle.profile.specs.Held.{Stored, Held, Joins, ReadingTold}
 use Rattle.profile.specs.declared.Reading.{Reading}
 use Rattle.profile.specs.declared.Reading.the-variants.{Accepted, Refused}
 use Rattle.admission.specs.declared.Tally.{Tally}
@@ -43,7 +43,7 @@ walk-start text firm held = record { profile = startOf firm; held = held; own = 
 
 -- nothing was read yet: all is 0
 pub start-held : (firm : ℕ) → Held (startOf firm) noRules (replicate 64 0) (replicate 512 0) (replicate 64 0)
-unfolding howMany rootsTable table flat zeros
+unfolding howMany rootsTable tableNumbers flat zeros
 start-held firm = record {
   lawful = start-lawful firm;
   stored = record { roots-in = refl; rules-in = refl };
@@ -54,7 +54,7 @@ start-held firm = record {
 -- a text whose size is none for a profile, and one that was read by its lines
 module _ (text : List ℕ) where
   pub scan-unsized : isIn (1 to 65_536) (length text) ≡ false → record { reading = Refused 5 0; roots = replicate 64 0; rules = replicate 512 0 } ≡ scanOf text
-  unfolding scanOf outcomeOf readingOf rootsTable table flat zeros
+  unfolding scanOf outcomeOf readingOf rootsTable tableNumbers flat zeros
   scan-unsized e = rw e
 
   pub first-firm : {line : List ℕ} → line ≡ lineFrom text 0 → firmIn line ≡ firmIn (getD (lines text) 0 [])
@@ -62,18 +62,18 @@ module _ (text : List ℕ) where
   first-firm is = ap firmIn is
 
   pub scan-told : {firm : ℕ} {reading : Reading} {roots rules : List ℕ} → isIn (1 to 65_536) (length text) ≡ true → firm ≡ firmIn (getD (lines text) 0 [])
-      → Told (readOn (startOf firm) 0 (lines text)) reading roots rules → record { reading = reading; roots = roots; rules = rules } ≡ scanOf text
+      → ReadingTold (readOn (startOf firm) 0 (lines text)) reading roots rules → record { reading = reading; roots = roots; rules = rules } ≡ scanOf text
   unfolding scanOf outcomeOf
   scan-told e f told = rw (e, ← f) (λ i. record { reading = told .reading-is i; roots = told .stored .roots-in i; rules = told .stored .rules-in i })
 
 -- a fault tells of itself and its line
 refused-told : (p : Profile) (k n : ℕ) {o : Outcome} {roots rules : List ℕ} → 6 ≤ k → o ≡ record { profile = p; refusal = k; line = n } → Stored p roots rules
-    → Told o (Refused k n) roots rules
+    → ReadingTold o (Refused k n) roots rules
 unfolding readingOf
 refused-told p k n least e stored = rw e (record { reading-is = rw (ne-eqb k 0 (λ z. omega arith)); stored = stored })
 
 module _ {text : List ℕ} {firm : ℕ} {tally : Tally} {at : ℕ} {roots rules counts : List ℕ} (w : Walk text firm tally at roots rules counts) where
-  pub walk-end : length text ≤ at → Told (readOn (startOf firm) 0 (lines text)) (Accepted firm (tally .rules) (tally .seen)) roots rules
+  pub walk-end : length text ≤ at → ReadingTold (readOn (startOf firm) 0 (lines text)) (Accepted firm (tally .rules) (tally .seen)) roots rules
   unfolding readOn readingOf pieces
   walk-end h =
       let p = w .profile in
@@ -94,7 +94,7 @@ module _ {text : List ℕ} {firm : ℕ} {tally : Tally} {at : ℕ} {roots rules 
     unfolding readOn
     one-line = w .rest ∙ rw (line-on text at h, w .own, is)
 
-    pub walk-fault : {k : ℕ} → lineOf firm line ≡ Faulty k → Told (readOn (startOf firm) 0 (lines text)) (Refused k (tally .rules + 1)) roots rules
+    pub walk-fault : {k : ℕ} → lineOf firm line ≡ Faulty k → ReadingTold (readOn (startOf firm) 0 (lines text)) (Refused k (tally .rules + 1)) roots rules
     unfolding afterLine
     walk-fault {k} e =
         let b = line-refused firm line e in
@@ -103,7 +103,7 @@ module _ {text : List ℕ} {firm : ℕ} {tally : Tally} {at : ℕ} {roots rules 
     -- a line's rule, and what became of it
     module _ {rule : Rule} (e : lineOf firm line ≡ Is rule) {roots-after rules-after : List ℕ} (counts-after : List ℕ) {became : Admitted} where
       pub walk-many : became ≡ TooMany → Joins (w .profile) rule became roots-after rules-after counts-after
-          → Told (readOn (startOf firm) 0 (lines text)) (Refused 11 (tally .rules + 1)) roots-after rules-after
+          → ReadingTold (readOn (startOf firm) 0 (lines text)) (Refused 11 (tally .rules + 1)) roots-after rules-after
       unfolding afterLine Joins
       walk-many b joins =
           let j = rw b at joins in

@@ -28,8 +28,8 @@ pub record Held (p : Profile) (tally : Tally) (roots rules counts : List ℕ) : 
   pub so-far : SoFar (p .rules) tally counts
 
 -- some profile is held
-abbrev pub Holds : Tally → List ℕ → List ℕ → List ℕ → Type 0
-Holds tally roots rules counts = (p : Profile) × Held p tally roots rules counts
+abbrev pub HoldsSome : Tally → List ℕ → List ℕ → List ℕ → Type 0
+HoldsSome tally roots rules counts = (p : Profile) × Held p tally roots rules counts
 
 -- what became of a rule after a profile: it joined, or it is one too many and nothing of it is stored
 unfoldable pub Joins : Profile → Rule → Admitted → List ℕ → List ℕ → List ℕ → Type 0
@@ -37,6 +37,6 @@ Joins p rule (With tally) roots rules counts = (tooMany p rule ≡ false) × Hel
 Joins p rule TooMany roots rules counts = (tooMany p rule ≡ true) × Stored p roots rules
 
 -- a reading is that of an outcome, whose roots and rules stand in their places
-pub record Told (o : Outcome) (reading : Reading) (roots rules : List ℕ) : Type 0 where
+pub record ReadingTold (o : Outcome) (reading : Reading) (roots rules : List ℕ) : Type 0 where
   pub reading-is : reading ≡ readingOf o
   pub stored : Stored (o .profile) roots rules

@@ -14,7 +14,7 @@ use Rattle.text.specs.Text.{lines, indexOf}
 use Rattle.line.specs.Line.{firmIn, lineOf}
 use Rattle.line.specs.declared.Line.{Line}
 use Rattle.line.specs.declared.Line.the-variants.{Is, Refused as Faulty}
-use Rattle.tables.specs.Tables.{table}
+use Rattle.tables.specs.Tables.{tableNumbers}
 use Rattle.packing.specs.RulePlace.{rulesTable}
 use Rattle.profile.specs.declared.Reading.{Reading}
 use Rattle.profile.specs.declared.Scan.{Scan}
@@ -83,7 +83,7 @@ readingOf o =
 
 -- the roots' names in 64 places
 unfoldable pub rootsTable : List ℕ → List ℕ
-rootsTable roots = table 1 64 (λ name. name ∷ []) roots
+rootsTable roots = tableNumbers 1 64 (λ name. name ∷ []) roots
 
 -- the answer, with the roots and the rules that were read in their places
 unfoldable pub scanOf : List ℕ → Scan

@@ -11,7 +11,7 @@ ghost use Rattle.machine.specs.State.{Profile};
 ghost use Rattle.admission.specs.Counting.{noRules};
 ghost use Rattle.profile.specs.Profile.{numbered, readOn, startOf, scanOf};
 ghost use Rattle.profile.specs.Lawful.{Said};
-ghost use Rattle.profile.specs.Held.{Held, Holds, Joins, Told};
+ghost use Rattle.profile.specs.Held.{Held, HoldsSome, Joins, ReadingTold};
 use admission::Admitted;
 use admission::Tally;
 use line::Line;
@@ -86,7 +86,7 @@ fn take_in(
     rules: &mut [u64],
     counts: &mut [u64],
 ) -> Admitted
-    requires { ⌜ Holds tally (now roots) (now rules) (now counts) × Said rule ⌝ }
+    requires { ⌜ HoldsSome tally (now roots) (now rules) (now counts) × Said rule ⌝ }
     ensures { λ r. ⌜ ((p : Profile) → Held p tally (now (roots .entry)) (now (rules .entry)) (now (counts .entry)) → Joins p rule r (now (roots .exit)) (now (rules .exit)) (now (counts .exit))) ⌝ }
 {
     let known = tally.seen as usize;
@@ -120,7 +120,7 @@ fn read_lines(
     counts: &mut [u64],
 ) -> Reading
     requires { ⌜ (length (now text) ≤ 65_536) × Held (startOf firm) noRules (now roots) (now rules) (now counts) ⌝ }
-    ensures { λ r. ⌜ Told (readOn (startOf firm) 0 (lines (now (text .entry)))) r (now (roots .exit)) (now (rules .exit)) ⌝ }
+    ensures { λ r. ⌜ ReadingTold (readOn (startOf firm) 0 (lines (now (text .entry)))) r (now (roots .exit)) (now (rules .exit)) ⌝ }
 {
     let mut tally = Tally {
         rules: 0,

@@ -8,7 +8,7 @@ use lib.ListN.{length}
 use lib.Pow.{pow-pos}
 use Rattle.laws.specs.Folds.{every, keep, sumOf}
 use Rattle.rules.specs.declared.Rule.{Rule}
-use Rattle.machine.specs.State.{Profile, cellsOf, rulesIn, rootsIn, ruleOf, Fitting, noLocks, fresh, armed}
+use Rattle.machine.specs.State.{Profile, cellsOf, rulesIn, rootsIn, accountRule, Fitting, noLocks, fresh, armed}
 use Rattle.rules.specs.Valid.{hasRate}
 use Rattle.machine.specs.Entries.{areOrdered, recent}
 use Rattle.machine.specs.Register.{areDifferent, keptPlaces}
@@ -43,7 +43,7 @@ unfolding armed noLocks Fitting fresh rulesIn rootsIn areOrdered areDifferent ev
 fresh-sound p h = record {
   clock = (zero-le, zero-le);
   given = made-given p h;
-  fitting = map-map ruleOf fresh (cellsOf (p .rules)) ∙ map-id (cellsOf (p .rules));
+  fitting = map-map accountRule fresh (cellsOf (p .rules)) ∙ map-id (cellsOf (p .rules));
   totals = fresh-totals (cellsOf (p .rules));
   tripped = pow-pos (length (p .roots));
   byUser = pow-pos (length (p .roots));

@@ -15,7 +15,7 @@ use Rattle.machine.specs.declared.Offer.{Offer}
 use Rattle.rules.specs.Units.{isUnitOf}
 use Rattle.rules.proofs.Units.{unit-known}
 use Rattle.machine.specs.State.{State, rulesIn, rootsIn}
-use Rattle.machine.specs.Remaining.{ruleAt, isCell}
+use Rattle.machine.specs.Remaining.{ruleNumbered, isCell}
 use Rattle.machine.specs.Calls.{Call, order, lockout, offer, remaining, status, send, report, close}
 use Rattle.machine.specs.Locks.{isLocked, verdictOf}
 use Rattle.machine.specs.Offers.{grantOf}
@@ -172,7 +172,7 @@ strange-tells s (order time root reset) = or-tells (ltb root (length (s .part .p
 strange-tells s (lockout time level root) = level-tells (length (s .part .profile .roots)) level root
 strange-tells s (offer o) = or-tells (ltb (o .root) (length (s .part .profile .roots))) (isIn units (o .unit)) (least-tells (o .root) (length (s .part .profile .roots))) (over-tells (units .most) (o .unit))
 strange-tells s (remaining time rule unit) =
-    let scope = ruleAt (rulesIn s) rule .scope in
+    let scope = ruleNumbered (rulesIn s) rule .scope in
     or-tells (ltb rule (length (rulesIn s))) (isUnitOf scope unit) (least-tells rule (length (rulesIn s))) (not-tells (isUnitOf scope unit) (unit-known scope unit))
 strange-tells s status = nothing-tells
 strange-tells s (send o identity reports) =

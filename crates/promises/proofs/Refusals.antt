@@ -19,13 +19,13 @@ use Rattle.state.proofs.Stored.{is-stored, decode-stored}
 use Rattle.state.proofs.Exactly.{made-parts, sound-fits, given-is-made, sound-decode, exactly}
 use Rattle.calls.specs.Calls.{isShort, markOf, memoryRefusal, callAnswer, refusalIn}
 use Rattle.promises.proofs.Marked.{sound-marked}
-use Rattle.promises.specs.Refusals.{refusalRow, Short, Held, Holding, Untimely, Unknown, Unpriced, RegisterFull, Misnamed, Overdrawn, LogFull, Timely, Known, Priced, Placed, Named, Covered, CallRefusals}
+use Rattle.promises.specs.Refusals.{refusalRow, Short, HoldsState, Holding, Untimely, Unknown, Unpriced, RegisterFull, Misnamed, Overdrawn, LogFull, Timely, Known, Priced, Placed, Named, Covered, CallRefusals}
 use Rattle.promises.proofs.Tests.{Tells, tells-not, not-tells, NonePass, NoneIs, first-at, first-none, none-more}
 use Rattle.promises.proofs.Judged.{late, strange, unpriced, crowded, misnamed, drained, full, machineTests, machine-tests, late-tells, strange-tells, unpriced-tells, crowded-tells, misnamed-tells, drained-tells, full-tells}
 use Rattle.promises.proofs.Answered.{unrefused, row-by}
 
 -- a memory that holds a sound state decodes to it
-pub held-is : (s : State) (xs : List ℕ) → Held s xs → decode xs ≡ s
+pub held-is : (s : State) (xs : List ℕ) → HoldsState s xs → decode xs ≡ s
 held-is s xs h =
     ap decode (is-stored s xs (h .1))
     ∙ decode-stored s (sound-fits s (h .0) (made-parts (s .part .profile) (given-is-made (s .part .profile) (h .0 .given)))) xs

@@ -15,7 +15,7 @@ use Rattle.profile.specs.Profile.{joined, tooMany, startOf}
 use Rattle.machine.specs.declared.Offer.{Offer}
 use Rattle.machine.specs.State.{Profile, State, rulesIn, rootsIn}
 use Rattle.rules.specs.Units.{unitsOf}
-use Rattle.machine.specs.Remaining.{ruleAt}
+use Rattle.machine.specs.Remaining.{ruleNumbered}
 use Rattle.machine.specs.Calls.{Call, order, lockout, offer, remaining, status, send, report, close}
 use Rattle.machine.specs.Locks.{isLocked}
 use Rattle.machine.specs.Offers.{grantOf}
@@ -47,12 +47,12 @@ abbrev pub Marked : List ℕ → Type 0
 Marked xs = (size ≤ length xs) × (markOf xs ≡ 0 → ⊥)
 
 -- it holds this sound state: `Sound` is that it holds some
-abbrev pub Held : State → List ℕ → Type 0
-Held s xs = SoundState s × (take size xs ≡ encode s)
+abbrev pub HoldsState : State → List ℕ → Type 0
+HoldsState s xs = SoundState s × (take size xs ≡ encode s)
 
 -- it holds a sound state of which something is so
 abbrev pub Holding : List ℕ → (State → Type 0) → Type 0
-Holding xs P = (s : State) × (Held s xs × P s)
+Holding xs P = (s : State) × (HoldsState s xs × P s)
 
 -- ---- the calls on an armed unit
 
@@ -77,7 +77,7 @@ unfoldable pub Unknown : State → Call → Type 0
 Unknown s (order time root reset) = (rootsIn s ≤ root) ⊎ (lastReset < reset)
 Unknown s (lockout time level root) = (1 < level) ⊎ ((level ≡ 0) × (rootsIn s ≤ root)) ⊎ ((level ≡ 1) × (0 < root))
 Unknown s (offer o) = (rootsIn s ≤ o .root) ⊎ (units .most < o .unit)
-Unknown s (remaining time rule unit) = (length (rulesIn s) ≤ rule) ⊎ (List·Memᴰ unit (unitsOf (ruleAt (rulesIn s) rule .scope)) → ⊥)
+Unknown s (remaining time rule unit) = (length (rulesIn s) ≤ rule) ⊎ (List·Memᴰ unit (unitsOf (ruleNumbered (rulesIn s) rule .scope)) → ⊥)
 Unknown s status = ⊥
 Unknown s (send o identity reports) = (rootsIn s ≤ o .root) ⊎ (units .most < o .unit) ⊎ (identities .most < identity)
 Unknown s (report time identity n) = identities .most < identity

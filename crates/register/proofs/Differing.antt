@@ -16,7 +16,7 @@ use Rattle.bits.proofs.Words.{bit-cases, bit-with-same, bit-with-other}
 use Rattle.machine.specs.declared.Sent.{Sent}
 use Rattle.machine.specs.Register.{hasIdentity, isOpen, noSent, keptPlaces, areDifferent}
 use Rattle.register.specs.SentPlace.{sentFrom}
-use Rattle.register.specs.Register.{registerOf, placeOf}
+use Rattle.register.specs.Register.{registerOf, placeOfIdentity}
 use Rattle.register.proofs.Registers.{register-long, identity-at, reports-at, orders-from}
 use Rattle.register.proofs.Finding.{place-none}
 
@@ -60,7 +60,7 @@ module _ (k : ℕ) (xs : List ℕ) where
     keeping-end sum = rw past (omega arith)
 
   -- no order from a place on has an identity where its place is past them all
-  pub differing-new : (from : ℕ) → from ≤ k → (identity : ℕ) {place : ℕ} → place ≡ from + placeOf (drop from orders) identity
+  pub differing-new : (from : ℕ) → from ≤ k → (identity : ℕ) {place : ℕ} → place ≡ from + placeOfIdentity (drop from orders) identity
       → eqb place k ≡ not (isOpen (drop from orders) identity)
   differing-new from within identity at =
       ap (λ (p : ℕ). eqb p k) at

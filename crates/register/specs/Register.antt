@@ -8,7 +8,7 @@ use Rattle.laws.specs.Folds.{every}
 use Rattle.machine.specs.Register.{hasIdentity, noSent, isSent, areDifferent}
 use Rattle.machine.specs.declared.Sent.{Sent}
 use Rattle.shapes.specs.Shape.{Shape, table as counted}
-use Rattle.tables.specs.Tables.{table, places}
+use Rattle.tables.specs.Tables.{tableNumbers, places}
 use Rattle.register.specs.SentPlace.{sentNumbers, sentFrom, sentShape}
 
 -- the register's table: how many orders there are, and their places
@@ -17,7 +17,7 @@ registerShape roots = counted 64 (sentShape roots)
 
 -- the numbers of the register's table
 abbrev pub registerNumbers : List Sent → List ℕ
-registerNumbers register = length register ∷ table 2 64 sentNumbers register
+registerNumbers register = length register ∷ tableNumbers 2 64 sentNumbers register
 
 -- the orders in the first k places of a table
 abbrev pub registerOf : ℕ → List ℕ → List Sent
@@ -39,10 +39,10 @@ pub record RegisterHeld (xs : List ℕ) : Type 0 where
   pub is : xs ≡ registerNumbers (registerIn xs)
 
 -- the place of the first order of an identity, or as many as there are if none has it
-unfoldable pub placeOf : List Sent → ℕ → ℕ
-placeOf [] identity = 0
-placeOf (sent ∷ rest) identity = cond (hasIdentity identity sent) 0 (placeOf rest identity + 1)
+unfoldable pub placeOfIdentity : List Sent → ℕ → ℕ
+placeOfIdentity [] identity = 0
+placeOfIdentity (sent ∷ rest) identity = cond (hasIdentity identity sent) 0 (placeOfIdentity rest identity + 1)
 
 -- the order at a place
-abbrev pub sentIn : List Sent → ℕ → Sent
-sentIn register i = getD register i noSent
+abbrev pub sentAtPlace : List Sent → ℕ → Sent
+sentAtPlace register i = getD register i noSent

@@ -6,7 +6,7 @@ ghost use Prim.Native.Nat.{_≤_, _<_};
 ghost use lib.ListN.{length};
 ghost use Rattle.laws.specs.Folds.{keep};
 ghost use Rattle.machine.specs.Register.{hasIdentity, usedUp, keptPlaces, isSent, areDifferent};
-ghost use Rattle.register.specs.Register.{registerNumbers, registerIn, registerHolds, RegisterHeld, placeOf, sentIn};
+ghost use Rattle.register.specs.Register.{registerNumbers, registerIn, registerHolds, RegisterHeld, placeOfIdentity, sentAtPlace};
 
 mod places;
 mod tests;
@@ -39,7 +39,7 @@ pub fn is_register(register: &[u64], roots: u64) -> bool
 // The place of the order of an identity, or how many orders there are if none has it.
 pub fn find(register: &[u64], identity: u64) -> usize
     requires { ⌜ RegisterHeld (now register) ⌝ }
-    ensures { λ r. ⌜ r ≡ placeOf (registerIn (now (register .entry))) identity ⌝ }
+    ensures { λ r. ⌜ r ≡ placeOfIdentity (registerIn (now (register .entry))) identity ⌝ }
 {
     let k = register[0] as usize;
     places::place_from(register, k, 0, identity)
@@ -48,7 +48,7 @@ pub fn find(register: &[u64], identity: u64) -> usize
 // The order at place i.
 pub fn sent_in(register: &[u64], i: usize) -> Sent
     requires { ⌜ RegisterHeld (now register) × (i < length (registerIn (now register))) ⌝ }
-    ensures { λ r. ⌜ r ≡ sentIn (registerIn (now (register .entry))) i ⌝ }
+    ensures { λ r. ⌜ r ≡ sentAtPlace (registerIn (now (register .entry))) i ⌝ }
 {
     let at = 1 + i * 2;
     words::sent_of(register[at], register[at + 1])
@@ -83,8 +83,8 @@ pub fn enter(register: &mut [u64], sent: Sent)
 
 // A report of so many contracts of the order at place i: so many fewer are open, and one report fewer is allowed.
 pub fn use_up(register: &mut [u64], i: usize, contracts: u64)
-    requires { ⌜ RegisterHeld (now register) × (areDifferent (registerIn (now register)) ≡ true) × (i < length (registerIn (now register))) × (contracts ≤ sentIn (registerIn (now register)) i .contracts .0) × (0 < sentIn (registerIn (now register)) i .reports) ⌝ }
-    ensures { λ _. ⌜ now (register .exit) ≡ registerNumbers (map (usedUp (sentIn (registerIn (now (register .entry))) i .identity) contracts) (registerIn (now (register .entry)))) ⌝ }
+    requires { ⌜ RegisterHeld (now register) × (areDifferent (registerIn (now register)) ≡ true) × (i < length (registerIn (now register))) × (contracts ≤ sentAtPlace (registerIn (now register)) i .contracts .0) × (0 < sentAtPlace (registerIn (now register)) i .reports) ⌝ }
+    ensures { λ _. ⌜ now (register .exit) ≡ registerNumbers (map (usedUp (sentAtPlace (registerIn (now (register .entry))) i .identity) contracts) (registerIn (now (register .entry)))) ⌝ }
 {
     let at = 1 + i * 2;
     register[at] = register[at] - 1;
@@ -94,7 +94,7 @@ pub fn use_up(register: &mut [u64], i: usize, contracts: u64)
 // The order at place i leaves: those after it move up, and the place that becomes free holds 0.
 pub fn close(register: &mut [u64], i: usize)
     requires { ⌜ RegisterHeld (now register) × (areDifferent (registerIn (now register)) ≡ true) × (i < length (registerIn (now register))) ⌝ }
-    ensures { λ _. ⌜ now (register .exit) ≡ registerNumbers (keep (λ sent. not (hasIdentity (sentIn (registerIn (now (register .entry))) i .identity) sent)) (registerIn (now (register .entry)))) ⌝ }
+    ensures { λ _. ⌜ now (register .exit) ≡ registerNumbers (keep (λ sent. not (hasIdentity (sentAtPlace (registerIn (now (register .entry))) i .identity) sent)) (registerIn (now (register .entry)))) ⌝ }
 {
     let k = register[0];
     let at = 1 + i * 2;

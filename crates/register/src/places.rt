@@ -4,13 +4,13 @@ ghost use mathlib.Core.List.{_++_};
 ghost use Prim.Native.Nat.{_+_, _≤_};
 ghost use lib.ListN.{length, drop};
 ghost use Rattle.tables.specs.Tables.{zeros};
-ghost use Rattle.register.specs.Register.{registerOf, placeOf};
+ghost use Rattle.register.specs.Register.{registerOf, placeOfIdentity};
 use crate::words;
 
 // The first place from one on, of the first k, whose order has an identity, or k if none has it.
 pub(crate) fn place_from(register: &[u64], k: usize, from: usize, identity: u64) -> usize
     requires { ⌜ (length (now register) ≡ 129) × (k ≤ 64) × (from ≤ k) ⌝ }
-    ensures { λ r. ⌜ r ≡ from + placeOf (drop from (registerOf k (now (register .entry)))) identity ⌝ }
+    ensures { λ r. ⌜ r ≡ from + placeOfIdentity (drop from (registerOf k (now (register .entry)))) identity ⌝ }
 {
     let mut i = from;
     while i < k {

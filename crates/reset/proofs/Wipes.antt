@@ -16,7 +16,7 @@ use Rattle.rules.specs.declared.Account.{Account}
 use Rattle.rules.proofs.Amounts.{of-in}
 use Rattle.rules.proofs.Units.{units-some, unit-level}
 use Rattle.machine.specs.State.{rulesIn, Fitting}
-use Rattle.machine.specs.Remaining.{ruleAt, firstCell}
+use Rattle.machine.specs.Remaining.{ruleNumbered, firstCell}
 use Rattle.machine.specs.Order.{wiped}
 use Rattle.machine.proofs.Walk.{cells-next, own-rule}
 use Rattle.state.specs.State.{stored, decode}
@@ -41,7 +41,7 @@ module _ {xs : List ℕ} (h : Laid xs) {r place next : ℕ} (low : r < length (r
   rules = rulesIn (decode xs)
 
   abbrev rule : Rule
-  rule = ruleAt rules r
+  rule = ruleNumbered rules r
 
   abbrev many : ℕ
   many = length (unitsOf (rule .scope))

@@ -13,7 +13,7 @@ use Rattle.laws.specs.Tests.{and-l, and-r, and-i, and-on, same-test}
 use Rattle.laws.specs.Lists.{same, same-eq, same-refl}
 use Rattle.shapes.specs.Tables.{zeros, allZero, flat, places, placesPass}
 use Rattle.laws.specs.Folds.{every}
-use Rattle.shapes.specs.Shape.{Shape, Exact, Long, one, coded, both, named, rows, table, Field, ExactField, flag, word}
+use Rattle.shapes.specs.Shape.{Shape, Exact, Long, cell, coded, both, named, rows, table, Field, ExactField, flag, word}
 use Rattle.shapes.proofs.Tables.{length-zeros, all-zeros, zeros-all, length-places, length-flat, places-flat, pass-flat, every-places, flat-places}
 
 -- the first number of numbers
@@ -21,8 +21,8 @@ pub front : (xs : List ℕ) → 1 ≤ length xs → getD xs 0 0 ∷ [] ≡ take 
 front [] h = absurd (omega arith)
 front (x ∷ xs) h = refl
 
-pub one-exact : (p : ℕ → Bool) → Exact (one p)
-unfolding one
+pub one-exact : (p : ℕ → Bool) → Exact (cell p)
+unfolding cell
 one-exact p = record { long = λ a h. refl; back = λ a rest h. refl; pass = λ a rest h. h; valid = λ xs l h. h; same = λ xs l h. front xs l }
 
 pub coded-exact : {A : Type 0} (w : ℕ) (ok : A → Bool) (dec : List ℕ → A) (enc : A → List ℕ) → ((a : A) → length (enc a) ≡ w)
@@ -155,15 +155,15 @@ module _ {w : ℕ} {A : Type 0} (n : ℕ) (s : Shape w A) (k : ℕ) where
         ∙ take-append-drop (k * w) (take (n * w) xs);
   }
 
-counted : {w : ℕ} {A : Type 0} (n : ℕ) (s : Shape w A) (p : ℕ × List A) → both (one (λ k. leb k n)) (rows n s) .ok p ≡ true → (length (p .1), p .1) ≡ p
+counted : {w : ℕ} {A : Type 0} (n : ℕ) (s : Shape w A) (p : ℕ × List A) → both (cell (λ k. leb k n)) (rows n s) .ok p ≡ true → (length (p .1), p .1) ≡ p
 unfolding both rows okRows
-counted n s p h = ap (λ (k : ℕ). (k, p .1)) (many n s (p .0) (p .1) (and-r (one (λ k. leb k n) .ok (p .0)) _ h))
+counted n s p h = ap (λ (k : ℕ). (k, p .1)) (many n s (p .0) (p .1) (and-r (cell (λ k. leb k n) .ok (p .0)) _ h))
 
 pub table-exact : {w : ℕ} {A : Type 0} (n : ℕ) (s : Shape w A) → Exact s → Exact (table n s)
 unfolding table
 table-exact n s e =
-    named-exact (λ p. p .1) (λ rs. (length rs, rs)) (both (one (λ k. leb k n)) (rows n s))
-    (both-exact (one (λ k. leb k n)) (rows n s) (one-exact (λ k. leb k n)) (λ k h. rows-exact n s k e)) (λ b. refl) (counted n s)
+    named-exact (λ p. p .1) (λ rs. (length rs, rs)) (both (cell (λ k. leb k n)) (rows n s))
+    (both-exact (cell (λ k. leb k n)) (rows n s) (one-exact (λ k. leb k n)) (λ k h. rows-exact n s k e)) (λ b. refl) (counted n s)
 
 -- fields of one number
 pub flag-exact : ExactField flag
@@ -218,5 +218,5 @@ module _ {n : ℕ} {A : Type 0} (s : Shape n A) (e : Exact s) where
 
 -- how many values a table holds is the number in front of it
 pub table-many : {w : ℕ} {A : Type 0} (n : ℕ) (s : Shape w A) (xs : List ℕ) → length (table n s .read xs) ≡ getD xs 0 0
-unfolding table named both one rows
+unfolding table named both cell rows
 table-many {w} n s xs = length-places w (s .read) (getD xs 0 0) (drop 1 xs)

@@ -9,7 +9,7 @@ use lib.Seq.{take-at, drop-at, set-at, split-at, set-split, length-take-le}
 use Rattle.laws.specs.Tests.{and-l, and-r}
 use Rattle.shapes.specs.Tables.{zeros, flat}
 use Rattle.laws.specs.Every.{every-at, every-take}
-use Rattle.shapes.specs.Shape.{Shape, Exact, Long, one, both, rows}
+use Rattle.shapes.specs.Shape.{Shape, Exact, Long, cell, both, rows}
 use Rattle.shapes.proofs.Tables.{length-flat}
 use Rattle.shapes.proofs.Exact.{rows-many, rows-all}
 
@@ -46,9 +46,9 @@ module _ {k : ℕ} {W P : Type 0} {good : W → Type 0} {write : W → List ℕ}
       ∙ sym (ap (λ (l : List ℕ). l ++ rest) (h .puts w p o) ∙ simp append-assoc)
 
 -- a part of one number is stored by one store
-pub put-one : (p : ℕ → Bool) {W : Type 0} {good : W → Type 0} {write : W → List ℕ} {at : ℕ} {get : W → ℕ} {put : W → ℕ → W} → Part good write (λ w. one p) at get put
+pub put-one : (p : ℕ → Bool) {W : Type 0} {good : W → Type 0} {write : W → List ℕ} {at : ℕ} {get : W → ℕ} {put : W → ℕ → W} → Part good write (λ w. cell p) at get put
     → (w : W) → good w → (rest : List ℕ) (v : ℕ) → set (write w ++ rest) at v ≡ write (put w v) ++ rest
-unfolding one
+unfolding cell
 put-one p {write = write} {at = at} h w o rest v =
     ap (λ (l : List ℕ). set l at v) (ap (λ (l : List ℕ). l ++ rest) (h .is w o) ∙ append-assoc (h .before w) _ rest)
     ∙ set-at (h .before w) _ (h .after w ++ rest) v at (h .starts w o) ∙ sym (ap (λ (l : List ℕ). l ++ rest) (h .puts w v o) ∙ append-assoc (h .before w) _ rest)

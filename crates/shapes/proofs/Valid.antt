@@ -8,7 +8,7 @@ use lib.Dec.{leb}
 use borrow.Author.Tests.{eq-eqb, le-leb, leb-true}
 use Rattle.laws.specs.Tests.{and-l, and-r, and-i}
 use Rattle.laws.specs.Folds.{every}
-use Rattle.shapes.specs.Shape.{Shape, one, both, named, rows, table}
+use Rattle.shapes.specs.Shape.{Shape, cell, both, named, rows, table}
 use Rattle.shapes.proofs.Exact.{rows-all}
 
 -- every number passes where none is tested
@@ -23,13 +23,13 @@ module _ {w : ℕ} {A : Type 0} (n : ℕ) (s : Shape w A) (rs : List A) where
   rows-ok k many few all = and-i (and-i (eq-eqb _ _ many) (le-leb _ _ few)) all
 
   pub table-ok : length rs ≤ n → every (s .ok) rs ≡ true → table n s .ok rs ≡ true
-  unfolding table named both one
+  unfolding table named both cell
   table-ok few all = and-i (le-leb _ _ few) (rows-ok (length rs) refl few all)
 
   pub table-few : table n s .ok rs ≡ true → length rs ≤ n
-  unfolding table named both one
+  unfolding table named both cell
   table-few h = leb-true _ _ (and-l (leb (length rs) n) _ h)
 
   pub table-all : table n s .ok rs ≡ true → every (s .ok) rs ≡ true
-  unfolding table named both one
+  unfolding table named both cell
   table-all h = rows-all n s (length rs) rs (and-r (leb (length rs) n) _ h)

@@ -31,8 +31,8 @@ pub record Exact {size : ℕ} {A : Type 0} (s : Shape size A) : Type 0 where
   pub same : (xs : List ℕ) → size ≤ length xs → s .test xs ≡ true → s .write (s .read xs) ≡ take size xs
 
 -- one number that passes a test
-unfoldable pub one : (ℕ → Bool) → Shape 1 ℕ
-one p = record {
+unfoldable pub cell : (ℕ → Bool) → Shape 1 ℕ
+cell p = record {
   write = λ x. x ∷ [];
   read = λ xs. getD xs 0 0;
   ok = p;
@@ -72,7 +72,7 @@ rows {w} n s k = record {
 
 -- a table: how many values there are, and n places for them
 unfoldable pub table : {w : ℕ} {A : Type 0} → (n : ℕ) → Shape w A → Shape (1 + n * w) (List A)
-table n s = named (λ p. p .1) (λ rs. (length rs, rs)) (both (one (λ k. leb k n)) (rows n s))
+table n s = named (λ p. p .1) (λ rs. (length rs, rs)) (both (cell (λ k. leb k n)) (rows n s))
 
 -- values of A in `width` bits of a number
 pub record Field (width : ℕ) (A : Type 0) : Type 0 where

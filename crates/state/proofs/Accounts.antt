@@ -11,11 +11,11 @@ use Rattle.rules.specs.Amounts.{isOf}
 use Rattle.rules.specs.declared.Rule.{Rule}
 use Rattle.rules.specs.declared.Account.{Account}
 use Rattle.rules.proofs.Amounts.{number-in, of-in, in-number}
-use Rattle.machine.specs.State.{ruleOf}
+use Rattle.machine.specs.State.{accountRule}
 use Rattle.state.specs.State.{totalsIn, accountsOf}
 
 -- rules with their totals, and the two apart again
-pub accounts-rules : (rules : List Rule) (totals : List ℕ) → length rules ≤ length totals → map ruleOf (accountsOf rules totals) ≡ rules
+pub accounts-rules : (rules : List Rule) (totals : List ℕ) → length rules ≤ length totals → map accountRule (accountsOf rules totals) ≡ rules
 unfolding accountsOf
 accounts-rules [] totals h = refl
 accounts-rules (rule ∷ rules) [] h = absurd (not-suc-le-zero h)
@@ -35,7 +35,7 @@ accounts-measured (rule ∷ rules) [] = refl
 accounts-measured (rule ∷ rules) (t ∷ totals) = rw (of-in (rule .limit) t) (accounts-measured rules totals)
 
 pub accounts-again : (accounts : List Account) (more : List ℕ) → every (λ a. isOf (a .rule .limit) (a .total)) accounts ≡ true
-    → accountsOf (map ruleOf accounts) (totalsIn accounts ++ more) ≡ accounts
+    → accountsOf (map accountRule accounts) (totalsIn accounts ++ more) ≡ accounts
 unfolding accountsOf every
 accounts-again [] more h = refl
 accounts-again (a ∷ rest) more h =

@@ -4,17 +4,17 @@ use native.Mathlib.Omega.{arith}
 use mathlib.Core.Path.{_≡_, refl, sym, ap, ap₂, _∙_}
 use mathlib.Core.List.{List, [], _∷_, _++_, map, append-assoc}
 use lib.ListN.{length, drop}
-use Rattle.shapes.specs.Shape.{one, both, named, rows, table, flag, word}
+use Rattle.shapes.specs.Shape.{cell, both, named, rows, table, flag, word}
 use Rattle.rules.specs.declared.Rule.{Rule}
 use Rattle.rules.proofs.Amounts.{number-in}
 use Rattle.machine.specs.State.{Profile, cellsOf, noLocks, fresh, armed}
-use Rattle.tables.specs.Tables.{zeros, flat, table as filled}
+use Rattle.tables.specs.Tables.{zeros, flat, tableNumbers as filled}
 use Rattle.packing.specs.RulePlace.{rulesTable}
 use Rattle.tables.proofs.AllZero.{zeros-add}
 use Rattle.packing.proofs.Shapes.{rules-written, log-written}
 use Rattle.profile.specs.Profile.{rootsTable}
 use Rattle.given.specs.Parts.{totalsSize}
-use Rattle.state.specs.State.{size, number, locksShape, marksOf, profileShape, linesOf, totalsShape, partShape, numbersShape, totalsIn, numbersOf, encode, stored, restSize}
+use Rattle.state.specs.State.{size, number, locksShape, marksOf, profileShape, asTuple, totalsShape, partShape, numbersShape, totalsIn, numbersOf, encode, stored, restSize}
 use Rattle.state.proofs.Accounts.{map-length}
 use Rattle.machine.proofs.Cells.{cells-bound}
 use Rattle.register.proofs.Shapes.{register-written}
@@ -26,7 +26,7 @@ fresh-flat [] = refl
 fresh-flat (rule ∷ rules) = ap₂ (λ (x : ℕ) (l : List ℕ). x ∷ l) (number-in (rule .limit) 0) (fresh-flat rules)
 
 fresh-written : (rules : List Rule) → length rules ≤ 256 → totalsShape rules .write (totalsIn (map fresh (cellsOf rules))) ≡ zeros totalsSize
-unfolding totalsShape rows number one
+unfolding totalsShape rows number cell
 fresh-written rules few =
     let cells = cellsOf rules in
     let most : length cells ≤ totalsSize = cells-bound rules few in
@@ -38,7 +38,7 @@ fresh-written rules few =
 armed-written : (p : Profile) → encode (armed p)
     ≡ 1 ∷ ((0 ∷ ((p .firm ∷ ((length (p .roots) ∷ rootsTable (p .roots)) ++ (length (p .rules) ∷ rulesTable (p .rules))))
     ++ (totalsShape (p .rules) .write (totalsIn (map fresh (cellsOf (p .rules)))) ++ (zeros 4 ++ zeros 129)))) ++ zeros 1025)
-unfolding encode armed noLocks numbersOf numbersShape partShape profileShape linesOf locksShape marksOf both named table rows one word flag number rootsTable filled flat zeros
+unfolding encode armed noLocks numbersOf numbersShape partShape profileShape asTuple locksShape marksOf both named table rows cell word flag number rootsTable filled flat zeros
 armed-written p =
     λ i. 1 ∷ ((0 ∷ ((p .firm ∷ ((length (p .roots) ∷ rootsTable (p .roots)) ++ rules-written (length (p .roots)) (p .rules) i))
     ++ (totalsShape (p .rules) .write (totalsIn (map fresh (cellsOf (p .rules)))) ++ (zeros 4 ++ register-written (length (p .roots)) [] i)))) ++ log-written (length (p .roots)) [] i)

@@ -11,7 +11,7 @@ use Rattle.laws.specs.Tests.{and-l, and-r}
 use Rattle.laws.specs.Folds.{every}
 use Rattle.rules.specs.declared.Rule.{Rule}
 use Rattle.rules.specs.declared.Account.{Account}
-use Rattle.machine.specs.State.{State, rulesIn, rootsIn, ruleOf, Fitting}
+use Rattle.machine.specs.State.{State, rulesIn, rootsIn, accountRule, Fitting}
 use Rattle.machine.specs.Remaining.{noAccount}
 use Rattle.state.specs.State.{stored, decode}
 use Rattle.state.specs.Laid.{Fits, Laid, accountIn, withAccounts, between}
@@ -60,7 +60,7 @@ module _ (f : Account → Account) where
   between-length (suc p) (suc q) (a ∷ l) h = ap suc (between-length p q l (le-of-suc-le-suc h))
 
 module _ {f : Account → Account} (k : Fair f) where
-  between-rules : (p q : ℕ) (l : List Account) → p ≤ q → map ruleOf (between f p q l) ≡ map ruleOf l
+  between-rules : (p q : ℕ) (l : List Account) → p ≤ q → map accountRule (between f p q l) ≡ map accountRule l
   unfolding between
   between-rules zero zero l h = refl
   between-rules zero (suc q) [] h = refl

@@ -12,7 +12,7 @@ use Rattle.laws.specs.Tests.{and-l, and-r}
 use Rattle.laws.specs.Folds.{every}
 use Rattle.rules.specs.Amounts.{isOf}
 use Rattle.rules.specs.declared.Account.{Account}
-use Rattle.machine.specs.State.{State, rulesIn, rootsIn, ruleOf, Fitting}
+use Rattle.machine.specs.State.{State, rulesIn, rootsIn, accountRule, Fitting}
 use Rattle.machine.specs.Remaining.{noAccount}
 use Rattle.state.specs.State.{stored, decode}
 use Rattle.state.specs.Laid.{Fits, Laid, accountIn, withAccounts}
@@ -89,7 +89,7 @@ module _ {f : Account → Account} (k : Fair f) {s : State} (h : Fits s) where
     roots = h .roots;
     rules = h .rules;
     log = h .log;
-    fitting = done-same f ruleOf (k .rule) i (s .part .accounts) ∙ h .fitting;
+    fitting = done-same f accountRule (k .rule) i (s .part .accounts) ∙ h .fitting;
     measured = done-every f isMeasured (k .measured) i (s .part .accounts) (h .measured);
     valid = h .valid;
     entries = h .entries;

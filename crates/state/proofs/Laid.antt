@@ -18,9 +18,9 @@ use Rattle.laws.specs.Every.{every-at}
 use Rattle.tables.proofs.Tables.{read-table}
 use Rattle.packing.proofs.RulePlace.{rule-codec, rule-in-range, rule-wider}
 use Rattle.packing.proofs.EntryPlace.{entry-wider}
-use Rattle.machine.specs.State.{State, cellsOf, rulesIn, rootsIn, ruleOf, Fitting}
+use Rattle.machine.specs.State.{State, cellsOf, rulesIn, rootsIn, accountRule, Fitting}
 use Rattle.machine.specs.Entries.{isEntry}
-use Rattle.machine.specs.Remaining.{noAccount, ruleAt as ruleIn}
+use Rattle.machine.specs.Remaining.{noAccount, ruleNumbered as ruleIn}
 use Rattle.machine.proofs.Lists.{every-imp}
 use Rattle.log.specs.Log.{HeldIn, entriesIn, logNumbers}
 use Rattle.log.proofs.Logs.{numbers-held, numbers-entries}
@@ -29,7 +29,7 @@ use Rattle.state.specs.State.{number, locksNumbers, stored, decode, logA
 use Rattle.state.specs.Laid.{Fits, Laid, accountIn, withClock, withTotal}
 use Rattle.state.specs.Tests.{rulesPart, locksPart, logPart, registerPart}
 use Rattle.state.proofs.Accounts.{map-length}
-use Rattle.shapes.specs.Shape.{one, both, named, rows, table, coded}
+use Rattle.shapes.specs.Shape.{cell, both, named, rows, table, coded}
 use Rattle.tables.specs.Tables.{places}
 use Rattle.state.proofs.Map.{decode-is}
 use Rattle.state.proofs.Lent.{ones-places}
@@ -48,12 +48,12 @@ use Rattle.laws.specs.Folds.{every}
 module _ {s : State} (f : Fits s) where
   pub many-accounts : length (s .part .accounts) ≡ length (cellsOf (rulesIn s))
   unfolding Fitting rulesIn
-  many-accounts = sym (map-length ruleOf (s .part .accounts)) ∙ ap length (f .fitting)
+  many-accounts = sym (map-length accountRule (s .part .accounts)) ∙ ap length (f .fitting)
 
   -- the rule of an account is one that the profile's rules have for some unit
   pub account-rule : (i : ℕ) → getD (cellsOf (rulesIn s)) i (noAccount .rule) ≡ getD (s .part .accounts) i noAccount .rule
   unfolding Fitting rulesIn
-  account-rule i = ap (λ (l : List Rule). getD l i (noAccount .rule)) (sym (f .fitting)) ∙ List·getD-map ruleOf (s .part .accounts) i noAccount
+  account-rule i = ap (λ (l : List Rule). getD l i (noAccount .rule)) (sym (f .fitting)) ∙ List·getD-map accountRule (s .part .accounts) i noAccount
 
   few-accounts : length (s .part .accounts) ≤ totalsSize
   few-accounts = omega (arith, cells-bound (rulesIn s) (f .rules), many-accounts)
@@ -92,7 +92,7 @@ module _ {xs : List ℕ} (h : Laid xs) where
 
   -- the names of the roots
   pub laid-names : take (getD xs 3 0) (drop 4 xs) ≡ decode xs .part .profile .roots
-  unfolding table named both rows one number
+  unfolding table named both rows cell number
   laid-names =
       sym (ap (λ (s : State). s .part .profile .roots) (decode-is xs)
       ∙ ap (λ (k : ℕ). places 1 (λ ys. getD ys 0 0) k (drop 1 (drop 3 xs))) (getD-drop 3 xs 0 0)

@@ -10,7 +10,7 @@ use lib.Seq.{take-all, getD-drop, drop-drop}
 use lib.Dec.{leb, ltb}
 use borrow.Author.Tests.{le-leb, leb-true}
 use Rattle.laws.specs.Folds.{every}
-use Rattle.shapes.specs.Shape.{one, both, named, rows, table, word, flag}
+use Rattle.shapes.specs.Shape.{cell, both, named, rows, table, word, flag}
 use Rattle.rules.specs.Amounts.{amountIn}
 use Rattle.rules.specs.Valid.{isTotal, isTotalNumber}
 use Rattle.rules.specs.declared.Rule.{Rule}
@@ -87,7 +87,7 @@ ones-places (suc k) (x ∷ ws) h = ap (λ (l : List ℕ). x ∷ l) (ones-places 
 
 -- the roots' table, lent alone
 pub roots-lent : (zs : List ℕ) → length zs ≡ 65 → rootsHold zs ≡ (table 64 number .test zs && areRoots (table 64 number .read zs))
-unfolding rootsHold namesHold table named both rows number one
+unfolding rootsHold namesHold table named both rows number cell
 roots-lent zs l = go (leb k 64) refl
   where
     k : ℕ
@@ -138,7 +138,7 @@ totals-split (rule ∷ rules) (x ∷ zs) h =
 
 pub totals-lent : (rules : List Rule) (zs : List ℕ) → length rules ≤ 256 → length zs ≡ totalsSize
     → totalsHold (cellsOf rules) zs ≡ (totalsShape rules .test zs && every isPaid (accountsOf (cellsOf rules) (totalsShape rules .read zs)))
-unfolding totalsShape rows number one
+unfolding totalsShape rows number cell
 totals-lent rules zs few l =
     let cells = cellsOf rules in
     let k = length cells in
@@ -150,7 +150,7 @@ totals-lent rules zs few l =
 -- the locks, lent alone
 pub locks-lent : (n : ℕ) (zs : List ℕ)
     → locksHold n zs ≡ (locksShape .test zs && (ltb (locksShape .read zs .tripped) (2 ^ n) && ltb (locksShape .read zs .byUser) (2 ^ n)))
-unfolding locksHold locksShape locksOf named both word flag number one
+unfolding locksHold locksShape locksOf named both word flag number cell
 locks-lent n zs =
     rw (le-leb 0 (getD zs 0 0) (zero-le), le-leb 0 (getD zs 1 0) (zero-le))
     (regroup (leb (getD zs 0 0) 1) (leb (getD zs 1 0) 1) (ltb (getD zs 2 0) (2 ^ n)) (ltb (getD zs 3 0) (2 ^ n))

@@ -5,7 +5,7 @@ use mathlib.Core.Bool.{true}
 use mathlib.Core.List.{List, _++_}
 use lib.ListN.{length, getD, set}
 use lib.Dec.{eqb}
-use Rattle.shapes.specs.Shape.{Shape, one, both, named, rows, table}
+use Rattle.shapes.specs.Shape.{Shape, cell, both, named, rows, table}
 use Rattle.shapes.proofs.Exact.{one-exact, table-exact}
 use Rattle.shapes.proofs.Parts.{Part, PartOf, first-part, second-part, part-part, narrow, renamed, row-part}
 use Rattle.rules.specs.declared.Rule.{Rule}
@@ -15,7 +15,7 @@ use Rattle.packing.proofs.Shapes.{rules-written, log-written}
 use Rattle.machine.specs.declared.Entry.{Entry}
 use Rattle.machine.specs.State.{Profile, Locks, cellsOf}
 use Rattle.given.specs.Parts.{totalsSize}
-use Rattle.state.specs.State.{number, locksShape, profileOf, linesOf, profileShape, totalsShape, PartNumbers, partShape, Numbers, numbersShape, locksAt, logAt, totalsAt, registerAt}
+use Rattle.state.specs.State.{number, locksShape, fromTuple, asTuple, profileShape, totalsShape, PartNumbers, partShape, Numbers, numbersShape, locksAt, logAt, totalsAt, registerAt}
 use Rattle.state.proofs.Exact.{number-exact, profile-exact, totals-exact, part-exact, locks-exact}
 use Rattle.register.specs.Register.{registerShape}
 use Rattle.register.proofs.Shapes.{register-written}
@@ -30,7 +30,7 @@ log-same p q x = log-written _ x ∙ sym (log-written _ x)
 
 whole : PartOf numbersShape (λ n. both partShape logOf) 1 (λ n. n .1) (λ n q. (n .0, q))
 unfolding numbersShape
-whole = second-part (one (λ x. eqb x 1)) (λ _. both partShape logOf) (one-exact _ .long)
+whole = second-part (cell (λ x. eqb x 1)) (λ _. both partShape logOf) (one-exact _ .long)
 
 pub firm-in : PartOf numbersShape (λ n. partShape) 1 (λ n. n .1 .0) (λ n p. (n .0, (p, n .1 .1)))
 firm-in = part-part whole (λ n. first-part partShape logOf log-same) (λ n o. whole .ok n o)
@@ -106,16 +106,16 @@ abbrev tablesAfter : ℕ → Shape 578 (List ℕ × List Rule)
 tablesAfter firm = both (table 64 number) (λ roots. rulesShape (length roots))
 
 roots-there : PartOf profileShape (λ p. table 64 number) 1 (λ p. p .roots) (λ p r. record { firm = p .firm; roots = r; rules = p .rules })
-unfolding profileShape named profileOf linesOf
+unfolding profileShape named fromTuple asTuple
 roots-there =
     let a = second-part number tablesAfter (number-exact .long) in
-    renamed (part-part a (λ p. first-part (table 64 number) (λ roots. rulesShape (length roots)) rules-same) (λ p o. a .ok p o)) profileOf linesOf (λ a. refl)
+    renamed (part-part a (λ p. first-part (table 64 number) (λ roots. rulesShape (length roots)) rules-same) (λ p o. a .ok p o)) fromTuple asTuple (λ a. refl)
 
 rules-there : PartOf profileShape (λ p. rulesShape (length (p .roots))) 66 (λ p. p .rules) (λ p r. record { firm = p .firm; roots = p .roots; rules = r })
-unfolding profileShape named profileOf linesOf
+unfolding profileShape named fromTuple asTuple
 rules-there =
     let a = second-part number tablesAfter (number-exact .long) in
-    renamed (part-part a (λ p. second-part (table 64 number) (λ roots. rulesShape (length roots)) (table-exact 64 number number-exact .long)) (λ p o. a .ok p o)) profileOf linesOf
+    renamed (part-part a (λ p. second-part (table 64 number) (λ roots. rulesShape (length roots)) (table-exact 64 number number-exact .long)) (λ p o. a .ok p o)) fromTuple asTuple
     (λ a. refl)
 
 rest-same : (a b : Profile) (x : List ℕ × (Locks × List Sent)) → restOf a .write x ≡ restOf b .write x

@@ -9,14 +9,14 @@ use lib.Seq.{drop-at, take-all}
 use lib.Dec.{eqb}
 use borrow.Author.Tests.{eqb-true}
 use Rattle.laws.specs.Tests.{and-l, and-r, and-i}
-use Rattle.shapes.specs.Shape.{one, both, named, coded, word, flag, table}
+use Rattle.shapes.specs.Shape.{cell, both, named, coded, word, flag, table}
 use Rattle.shapes.proofs.Exact.{rows-many}
 use Rattle.shapes.proofs.Valid.{every-any, rows-ok, table-ok, table-few, table-all}
-use Rattle.machine.specs.State.{Profile, Locks, State, cellsOf, rootsIn, rulesIn, ruleOf, Fitting}
+use Rattle.machine.specs.State.{Profile, Locks, State, cellsOf, rootsIn, rulesIn, accountRule, Fitting}
 use Rattle.packing.specs.RulePlace.{ruleShape, rulesShape}
 use Rattle.packing.specs.EntryPlace.{entryShape, logShape}
 use Rattle.given.specs.Parts.{totalsSize}
-use Rattle.state.specs.State.{size, number, marksOf, locksShape, linesOf, profileShape, totalsShape, partShape, Numbers, numbersShape, totalsIn, accountsOf, numbersOf, stateOf, encode, stored, decode}
+use Rattle.state.specs.State.{size, number, marksOf, locksShape, asTuple, profileShape, totalsShape, partShape, Numbers, numbersShape, totalsIn, accountsOf, numbersOf, stateOf, encode, stored, decode}
 use Rattle.state.specs.Laid.{Fits, Laid}
 use Rattle.state.proofs.Accounts.{accounts-rules, accounts-totals, accounts-measured, accounts-again, map-length}
 use Rattle.state.proofs.Exact.{numbers-exact}
@@ -34,28 +34,28 @@ pub record Valid (n : Numbers) : Type 0 where
   pub log : logShape (length (n .1 .0 .1 .0 .roots)) .ok (n .1 .1) ≡ true
 
 locks-ok : (l : Locks) → locksShape .ok l ≡ true
-unfolding locksShape marksOf named both word flag number one
+unfolding locksShape marksOf named both word flag number cell
 locks-ok l = refl
 
 profile-ok : (p : Profile) → table 64 number .ok (p .roots) ≡ true → rulesShape (length (p .roots)) .ok (p .rules) ≡ true → profileShape .ok p ≡ true
-unfolding profileShape named both linesOf number one
+unfolding profileShape named both asTuple number cell
 profile-ok p a b = and-i a b
 
 pub valid-ok : (n : Numbers) → Valid n → numbersShape .ok n ≡ true
-unfolding numbersShape partShape both number one
+unfolding numbersShape partShape both number cell
 valid-ok n v =
     let p = n .1 .0 in
-    and-i (ap (λ (x : ℕ). one (λ y. eqb y 1) .ok x) (v .mark)) (and-i (and-i (profile-ok (p .1 .0) (v .roots) (v .rules)) (and-i (v .totals) (and-i (locks-ok (p .1 .1 .1 .0)) (v .register)))) (v .log))
+    and-i (ap (λ (x : ℕ). cell (λ y. eqb y 1) .ok x) (v .mark)) (and-i (and-i (profile-ok (p .1 .0) (v .roots) (v .rules)) (and-i (v .totals) (and-i (locks-ok (p .1 .1 .1 .0)) (v .register)))) (v .log))
 
 pub ok-valid : (n : Numbers) → numbersShape .ok n ≡ true → Valid n
-unfolding numbersShape partShape profileShape named both linesOf number one
+unfolding numbersShape partShape profileShape named both asTuple number cell
 ok-valid n h =
     let p = n .1 .0 in
-    let here = and-r (one (λ y. eqb y 1) .ok (n .0)) _ h in
+    let here = and-r (cell (λ y. eqb y 1) .ok (n .0)) _ h in
     let part = and-l (profileShape .ok (p .1 .0) && (totalsShape (p .1 .0 .rules) .ok (p .1 .1 .0) && (locksShape .ok (p .1 .1 .1 .0) && registerShape (length (p .1 .0 .roots)) .ok (p .1 .1 .1 .1)))) _ here in
     let profile = and-l (profileShape .ok (p .1 .0)) _ part in
     record {
-      mark = eqb-true _ _ (and-l (one (λ y. eqb y 1) .ok (n .0)) _ h);
+      mark = eqb-true _ _ (and-l (cell (λ y. eqb y 1) .ok (n .0)) _ h);
       roots = and-l (table 64 number .ok (p .1 .0 .roots)) _ profile;
       rules = and-r (table 64 number .ok (p .1 .0 .roots)) _ profile;
       totals = and-l (totalsShape (p .1 .0 .rules) .ok (p .1 .1 .0)) _ (and-r (profileShape .ok (p .1 .0)) _ part);
@@ -69,14 +69,14 @@ ok-valid n h =
 module _ (s : State) (f : Fits s) where
   many-accounts : length (totalsIn (s .part .accounts)) ≡ length (cellsOf (s .part .profile .rules))
   unfolding Fitting
-  many-accounts = map-length _ (s .part .accounts) ∙ sym (map-length ruleOf (s .part .accounts)) ∙ ap length (f .fitting)
+  many-accounts = map-length _ (s .part .accounts) ∙ sym (map-length accountRule (s .part .accounts)) ∙ ap length (f .fitting)
 
   few-accounts : length (cellsOf (s .part .profile .rules)) ≤ totalsSize
   unfolding rulesIn
   few-accounts = cells-bound (s .part .profile .rules) (f .rules)
 
   pub fits-ok : numbersShape .ok (numbersOf s) ≡ true
-  unfolding numbersOf totalsShape rulesShape ruleShape registerShape sentShape logShape entryShape coded number one rootsIn rulesIn
+  unfolding numbersOf totalsShape rulesShape ruleShape registerShape sentShape logShape entryShape coded number cell rootsIn rulesIn
   fits-ok = valid-ok (numbersOf s) (record {
     mark = refl;
     roots = table-ok 64 _ _ (f .roots) (every-any _);

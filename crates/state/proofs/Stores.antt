@@ -7,7 +7,7 @@ use mathlib.Core.Bool.{true}
 use mathlib.Core.List.{List, [], _∷_, _++_}
 use lib.ListN.{length, getD, take, drop, set, List·getD-map}
 use lib.Seq.{getD-take, getD-drop}
-use Rattle.shapes.specs.Shape.{Exact, one, both, named, word, flag, rows, table}
+use Rattle.shapes.specs.Shape.{Exact, cell, both, named, word, flag, rows, table}
 use Rattle.shapes.proofs.Exact.{table-exact}
 use Rattle.shapes.proofs.Parts.{Part, part-of, put-part, put-one, seen, narrow}
 use Rattle.rules.specs.Amounts.{numberOf}
@@ -17,7 +17,7 @@ use Rattle.packing.specs.RulePlace.{rulesTable}
 use Rattle.packing.specs.EntryPlace.{logShape}
 use Rattle.packing.proofs.Shapes.{rules-exact, log-exact, rules-written, log-written}
 use Rattle.machine.specs.declared.Entry.{Entry}
-use Rattle.machine.specs.State.{State, Locks, rootsIn, ruleOf, Fitting}
+use Rattle.machine.specs.State.{State, Locks, rootsIn, accountRule, Fitting}
 use Rattle.machine.specs.Remaining.{noAccount}
 use Rattle.log.specs.Log.{logNumbers}
 use Rattle.state.specs.State.{size, number, marksOf, locksShape, locksNumbers, numbersShape, numbersOf, encode, stored, locksAt, logAt, totalsAt, registerAt}
@@ -49,11 +49,11 @@ unfolding encode numbersOf
 log-of = narrow (seen log-in numbersOf withLog (λ s l. refl)) Fits (λ s f. fits-ok s f)
 
 locks-written : (l : Locks) → locksShape .write l ≡ locksNumbers l
-unfolding locksShape named both word flag number one marksOf
+unfolding locksShape named both word flag number cell marksOf
 locks-written l = refl
 
 roots-written : (roots : List ℕ) → table 64 number .write roots ≡ length roots ∷ (flat (number .write) roots ++ zeros (64 * 1 - length roots * 1))
-unfolding table named both one rows
+unfolding table named both cell rows
 roots-written roots = refl
 
 module _ (s : State) (f : Fits s) (xs : List ℕ) where
@@ -63,7 +63,7 @@ module _ (s : State) (f : Fits s) (xs : List ℕ) where
 
   -- what stands in the parts
   pub stored-clock : take 1 (drop 1 (stored s xs)) ≡ s .part .clock ∷ []
-  unfolding stored number one
+  unfolding stored number cell
   stored-clock = part-of clock-of s f number-exact (drop size xs)
 
   pub stored-locks : take 4 (drop locksAt (stored s xs)) ≡ locksNumbers (s .part .locks)
@@ -97,10 +97,10 @@ module _ (s : State) (f : Fits s) (xs : List ℕ) where
   has-total : (i : ℕ) → i < length (s .part .accounts) → HasTotal i (numbersOf s)
   unfolding numbersOf Fitting
   has-total i h =
-      (fits-ok s f, omega (arith, map-length ruleOf (s .part .accounts), ap length (f .fitting)))
+      (fits-ok s f, omega (arith, map-length accountRule (s .part .accounts), ap length (f .fitting)))
 
   pub stored-total : (i : ℕ) → i < length (s .part .accounts) → getD (stored s xs) (totalsAt + i) 0 ≡ numberOf (getD (s .part .accounts) i noAccount .total)
-  unfolding stored encode numbersOf number one noAccount numberOf
+  unfolding stored encode numbersOf number cell noAccount numberOf
   stored-total i h =
       let at : totalsAt + i * 1 ≡ totalsAt + i = ap (λ (j : ℕ). totalsAt + j) (mul-one i) in
       let here : totalsAt + i ≡ totalsAt + i + 0 = omega arith in

@@ -7,7 +7,7 @@ use lib.ListN.{length}
 use Rattle.rules.specs.Units.{unitsOf}
 use Rattle.rules.specs.declared.Rule.{Rule}
 use Rattle.machine.specs.State.{rulesIn}
-use Rattle.machine.specs.Remaining.{ruleAt, firstCell}
+use Rattle.machine.specs.Remaining.{ruleNumbered, firstCell}
 use Rattle.machine.proofs.Walk.{cells-next, cells-within, cells-end}
 use Rattle.state.specs.State.{decode}
 use Rattle.state.specs.Laid.{Laid}
@@ -26,7 +26,7 @@ module _ {xs : List ℕ} (h : Laid xs) where
   walked {r} at all = omega (arith, at, cells-end rules r all, many-accounts (h .fits))
 
   -- the next rule's accounts begin past those of this one
-  pub next-place : {r : ℕ} → r < length rules → {place : ℕ} → place ≡ firstCell rules r → {rule : Rule} → rule ≡ ruleAt rules r
+  pub next-place : {r : ℕ} → r < length rules → {place : ℕ} → place ≡ firstCell rules r → {rule : Rule} → rule ≡ ruleNumbered rules r
       → {n : ℕ} → n ≡ length (unitsOf (rule .scope)) → place + n ≡ firstCell rules (r + 1)
   next-place {r} low at is many =
       ap₂ (λ (a b : ℕ). a + b) at (many ∙ ap (λ (q : Rule). length (unitsOf (q .scope))) is) ∙ sym (cells-next rules r low)

@@ -4,7 +4,7 @@ use mathlib.Core.Bool.{Bool, true}
 use mathlib.Core.List.{List, [], _∷_, _++_, map}
 use lib.ListN.{length, drop}
 use lib.Dec.{eqb}
-use Rattle.shapes.specs.Shape.{Shape, one, both, named, rows, table, flag, word}
+use Rattle.shapes.specs.Shape.{Shape, cell, both, named, rows, table, flag, word}
 use Rattle.rules.specs.Amounts.{numberOf, amountIn}
 use Rattle.rules.specs.declared.Rule.{Rule}
 use Rattle.rules.specs.declared.Account.{Account}
@@ -44,7 +44,7 @@ restSize = 2182
 
 -- a number that may be any
 unfoldable pub number : Shape 1 ℕ
-number = one (λ x. true)
+number = cell (λ x. true)
 
 -- the marks: the firm's trip and lockout, the word of tripped roots, and that of roots which the user locked out
 abbrev pub Marks : Type 0
@@ -67,14 +67,14 @@ locksNumbers l = flagNumber (l .firmTripped) ∷ flagNumber (l .firmByUser) ∷ 
 abbrev pub Lines : Type 0
 Lines = ℕ × (List ℕ × List Rule)
 
-unfoldable pub profileOf : Lines → Profile
-profileOf p = record { firm = p .0; roots = p .1 .0; rules = p .1 .1 }
+unfoldable pub fromTuple : Lines → Profile
+fromTuple p = record { firm = p .0; roots = p .1 .0; rules = p .1 .1 }
 
-unfoldable pub linesOf : Profile → Lines
-linesOf p = (p .firm, (p .roots, p .rules))
+unfoldable pub asTuple : Profile → Lines
+asTuple p = (p .firm, (p .roots, p .rules))
 
 unfoldable pub profileShape : Shape profileSize Profile
-profileShape = named profileOf linesOf (both number (λ _. both (table 64 number) (λ roots. rulesShape (length roots))))
+profileShape = named fromTuple asTuple (both number (λ _. both (table 64 number) (λ roots. rulesShape (length roots))))
 
 -- a firm's part: clock, profile, the totals of the accounts that its rules have, locks, and the register of orders sent away
 abbrev pub PartNumbers : Type 0
@@ -94,7 +94,7 @@ abbrev pub Numbers : Type 0
 Numbers = ℕ × (PartNumbers × List Entry)
 
 unfoldable pub numbersShape : Shape size Numbers
-numbersShape = both (one (λ x. eqb x 1)) (λ _. both partShape (λ p. logShape (length (p .1 .0 .roots))))
+numbersShape = both (cell (λ x. eqb x 1)) (λ _. both partShape (λ p. logShape (length (p .1 .0 .roots))))
 
 -- the numbers of the totals
 abbrev pub totalsIn : List Account → List ℕ

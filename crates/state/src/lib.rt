@@ -7,7 +7,7 @@ ghost use Rattle.tables.specs.Tables.{zeros};
 ghost use mathlib.Core.Bool.{true};
 ghost use Rattle.rules.specs.Units.{isUnitOf};
 ghost use Rattle.machine.specs.State.{rootsIn, rulesIn};
-ghost use Rattle.machine.specs.Remaining.{ruleAt, cellAt};
+ghost use Rattle.machine.specs.Remaining.{ruleNumbered, cellAt};
 ghost use Rattle.state.specs.State.{size, restSize, stored, decode};
 ghost use Rattle.state.specs.Sound.{isSound};
 ghost use Rattle.state.specs.Laid.{Laid, accountIn, withClock, withTotal};
@@ -210,7 +210,7 @@ pub fn rules_in(m: &[u64]) -> usize
 // Rule i.
 pub fn rule_in(m: &[u64], i: usize) -> Rule
     requires { ⌜ Laid (now m) × (i < length (rulesIn (decode (now m)))) ⌝ }
-    ensures { λ r. ⌜ r ≡ ruleAt (rulesIn (decode (now (m .entry)))) i ⌝ }
+    ensures { λ r. ⌜ r ≡ ruleNumbered (rulesIn (decode (now (m .entry)))) i ⌝ }
 {
     let table = &m[RULES..TOTALS];
     let at = i * 2 + 1;
@@ -221,7 +221,7 @@ pub fn rule_in(m: &[u64], i: usize) -> Rule
 
 // Where the account of a rule for a unit stands: past those of the rules before it.
 pub fn account_at(m: &[u64], rule: usize, unit: u64) -> usize
-    requires { ⌜ Laid (now m) × (rule < length (rulesIn (decode (now m)))) × (isUnitOf (ruleAt (rulesIn (decode (now m))) rule .scope) unit ≡ true) ⌝ }
+    requires { ⌜ Laid (now m) × (rule < length (rulesIn (decode (now m)))) × (isUnitOf (ruleNumbered (rulesIn (decode (now m))) rule .scope) unit ≡ true) ⌝ }
     ensures { λ r. ⌜ r ≡ cellAt (rulesIn (decode (now (m .entry)))) rule unit ⌝ }
 {
     let mut place: usize = 0;

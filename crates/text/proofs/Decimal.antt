@@ -9,7 +9,7 @@ use borrow.Author.Tests.{le-leb}
 use native.Mathlib.Nat.{pow-zero, pow-suc, div-lt-iff-lt-mul, mod-lt}
 use native.Mathlib.Omega.{arith}
 use Rattle.laws.specs.Tests.{and-i}
-use Rattle.text.specs.Text.{all, isDigit, value, numberOf}
+use Rattle.text.specs.Text.{all, isDigit, value, fieldNumber}
 use Rattle.text.specs.declared.Number.the-variants.{Is}
 use Rattle.text.specs.Digits.{digitsUpTo, decimal}
 use Rattle.text.proofs.Bytes.{all-append, all-map, made-of}
@@ -64,6 +64,6 @@ decimal-value n h =
     let tenth = digits-number 10 (lit< tt) 19 (n / 10) (div-lt-iff-lt-mul (lit< tt) .1 (omega arith)) in
     numeral-from 10 48 (above ++ ((n % 10) ∷ [])) ∙ numeral-more 10 0 above (n % 10) ∙ omega arith
 
-pub decimal-read : (n : ℕ) → n < 10 ^ 12 → numberOf (decimal n) ≡ Is n
-unfolding numberOf
+pub decimal-read : (n : ℕ) → n < 10 ^ 12 → fieldNumber (decimal n) ≡ Is n
+unfolding fieldNumber
 decimal-read n h = rw (made-of isDigit 1 12 (decimal n) (decimal-some n) (decimal-upto 11 n h) (decimal-digits n), decimal-value n (omega arith))

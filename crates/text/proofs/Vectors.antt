@@ -4,7 +4,7 @@ use Prim.Native.Nat.{ℕ}
 use Prim.Native.String.{String}
 use mathlib.Core.Path.{_≡_, refl}
 use mathlib.Core.List.{List, [], _∷_, map}
-use Rattle.text.specs.Text.{bytes, all, onto, pieces, lines, fields, made, numeral, numberOf, nameOf}
+use Rattle.text.specs.Text.{bytes, all, onto, pieces, lines, fields, made, numeral, fieldNumber, nameOf}
 use Rattle.text.specs.Digits.{digitsUpTo, nameBytes, decimal}
 use Rattle.text.specs.declared.Number.{Number}
 use Rattle.text.specs.declared.Number.the-variants.{Is, Bad}
@@ -18,7 +18,7 @@ record Row : Type 0 where
 
 -- what the definitions say of a text, with names of up to 8 bytes
 abbrev read : String → Row
-read t = record { text = t; lines = lines (bytes t); fields = fields (bytes t); number = numberOf (bytes t); name = nameOf 0 8 (bytes t) }
+read t = record { text = t; lines = lines (bytes t); fields = fields (bytes t); number = fieldNumber (bytes t); name = nameOf 0 8 (bytes t) }
 
 abbrev row : String → List String → List String → Number → Number → Row
 row t ls fs n m = record { text = t; lines = map bytes ls; fields = map bytes fs; number = n; name = m }
@@ -58,7 +58,7 @@ rows =
     ∷ []
 
 right : map (λ r. read (r .text)) rows ≡ rows
-unfolding all onto pieces made numeral numberOf nameOf
+unfolding all onto pieces made numeral fieldNumber nameOf
 right = refl
 
 -- numbers as they are written

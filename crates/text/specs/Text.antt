@@ -84,8 +84,8 @@ abbrev pub nameNumber : List ℕ → ℕ
 nameNumber s = numeral 256 0 s
 
 -- a field of digits as its number
-unfoldable pub numberOf : List ℕ → Number
-numberOf f = cond (isNumber f) (Is (value f)) Bad
+unfoldable pub fieldNumber : List ℕ → Number
+fieldNumber f = cond (isNumber f) (Is (value f)) Bad
 
 -- a field that holds a name as that name's number
 unfoldable pub nameOf : ℕ → ℕ → List ℕ → Number

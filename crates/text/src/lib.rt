@@ -6,7 +6,7 @@ ghost use lib.ListN.{length, getD, drop};
 ghost use lib.Seq.{sets};
 ghost use Rattle.laws.specs.Lists.{same};
 ghost use Rattle.text.specs.Digits.{nameBytes, decimal};
-ghost use Rattle.text.specs.Text.{fieldsFrom, indexOf, isNameByte, numberOf, nameOf};
+ghost use Rattle.text.specs.Text.{fieldsFrom, indexOf, isNameByte, fieldNumber, nameOf};
 
 // What a field is read as: a number, or nothing that may stand there.
 pub enum Number {
@@ -104,7 +104,7 @@ pub fn root_name(f: &[u8]) -> Number
 
 // The number of a field of 1 to 12 digits.
 pub fn digits(f: &[u8]) -> Number
-    ensures { λ r. ⌜ r ≡ numberOf (now (f .entry)) ⌝ }
+    ensures { λ r. ⌜ r ≡ fieldNumber (now (f .entry)) ⌝ }
 {
     if f.len() < 1 {
         return Number::Bad;

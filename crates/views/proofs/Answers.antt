@@ -13,7 +13,7 @@ use Rattle.text.specs.declared.Number.the-variants.{Is}
 use Rattle.text.proofs.Written.{sets-front}
 use Rattle.rules.specs.declared.Rule.{Rule}
 use Rattle.machine.specs.State.{rootsIn, rulesIn}
-use Rattle.machine.specs.Remaining.{ruleAt}
+use Rattle.machine.specs.Remaining.{ruleNumbered}
 use Rattle.given.specs.Names.{nameBytes}
 use Rattle.given.proofs.Names.{name-read}
 use Rattle.writing.proofs.Roots.{root-name, root-index}
@@ -23,7 +23,7 @@ use Rattle.calls.specs.Calls.{memoryRefusal}
 use Rattle.calls.specs.declared.Wording.the-variants.{Written, Refused as NotSaid}
 use Rattle.views.specs.declared.Found.the-variants.{Root, Refused as NotFound}
 use Rattle.views.specs.declared.Told.the-variants.{Refused as NotTold}
-use Rattle.views.specs.Views.{asked, placeOf, rootNamed, nameAnswer, nameRoom, rootName, rootNameRoom, termsOf, ruleTold}
+use Rattle.views.specs.Views.{asked, foundRoot, rootNamed, nameAnswer, nameRoom, rootName, rootNameRoom, termsOf, ruleTold}
 use Rattle.views.proofs.Held.{laid, name-short, roots-named}
 
 -- the memory meets a refusal
@@ -44,10 +44,10 @@ module _ (xs : List ℕ) (ready : memoryRefusal xs ≡ 0) where
   -- a root by its name
   module _ (name : List ℕ) where
     pub named-empty : length name < 1 → NotFound 13 ≡ rootNamed xs name
-    unfolding rootNamed asked placeOf nameOf made
+    unfolding rootNamed asked foundRoot nameOf made
     named-empty h = rw (ready, lt-leb 1 (length name) h)
 
-    pub named-is : 1 ≤ length name → placeOf (decode xs .part .profile .roots) (nameOf 0 6 name) ≡ rootNamed xs name
+    pub named-is : 1 ≤ length name → foundRoot (decode xs .part .profile .roots) (nameOf 0 6 name) ≡ rootNamed xs name
     unfolding rootNamed asked nameOf made
     named-is h = rw (ready, le-leb 1 (length name) h, le-leb 0 (length name) (omega arith))
 
@@ -58,12 +58,12 @@ module _ (xs : List ℕ) (ready : memoryRefusal xs ≡ 0) where
           let all : 4 + roots - 4 ≡ getD xs 3 0 = omega (arith, roots-are, laid-roots (laid xs ready)) in
           rw (is, all, laid-names (laid xs ready))
 
-      pub place-known : root < roots → Root root ≡ placeOf (decode xs .part .profile .roots) (Is name)
-      unfolding placeOf rootsIn
+      pub place-known : root < roots → Root root ≡ foundRoot (decode xs .part .profile .roots) (Is name)
+      unfolding foundRoot rootsIn
       place-known h = rw (place-is, ← roots-are, lt-ltb _ _ h)
 
-      pub place-unknown : roots ≤ root → NotFound 13 ≡ placeOf (decode xs .part .profile .roots) (Is name)
-      unfolding placeOf rootsIn
+      pub place-unknown : roots ≤ root → NotFound 13 ≡ foundRoot (decode xs .part .profile .roots) (Is name)
+      unfolding foundRoot rootsIn
       place-unknown h = rw (place-is, ← roots-are, le-ltb _ _ h)
 
     -- a root's name
@@ -94,14 +94,14 @@ module _ (xs : List ℕ) (ready : memoryRefusal xs ≡ 0) where
     unfolding ruleTold asked rulesIn
     rule-unknown h = rw (ready, ← are, le-ltb _ _ h)
 
-    pub rule-told : rule < rules → (r : Rule) → r ≡ ruleAt (rulesIn (decode xs)) rule → termsOf r ≡ ruleTold xs rule
-    unfolding ruleTold asked rulesIn ruleAt
+    pub rule-told : rule < rules → (r : Rule) → r ≡ ruleNumbered (rulesIn (decode xs)) rule → termsOf r ≡ ruleTold xs rule
+    unfolding ruleTold asked rulesIn ruleNumbered
     rule-told h r is = rw (ready, ← are, lt-ltb _ _ h, is)
 
   -- the name that a root has is that of this root alone
   pub named-back : (root : ℕ) → root < length (decode xs .part .profile .roots)
       → rootNamed xs (nameBytes (getD (decode xs .part .profile .roots) root 0)) ≡ Root root
-  unfolding rootNamed asked placeOf
+  unfolding rootNamed asked foundRoot
   named-back root known =
       let roots = decode xs .part .profile .roots in
       let place : indexOf (getD roots root 0) roots ≡ root =

@@ -8,7 +8,7 @@ use lib.ListN.{length, getD, take, drop, length-drop}
 use lib.Seq.{getD-take, getD-drop, length-take-le}
 use borrow.Author.Tests.{ne-eqb, le-ltb, lt-ltb}
 use Rattle.laws.specs.Tests.{tests}
-use Rattle.shapes.specs.Shape.{one, table}
+use Rattle.shapes.specs.Shape.{cell, table}
 use Rattle.shapes.proofs.Exact.{table-exact, read-part}
 use Rattle.packing.specs.RulePlace.{rulesShape}
 use Rattle.machine.specs.State.{Profile, State, rootsIn}

@@ -33,12 +33,12 @@ unfoldable pub asked : {A : Type 0} → List ℕ → (ℕ → A) → (Profile �
 asked xs refused answer = cond (eqb (memoryRefusal xs) 0) (answer (decode xs .part .profile)) (refused (memoryRefusal xs))
 
 -- the place of a name among the roots, 13 where it does not stand there; bytes that are no name of 1 to 6 capitals or digits stand nowhere
-unfoldable pub placeOf : List ℕ → Number → Found
-placeOf roots (Is name) = cond (ltb (indexOf name roots) (length roots)) (Root (indexOf name roots)) (NotFound 13)
-placeOf roots Bad = NotFound 13
+unfoldable pub foundRoot : List ℕ → Number → Found
+foundRoot roots (Is name) = cond (ltb (indexOf name roots) (length roots)) (Root (indexOf name roots)) (NotFound 13)
+foundRoot roots Bad = NotFound 13
 
 unfoldable pub rootNamed : List ℕ → List ℕ → Found
-rootNamed xs name = asked xs NotFound (λ p. placeOf (p .roots) (nameOf 1 6 name))
+rootNamed xs name = asked xs NotFound (λ p. foundRoot (p .roots) (nameOf 1 6 name))
 
 -- a root's name: 13 for a root that is not known, then 1 for room below 6 bytes, else how many bytes the name has
 unfoldable pub nameAnswer : List ℕ → ℕ → List ℕ → Wording

@@ -6,7 +6,7 @@ ghost use Rattle.packing.specs.RulePlace.{limitNumber, measureNumber, windowNum
 ghost use Rattle.state.specs.State.{decode};
 ghost use Rattle.calls.specs.Calls.{memoryRefusal};
 ghost use Rattle.views.specs.declared.Told.the-variants.{Rule as Terms};
-ghost use Rattle.views.specs.Views.{placeOf, rootNamed, rootName, rootNameRoom, typeNumber, termsOf, ruleTold, profileAnswer, profileRoom};
+ghost use Rattle.views.specs.Views.{foundRoot, rootNamed, rootName, rootNameRoom, typeNumber, termsOf, ruleTold, profileAnswer, profileRoom};
 use calls::Wording;
 use rules::Kind;
 use rules::Limit;
@@ -42,7 +42,7 @@ pub enum Listing {
 // The root of a name that came as one number.
 fn root_of(m: &[u64], name: u64) -> Found
     requires { ⌜ memoryRefusal (now m) ≡ 0 ⌝ }
-    ensures { λ r. ⌜ r ≡ placeOf (decode (now (m .entry)) .part .profile .roots) (Is name) ⌝ }
+    ensures { λ r. ⌜ r ≡ foundRoot (decode (now (m .entry)) .part .profile .roots) (Is name) ⌝ }
 {
     let roots = state::roots_in(m);
     let end = state::NAMES + roots as usize;

@@ -19,7 +19,7 @@ use Rattle.text.specs.Text.{bytes}
 use Rattle.text.specs.Digits.{nameBytes, decimal}
 use Rattle.text.proofs.Decimal.{decimal-some, decimal-few}
 use Rattle.packing.specs.RulePlace.{limitNumber}
-use Rattle.writing.specs.Writing.{typeName, limitText, windowText, rootText, levelText, callPutText, monthText, fieldTexts, inFront, trimmed, withCommas, lineText}
+use Rattle.writing.specs.Writing.{typeName, limitText, windowText, rootText, levelText, callPutText, monthText, fieldTexts, beforeFields, trimmed, withCommas, lineText}
 use Rattle.writing.specs.Parts.{afterComma, lettersText, endText}
 
 -- bytes that were written are a text if they are that text's
@@ -45,13 +45,13 @@ type-few Absolute (Volume l) = omega arith
 type-few Absolute (Count l) = omega arith
 
 -- fields that are kept: one that is not empty, and each before one that is kept
-front-full : (f : List ℕ) (fs : List (List ℕ)) → 0 < length f → inFront f fs ≡ f ∷ fs
-unfolding inFront
+front-full : (f : List ℕ) (fs : List (List ℕ)) → 0 < length f → beforeFields f fs ≡ f ∷ fs
+unfolding beforeFields
 front-full [] fs h = absurd (omega arith)
 front-full (x ∷ f) fs h = refl
 
-front-some : (f g : List ℕ) (fs : List (List ℕ)) → inFront f (g ∷ fs) ≡ f ∷ g ∷ fs
-unfolding inFront
+front-some : (f g : List ℕ) (fs : List (List ℕ)) → beforeFields f (g ∷ fs) ≡ f ∷ g ∷ fs
+unfolding beforeFields
 front-some [] g fs = refl
 front-some (x ∷ f) g fs = refl
 
@@ -61,27 +61,27 @@ commas-first f [] = sym (append-nil f)
 commas-first f (g ∷ fs) = refl
 
 -- an empty field in front of others leaves nothing where they leave nothing, else its comma
-empty-none : (fs : List (List ℕ)) → length (afterComma fs) ≡ 0 → afterComma (inFront [] fs) ≡ []
-unfolding afterComma inFront
+empty-none : (fs : List (List ℕ)) → length (afterComma fs) ≡ 0 → afterComma (beforeFields [] fs) ≡ []
+unfolding afterComma beforeFields
 empty-none [] h = refl
 empty-none (g ∷ fs) h = absurd (omega arith)
 
-empty-some : (fs : List (List ℕ)) → 0 < length (afterComma fs) → afterComma (inFront [] fs) ≡ 44 ∷ afterComma fs
-unfolding afterComma inFront withCommas
+empty-some : (fs : List (List ℕ)) → 0 < length (afterComma fs) → afterComma (beforeFields [] fs) ≡ 44 ∷ afterComma fs
+unfolding afterComma beforeFields withCommas
 empty-some [] h = absurd (omega arith)
 empty-some (g ∷ fs) h = refl
 
 -- what stands after the time limit
 pub letters-every : lettersText EveryFill ≡ 44 ∷ 84 ∷ []
-unfolding lettersText levelText callPutText monthText afterComma trimmed inFront withCommas
+unfolding lettersText levelText callPutText monthText afterComma trimmed beforeFields withCommas
 letters-every = refl
 
 pub letters-whole : (root : ℕ) → lettersText (WholeRoot root) ≡ []
-unfolding lettersText levelText callPutText monthText afterComma trimmed inFront
+unfolding lettersText levelText callPutText monthText afterComma trimmed beforeFields
 letters-whole root = refl
 
 pub letters-unit : (root unit : ℕ) → lettersText (OneUnit root unit) ≡ 44 ∷ 44 ∷ cond (ltb unit 2) 67 80 ∷ 44 ∷ cond (eqb unit 0 || eqb unit 2) 70 84 ∷ []
-unfolding lettersText levelText callPutText monthText afterComma trimmed inFront withCommas
+unfolding lettersText levelText callPutText monthText afterComma trimmed beforeFields withCommas
 letters-unit root unit = go (ltb unit 2) (eqb unit 0 || eqb unit 2)
   where
     go : (c f : Bool) → afterComma (trimmed ([] ∷ cond c (bytes "C") (bytes "P") ∷ cond f (bytes "F") (bytes "T") ∷ []))

@@ -19,7 +19,7 @@ use Rattle.rules.specs.declared.Kind.the-variants.{Rate, Absolute}
 use Rattle.rules.specs.declared.Limit.{Limit}
 use Rattle.rules.specs.declared.Limit.the-variants.{Notional, Volume, Count}
 use Rattle.rules.specs.declared.Rule.{Rule}
-use Rattle.text.specs.Text.{bytes, all, made, numeral, isNameByte, isDigit, numberOf, nameOf}
+use Rattle.text.specs.Text.{bytes, all, made, numeral, isNameByte, isDigit, fieldNumber, nameOf}
 use Rattle.text.specs.declared.Number.the-variants.{Is as Read}
 use Rattle.text.specs.Digits.{nameBytes, decimal}
 use Rattle.text.proofs.Decimal.{decimal-digits, decimal-upto, decimal-some, decimal-read}
@@ -101,7 +101,7 @@ type-facts Absolute (Count l) = search
 pub record NumberFacts (text : List ℕ) (n : ℕ) : Type 0 where
   pub plain : isField text ≡ true
   pub some : 0 < length text
-  pub read : numberOf text ≡ Read n
+  pub read : fieldNumber text ≡ Read n
 
 number-facts : (r : Range) (n : ℕ) → r .most < 10 ^ 12 → isIn r n ≡ true → NumberFacts (decimal n) n
 number-facts r n most h =

@@ -18,7 +18,7 @@ use Rattle.machine.specs.State.{Profile}
 use Rattle.admission.specs.Admission.{howMany, isFirmRule, onUnit, crowded, seenAfter, isNext, areInOrder}
 use Rattle.given.specs.Names.{isNameNumber}
 use Rattle.given.specs.Given.{isFresh, areRoots, isMade}
-use Rattle.writing.specs.Writing.{typeName, limitText, windowText, rootText, levelText, callPutText, monthText, fieldTexts, inFront, trimmed, withCommas, lineText, linesText, textOf, textMost}
+use Rattle.writing.specs.Writing.{typeName, limitText, windowText, rootText, levelText, callPutText, monthText, fieldTexts, beforeFields, trimmed, withCommas, lineText, linesText, textOf, textMost}
 
 -- the rule with the longest line, for a unit of a root
 abbrev longest : ℕ → ℕ → Rule
@@ -47,7 +47,7 @@ greatest = record {
 }
 
 pub greatest-long : length (textOf greatest) ≡ textMost
-unfolding numeral digitsUpTo nameBytes decimal typeName limitText windowText rootText levelText callPutText monthText fieldTexts inFront trimmed withCommas lineText linesText textOf
+unfolding numeral digitsUpTo nameBytes decimal typeName limitText windowText rootText levelText callPutText monthText fieldTexts beforeFields trimmed withCommas lineText linesText textOf
 greatest-long = refl
 
 pub greatest-made : isMade greatest ≡ true

@@ -6,7 +6,7 @@ use mathlib.Core.List.{List, [], _∷_}
 use lib.ListN.{length, getD, take, drop, length-drop}
 use lib.Seq.{take-all}
 use native.Mathlib.Omega.{arith}
-use Rattle.shapes.specs.Shape.{one, both, named, rows, table}
+use Rattle.shapes.specs.Shape.{cell, both, named, rows, table}
 use Rattle.shapes.proofs.Tables.{length-places}
 use Rattle.tables.specs.Tables.{places}
 use Rattle.packing.specs.RulePlace.{ruleAt, rulesShape}
@@ -35,8 +35,8 @@ ones zero xs h = refl
 ones (suc k) [] h = absurd (omega arith)
 ones (suc k) (x ∷ xs) h = ap (λ (l : List ℕ). x ∷ l) (ones k xs (omega arith))
 
-pub names-lent : (roots : List ℕ) → length roots ≡ 65 → getD roots 0 0 ≤ 64 → table 64 (one (λ x. true)) .read roots ≡ namesOf roots
-unfolding table named both rows one
+pub names-lent : (roots : List ℕ) → length roots ≡ 65 → getD roots 0 0 ≤ 64 → table 64 (cell (λ x. true)) .read roots ≡ namesOf roots
+unfolding table named both rows cell
 names-lent roots l h =
     let all : take 64 (drop 1 roots) ≡ drop 1 roots = take-all 64 (drop 1 roots) (omega (arith, length-drop 1 roots)) in
     rw all (ones (getD roots 0 0) (drop 1 roots) (omega (arith, length-drop 1 roots)))

@@ -19,7 +19,7 @@ use Rattle.given.proofs.Names.{name-few}
 use Rattle.given.proofs.Order.{rule-scope}
 use Rattle.given.proofs.Places.{rulesFrom, rules-start, rules-on, rules-end}
 use Rattle.writing.specs.Writing.{rootText, lineText, linesText}
-use Rattle.writing.specs.Parts.{namesOf, Known, Placed}
+use Rattle.writing.specs.Parts.{namesOf, KnownScope, RulesPlaced}
 use Rattle.laws.specs.Every.{every-first, every-rest}
 use Rattle.writing.proofs.Cut.{type-few, end-few, line-long}
 
@@ -62,7 +62,7 @@ module _ (firm : ℕ) (roots rules : List ℕ) (k : ℕ) where
     unfolding linesText
     lines-on = ap (linesText firm (namesOf roots)) next ∙ sym (append-assoc (lineText firm (namesOf roots) rule) (10 ∷ []) (linesFrom (i + 1)))
 
-    pub known-here : length roots ≡ 65 → Valid i → Known roots (rule .scope)
+    pub known-here : length roots ≡ 65 → Valid i → KnownScope roots (rule .scope)
     known-here long valid =
         record { long = long; known = rule-scope (length (namesOf roots)) rule (every-first (isRule (length (namesOf roots))) rule (rulesFrom k rules (i + 1)) (rw next at valid)) }
 
@@ -80,7 +80,7 @@ module _ (firm : ℕ) (roots rules : List ℕ) (k : ℕ) where
     pub valid : Valid i
     pub counted : size + length (linesFrom i) ≡ length allLines
 
-  pub counting-none : Placed roots rules k → Counting 0 0
+  pub counting-none : RulesPlaced roots rules k → Counting 0 0
   counting-none p = record {
     within = omega arith;
     near = omega arith;
@@ -108,7 +108,7 @@ module _ (firm : ℕ) (roots rules : List ℕ) (k : ℕ) where
     pub ends : to + length (linesFrom i) ≡ length allLines
     pub whole : sets was 0 allLines ≡ sets room to (linesFrom i)
 
-  pub writing-none : Placed roots rules k → (room : List ℕ) → Writing room room 0 0
+  pub writing-none : RulesPlaced roots rules k → (room : List ℕ) → Writing room room 0 0
   writing-none p room = record {
     within = omega arith;
     long = refl;

@@ -11,7 +11,7 @@ use native.Mathlib.Omega.{arith}
 use Rattle.laws.specs.Tests.{and-l, and-r, and-i}
 use Rattle.text.specs.Text.{all, made, onto, pieces, fields}
 use Rattle.laws.specs.Folds.{every}
-use Rattle.writing.specs.Writing.{inFront, trimmed, withCommas}
+use Rattle.writing.specs.Writing.{beforeFields, trimmed, withCommas}
 use Rattle.text.proofs.Bytes.{all-append, all-weaker, made-all}
 use Rattle.laws.specs.Every.{every-first, every-rest}
 
@@ -64,8 +64,8 @@ commas-bytes (f ∷ g ∷ rest) e =
     (commas-bytes (g ∷ rest) (every-rest isField f (g ∷ rest) e))
 
 -- trimmed fields: the same field stands at every place, none past the last that is not empty, and no field is new
-front-at : (f : List ℕ) (fs : List (List ℕ)) (k : ℕ) → getD (inFront f fs) k [] ≡ getD (f ∷ fs) k []
-unfolding inFront
+front-at : (f : List ℕ) (fs : List (List ℕ)) (k : ℕ) → getD (beforeFields f fs) k [] ≡ getD (f ∷ fs) k []
+unfolding beforeFields
 front-at [] [] zero = refl
 front-at [] [] (suc k) = refl
 front-at [] (g ∷ rest) k = refl
@@ -86,8 +86,8 @@ trimmed-reach fs k h = go (decLt k (length (trimmed fs)))
         let empty = sym (trimmed-at fs k) ∙ List·getD-eq-default (trimmed fs) [] {n = k} (omega arith) in
         absurd (omega (arith, ap length empty))
 
-front-few : (f : List ℕ) (fs : List (List ℕ)) → length (inFront f fs) ≤ suc (length fs)
-unfolding inFront
+front-few : (f : List ℕ) (fs : List (List ℕ)) → length (beforeFields f fs) ≤ suc (length fs)
+unfolding beforeFields
 front-few [] [] = omega arith
 front-few [] (g ∷ rest) = omega arith
 front-few (x ∷ f) rest = omega arith
@@ -98,8 +98,8 @@ trimmed-few [] = omega arith
 trimmed-few (f ∷ fs) = omega (arith, front-few f (trimmed fs), trimmed-few fs)
 
 module _ (ok : List ℕ → Bool) where
-  front-every : (f : List ℕ) (fs : List (List ℕ)) → ok f ≡ true → every ok fs ≡ true → every ok (inFront f fs) ≡ true
-  unfolding inFront every
+  front-every : (f : List ℕ) (fs : List (List ℕ)) → ok f ≡ true → every ok fs ≡ true → every ok (beforeFields f fs) ≡ true
+  unfolding beforeFields every
   front-every [] [] h k = refl
   front-every [] (g ∷ rest) h k = and-i h k
   front-every (x ∷ f) rest h k = and-i h k

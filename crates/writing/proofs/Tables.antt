@@ -12,7 +12,7 @@ use Rattle.rules.specs.declared.Scope.the-variants.{EveryFill, WholeRoot, OneUn
 use Rattle.rules.specs.Valid.{isScope}
 use Rattle.text.specs.Digits.{digitsUpTo, nameBytes}
 use Rattle.writing.specs.Writing.{rootText}
-use Rattle.writing.specs.Parts.{namesOf, Known}
+use Rattle.writing.specs.Parts.{namesOf, KnownScope}
 
 module _ (roots : List ℕ) where
   -- a root that is known stands in the table
@@ -26,11 +26,11 @@ module _ (roots : List ℕ) where
       sym (getD-take n (take 64 (drop 1 roots)) root 0 in-count ∙ getD-take 64 (drop 1 roots) root 0 (names-few root h)
       ∙ getD-drop 1 roots root 0 ∙ ap (λ (i : ℕ). getD roots i 0) (add-comm 1 root))
 
-  pub whole-known : {root : ℕ} → Known roots (WholeRoot root) → root < length (namesOf roots)
+  pub whole-known : {root : ℕ} → KnownScope roots (WholeRoot root) → root < length (namesOf roots)
   unfolding isScope
   whole-known {root} k = ltb-true root (length (namesOf roots)) (k .known)
 
-  pub unit-known : {root unit : ℕ} → Known roots (OneUnit root unit) → root < length (namesOf roots)
+  pub unit-known : {root unit : ℕ} → KnownScope roots (OneUnit root unit) → root < length (namesOf roots)
   unfolding isScope
   unit-known {root} k = ltb-true root (length (namesOf roots)) (and-l _ _ (k .known))
 

@@ -14,7 +14,7 @@ use Rattle.admission.specs.Admission.{howMany, isFirmRule, onUnit, crowded, see
 use Rattle.text.specs.Digits.{digitsUpTo, nameBytes, decimal}
 use Rattle.given.specs.Names.{isNameNumber}
 use Rattle.given.specs.Given.{isFresh, areRoots, isMade}
-use Rattle.writing.specs.Writing.{typeName, limitText, windowText, rootText, levelText, callPutText, monthText, fieldTexts, inFront, trimmed, withCommas, lineText, linesText, textOf}
+use Rattle.writing.specs.Writing.{typeName, limitText, windowText, rootText, levelText, callPutText, monthText, fieldTexts, beforeFields, trimmed, withCommas, lineText, linesText, textOf}
 
 abbrev example : Profile
 unfolding numeral
@@ -30,7 +30,7 @@ example = record {
 }
 
 written : textOf example ≡ bytes "ABCD,abs_vol,XYZ,1000\nABCD,rate_ntnl,Q1,1000,60000,,P,T\nABCD,abs_count,XYZ,10,,,C,F\nABCD,rate_count,,10,100,T\n"
-unfolding numeral digitsUpTo nameBytes decimal typeName limitText windowText rootText levelText callPutText monthText fieldTexts inFront trimmed withCommas lineText linesText textOf
+unfolding numeral digitsUpTo nameBytes decimal typeName limitText windowText rootText levelText callPutText monthText fieldTexts beforeFields trimmed withCommas lineText linesText textOf
 written = refl
 
 taken : isMade example ≡ true

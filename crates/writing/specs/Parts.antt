@@ -19,12 +19,12 @@ abbrev pub namesOf : List ℕ → List ℕ
 namesOf roots = take (getD roots 0 0) (take 64 (drop 1 roots))
 
 -- a whole table of roots that has the root of a scope, if it names one
-pub record Known (roots : List ℕ) (scope : Scope) : Type 0 where
+pub record KnownScope (roots : List ℕ) (scope : Scope) : Type 0 where
   pub long : length roots ≡ 65
   pub known : isScope (length (namesOf roots)) scope ≡ true
 
 -- the places of the rules' table, of which the first k hold rules that a profile with these roots may hold
-pub record Placed (roots rules : List ℕ) (k : ℕ) : Type 0 where
+pub record RulesPlaced (roots rules : List ℕ) (k : ℕ) : Type 0 where
   pub roots-long : length roots ≡ 65
   pub rules-long : length rules ≡ 512
   pub few : k ≤ 256

@@ -61,15 +61,15 @@ fieldTexts firm roots rule =
     ∷ levelText (rule .scope) ∷ callPutText (rule .scope) ∷ monthText (rule .scope) ∷ []
 
 -- a field in front of the others, unless it and all of them are empty
-unfoldable pub inFront : List ℕ → List (List ℕ) → List (List ℕ)
-inFront [] [] = []
-inFront [] (g ∷ rest) = [] ∷ g ∷ rest
-inFront (x ∷ f) rest = (x ∷ f) ∷ rest
+unfoldable pub beforeFields : List ℕ → List (List ℕ) → List (List ℕ)
+beforeFields [] [] = []
+beforeFields [] (g ∷ rest) = [] ∷ g ∷ rest
+beforeFields (x ∷ f) rest = (x ∷ f) ∷ rest
 
 -- fields with the empty ones at the end dropped
 unfoldable pub trimmed : List (List ℕ) → List (List ℕ)
 trimmed [] = []
-trimmed (f ∷ rest) = inFront f (trimmed rest)
+trimmed (f ∷ rest) = beforeFields f (trimmed rest)
 
 -- fields with a comma between them
 unfoldable pub withCommas : List (List ℕ) → List ℕ

@@ -10,7 +10,7 @@ ghost use Rattle.text.specs.Digits.{nameBytes};
 ghost use Rattle.tables.specs.Tables.{places};
 ghost use Rattle.packing.specs.RulePlace.{ruleAt};
 ghost use Rattle.writing.specs.Writing.{typeName, rootText, lineText, linesText, textOf};
-ghost use Rattle.writing.specs.Parts.{namesOf, Known, Placed, Lent, profileIn, lettersText, endText};
+ghost use Rattle.writing.specs.Parts.{namesOf, KnownScope, RulesPlaced, Lent, profileIn, lettersText, endText};
 use rules::Kind;
 use rules::Limit;
 use rules::Rule;
@@ -56,7 +56,7 @@ fn put_type(kind: Kind, limit: Limit, room: &mut [u8], at: usize) -> usize
 
 // The name of a scope's root as a number, 0 where it has none.
 fn name_in(roots: &[u64], scope: Scope) -> u64
-    requires { ⌜ Known (now roots) scope ⌝ }
+    requires { ⌜ KnownScope (now roots) scope ⌝ }
     ensures { λ r. ⌜ nameBytes r ≡ rootText (namesOf (now (roots .entry))) scope ⌝ }
 {
     match scope {
@@ -162,7 +162,7 @@ fn put_name(name: u64, room: &mut [u8], at: usize) -> usize
 
 // How many bytes a rule's line has with its LF.
 fn line_size(firm: u64, roots: &[u64], rule: Rule) -> usize
-    requires { ⌜ Known (now roots) (rule .scope) ⌝ }
+    requires { ⌜ KnownScope (now roots) (rule .scope) ⌝ }
     ensures { λ r. ⌜ r ≡ length (lineText firm (namesOf (now (roots .entry))) rule) + 1 ⌝ }
 {
     let scope = rule.scope;
@@ -179,7 +179,7 @@ fn line_size(firm: u64, roots: &[u64], rule: Rule) -> usize
 
 // Writes a rule's line with its LF from a place on, and answers the place after it.
 fn put_line(firm: u64, roots: &[u64], rule: Rule, room: &mut [u8], at: usize) -> usize
-    requires { ⌜ Known (now roots) (rule .scope) ⌝ }
+    requires { ⌜ KnownScope (now roots) (rule .scope) ⌝ }
     requires { ⌜ at + length (lineText firm (namesOf (now roots)) rule) + 1 ≤ length (now room) ⌝ }
     ensures { λ r. ⌜ r ≡ at + length (lineText firm (namesOf (now (roots .entry))) rule ++ (10 ∷ [])) ⌝ }
     ensures { λ r. ⌜ now (room .exit) ≡ sets (now (room .entry)) at (lineText firm (namesOf (now (roots .entry))) rule ++ (10 ∷ [])) ⌝ }
@@ -199,7 +199,7 @@ fn put_line(firm: u64, roots: &[u64], rule: Rule, room: &mut [u8], at: usize) ->
 
 // How many bytes the lines of the rules in the first k places have.
 fn lines_size(firm: u64, roots: &[u64], rules: &[u64], k: usize) -> usize
-    requires { ⌜ Placed (now roots) (now rules) k ⌝ }
+    requires { ⌜ RulesPlaced (now roots) (now rules) k ⌝ }
     ensures { λ r. ⌜ r ≡ length (linesText firm (namesOf (now (roots .entry))) (places 2 ruleAt k (now (rules .entry)))) ⌝ }
 {
     let mut size: usize = 0;
@@ -213,7 +213,7 @@ fn lines_size(firm: u64, roots: &[u64], rules: &[u64], k: usize) -> usize
 
 // Writes the lines of the rules in the first k places to the front of a room, and answers how many bytes they have.
 fn put_lines(firm: u64, roots: &[u64], rules: &[u64], k: usize, room: &mut [u8]) -> usize
-    requires { ⌜ Placed (now roots) (now rules) k ⌝ }
+    requires { ⌜ RulesPlaced (now roots) (now rules) k ⌝ }
     requires { ⌜ length (linesText firm (namesOf (now roots)) (places 2 ruleAt k (now rules))) ≤ length (now room) ⌝ }
     ensures { λ r. ⌜ r ≡ length (linesText firm (namesOf (now (roots .entry))) (places 2 ruleAt k (now (rules .entry)))) ⌝ }
     ensures { λ r. ⌜ now (room .exit) ≡ sets (now (room .entry)) 0 (linesText firm (namesOf (now (roots .entry))) (places 2 ruleAt k (now (rules .entry)))) ⌝ }

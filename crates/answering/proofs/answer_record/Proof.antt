@@ -1,7 +1,7 @@
 -- `lines::answer_record` meets its contract: each arm is given what the record was read as. Assumes nothing.
 use mathlib.Core.Path.{refl, sym, _∙_}
 use Rattle.records.specs.Event.{readRefusal}
-use Rattle.answering.specs.Run.{answerTo, memoryOf}
+use Rattle.answering.specs.Run.{readingAnswer, memoryOf}
 use borrow.Author.Needs.{needs}
 use Rattle.answering.proofs.answer_record.Statement.{statement}
 use Rattle.answering.proofs.answer_record.Tie as tie
@@ -22,11 +22,11 @@ same-length : tie.Need-same-length
 same-length c = search needs
 
 returns : tie.Need-returns
-unfolding answerTo memoryOf
+unfolding readingAnswer memoryOf
 returns c = rw (sym (c .before .before .before .before .before .before .before .read .ensures) ∙ c .before .before .before .before .before .reading .given .1) (c .before .before .answer-event .ensures)
 
 returns-2 : tie.Need-returns-2
-unfolding answerTo memoryOf readRefusal
+unfolding readingAnswer memoryOf readRefusal
 returns-2 c = rw (sym (c .before .before .read .ensures) ∙ c .enum-told .given .1) (refl, refl)
 
 pub answer-record-spec : {M : Type 1} → statement M

@@ -7,7 +7,7 @@ use Rattle.rules.specs.Units.{ofUnit}
 use Rattle.rules.specs.declared.Rule.{Rule}
 use Rattle.rules.specs.declared.Account.{Account}
 use Rattle.machine.specs.State.{rulesIn}
-use Rattle.machine.specs.Remaining.{ruleAt, Asked, accountAt, accountFor, leftOf}
+use Rattle.machine.specs.Remaining.{ruleNumbered, RuleAndUnit, accountAt, accountFor, leftOf}
 use Rattle.machine.proofs.Units.{place-low, account-rule}
 use Rattle.state.specs.State.{decode}
 use Rattle.state.specs.Laid.{accountIn}
@@ -32,7 +32,7 @@ left-of-requires c κs =
     let s = decode (start .args .m .now) in
     let rule = start .args .rule in
     let unit = start .args .unit in
-    let asked : Asked (rulesIn s) rule unit = record { known = p .1; unitKnown = p .2 } in
+    let asked : RuleAndUnit (rulesIn s) rule unit = record { known = p .1; unitKnown = p .2 } in
     let place = sym (c .before .account-at .ensures) in
     let own = c .of-unit .ensures ∙ ap (λ (r : Rule). ofUnit r unit) (c .before .before .rule-in .ensures) in (
       p .0,

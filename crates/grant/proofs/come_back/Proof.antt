@@ -2,7 +2,7 @@
 use Rattle.machine.specs.Deeds.{reported}
 use Rattle.state.specs.State.{decode}
 use Rattle.state.proofs.After.{held-laid}
-use Rattle.register.specs.Register.{sentIn}
+use Rattle.register.specs.Register.{sentAtPlace}
 use Rattle.grant.proofs.Steps.{returning-filling, paid-holds, paid-filling, logged-holds, still-placed, reported-holds, used-root, filled-memory}
 use borrow.Author.Needs.{needs}
 use Rattle.grant.proofs.come_back.Statement.{statement}
@@ -51,7 +51,7 @@ mark-requires c κs =
     let r = start .pre in
     let f = returning-filling r in
     let h = reported-holds r (logged-holds f (paid-holds f (at-credit .credit .ensures)) (at-join .join-log .ensures)) (at-use .use-up .ensures) in
-    (held-laid h, used-root f (reported (sentIn (decode (start .args .m .now) .part .register) (start .args .i) .identity)) h)
+    (held-laid h, used-root f (reported (sentAtPlace (decode (start .args .m .now) .part .register) (start .args .i) .identity)) h)
 
 same-length : tie.Need-same-length
 same-length c = search needs
@@ -67,7 +67,7 @@ returns c =
     let r = start .pre in
     let f = returning-filling r in
     let h = reported-holds r (logged-holds f (paid-holds f (at-credit .credit .ensures)) (at-join .join-log .ensures)) (at-use .use-up .ensures) in
-    let identity = sentIn (decode (start .args .m .now) .part .register) (start .args .i) .identity in
+    let identity = sentAtPlace (decode (start .args .m .now) .part .register) (start .args .i) .identity in
     let trips = at-trips .trips-of .ensures in
     record {
       memory = filled-memory f (reported identity) h (trips .root identity) (trips .firm identity) (at-mark .mark .ensures);

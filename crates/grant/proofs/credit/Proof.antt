@@ -8,7 +8,7 @@ use lib.ListN.{length}
 use Rattle.rules.specs.declared.Rule.{Rule}
 use Rattle.rules.specs.declared.Account.{Account}
 use Rattle.machine.specs.State.{rulesIn, cellsOf}
-use Rattle.machine.specs.Remaining.{ruleAt, firstCell}
+use Rattle.machine.specs.Remaining.{ruleNumbered, firstCell}
 use Rattle.machine.proofs.Totals.{isPaid}
 use Rattle.state.specs.State.{decode}
 use Rattle.state.proofs.Laid.{laid-few}
@@ -60,7 +60,7 @@ add-credit-one c =
     let laid = start .pre .0 .laid in
     let same = doing-rules (credit-fair (start .args .o) (start .args .grant)) laid (at-loop .loop .inv .1 .doing) in
     let low : at-loop .loop .i < length (rulesIn (decode (start .args .m .now))) = omega (arith, at-loop .before .rules-in .ensures, at-rule .before .before .loop-test .taken) in
-    let is = at-rule .rule-in .ensures ∙ ap (λ (l : List Rule). ruleAt l (at-loop .loop .i)) same in
+    let is = at-rule .rule-in .ensures ∙ ap (λ (l : List Rule). ruleNumbered l (at-loop .loop .i)) same in
     omega (arith, laid-few laid, faced-low laid low (at-loop .loop .inv .2) is (start .args .o) (start .pre .0 .unit) (c .place-of .ensures))
 
 credit-one-requires : tie.Need-credit-one-requires Inv-loop μ-loop
@@ -74,7 +74,7 @@ credit-one-requires c κs =
     let fair = credit-fair o (start .args .grant) in
     let doing = at-loop .loop .inv .1 .doing in
     let low : at-loop .loop .i < length (rulesIn (decode (start .args .m .now))) = omega (arith, at-loop .before .rules-in .ensures, at-rule .before .before .loop-test .taken) in
-    let is = at-rule .rule-in .ensures ∙ ap (λ (l : List Rule). ruleAt l (at-loop .loop .i)) (doing-rules fair laid doing) in
+    let is = at-rule .rule-in .ensures ∙ ap (λ (l : List Rule). ruleNumbered l (at-loop .loop .i)) (doing-rules fair laid doing) in
     let place = at-loop .loop .inv .2 in
     let l = faced-low laid low place is o (p .0 .unit) (c .place-of .ensures) in
     let past = doing-past fair laid doing {j = at-loop .loop .place + c .place-of .result} (omega arith) in (
@@ -97,7 +97,7 @@ add-place c =
     let laid = start .pre .0 .laid in
     let same = doing-rules (credit-fair (start .args .o) (start .args .grant)) laid (at-loop .loop .inv .1 .doing) in
     let low : at-loop .loop .i < length (rulesIn (decode (start .args .m .now))) = omega (arith, at-loop .before .rules-in .ensures, at-rule .before .before .loop-test .taken) in
-    let is = at-rule .rule-in .ensures ∙ ap (λ (l : List Rule). ruleAt l (at-loop .loop .i)) same in
+    let is = at-rule .rule-in .ensures ∙ ap (λ (l : List Rule). ruleNumbered l (at-loop .loop .i)) same in
     let on = next-place laid low (at-loop .loop .inv .2) is (c .accounts .ensures) in
     omega (arith, place-within laid (at-loop .loop .i + 1) on, laid-few laid)
 
@@ -120,7 +120,7 @@ loop-again c =
     let laid = start .pre .0 .laid in
     let same = doing-rules (credit-fair o grant) laid (at-loop .loop .inv .1 .doing) in
     let low : at-loop .loop .i < length (rulesIn (decode (start .args .m .now))) = omega (arith, at-loop .before .rules-in .ensures, at-rule .before .before .loop-test .taken) in
-    let is = at-rule .rule-in .ensures ∙ ap (λ (l : List Rule). ruleAt l (at-loop .loop .i)) same in
+    let is = at-rule .rule-in .ensures ∙ ap (λ (l : List Rule). ruleNumbered l (at-loop .loop .i)) same in
     let place = at-loop .loop .inv .2 in
     let on = next-place laid low place is (c .accounts .ensures) in
     let one = c .before .before .before .credit-one in

@@ -2,7 +2,7 @@
 use native.Mathlib.Omega.{arith}
 use mathlib.Core.Path.{sym, ap, _∙_}
 use mathlib.Core.List.{List}
-use Rattle.log.specs.Log.{joined}
+use Rattle.log.specs.Log.{joinedEntries}
 use Rattle.machine.specs.declared.Entry.{Entry}
 use Rattle.machine.specs.Offers.{entryOf}
 use Rattle.machine.specs.State.{rootsIn}
@@ -65,7 +65,7 @@ returns-2 c =
     let laid = start .pre .0 .laid in
     let s = decode (args .m .now) in
     let is = joined-on s (laid .fits) (c .before .before .before .before .before .longest-window .ensures) (args .o) (args .grant) (c .before .before .before .before .if1 .left) in
-    log-after laid (joined (c .before .before .before .before .before .longest-window .result) (args .o .time) (entryOf (args .o) (args .grant))) (c .before .before .join .ensures)
+    log-after laid (joinedEntries (c .before .before .before .before .before .longest-window .result) (args .o .time) (entryOf (args .o) (args .grant))) (c .before .before .join .ensures)
     ∙ ap (λ (l : List Entry). stored (withLog s l) (args .m .now)) (sym is)
 
 pub join-log-spec : {M : Type 1} → statement M

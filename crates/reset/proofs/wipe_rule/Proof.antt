@@ -11,7 +11,7 @@ use Rattle.rules.specs.Rules.{levelOf}
 use Rattle.rules.specs.declared.Level.{Level}
 use Rattle.rules.specs.declared.Rule.{Rule}
 use Rattle.machine.specs.State.{rulesIn}
-use Rattle.machine.specs.Remaining.{ruleAt, firstCell}
+use Rattle.machine.specs.Remaining.{ruleNumbered, firstCell}
 use Rattle.machine.specs.Effects.{zeroing}
 use Rattle.state.specs.State.{stored, decode}
 use Rattle.state.specs.Laid.{withAccounts, between}
@@ -28,7 +28,7 @@ use Rattle.reset.proofs.wipe_rule.Tie as tie
 -- the totals from the rule's first up to j are zeroed, whichever levels are, so long as the rule's is one of them
 abbrev Inv-loop : tie.InvT-loop
 Inv-loop m₀ i place root next limit j₀ m j =
-    (j ≤ next) × ((zeroes : Level → Bool) → zeroes (levelOf (ruleAt (rulesIn (decode m₀)) i .scope)) ≡ true → Passing (wiped-fair zeroes) m₀ place j m)
+    (j ≤ next) × ((zeroes : Level → Bool) → zeroes (levelOf (ruleNumbered (rulesIn (decode m₀)) i .scope)) ≡ true → Passing (wiped-fair zeroes) m₀ place j m)
 
 abbrev μ-loop : tie.MeasureT-loop
 μ-loop m₀ i place root next limit j₀ m j = next - j
@@ -61,12 +61,12 @@ next-most t = place-within (start t .pre .0) (start t .args .i + 1) (next-first 
 
 -- what is told of the rule is told of its level
 level-told : (e : tie.After-zeroes Inv-loop μ-loop) {answer : Bool} → e .zeroes .result ≡ answer
-    → zeroes (e .before) (levelOf (ruleAt (rules (e .before)) (start (e .before) .args .i) .scope)) ≡ answer
+    → zeroes (e .before) (levelOf (ruleNumbered (rules (e .before)) (start (e .before) .args .i) .scope)) ≡ answer
 level-told e is =
     let t = e .before in
     sym (ap (λ (r : Rule). zeroes t (levelOf (r .scope))) (t .before .rule-in .ensures)) ∙ sym (e .zeroes .ensures) ∙ is
 
-zeroed : (e : Zeroed) → zeroes (e .before .before) (levelOf (ruleAt (rules (e .before .before)) (start (e .before .before) .args .i) .scope)) ≡ true
+zeroed : (e : Zeroed) → zeroes (e .before .before) (levelOf (ruleNumbered (rules (e .before .before)) (start (e .before .before) .args .i) .scope)) ≡ true
 zeroed e = level-told (e .before) (not-false _ (e .if1 .left))
 
 rule-in-requires : tie.Need-rule-in-requires Inv-loop μ-loop

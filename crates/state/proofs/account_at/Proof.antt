@@ -7,7 +7,7 @@ use Rattle.rules.specs.declared.Rule.{Rule}
 use Rattle.rules.proofs.Units.{units-few, unit-place}
 use lib.ListN.{length}
 use Rattle.machine.specs.State.{rulesIn, cellsOf}
-use Rattle.machine.specs.Remaining.{ruleAt, firstCell, cellAt}
+use Rattle.machine.specs.Remaining.{ruleNumbered, firstCell, cellAt}
 use Rattle.state.specs.State.{decode}
 use Rattle.state.proofs.Laid.{laid-few}
 use Rattle.state.proofs.Walked.{place-within, next-place}
@@ -63,10 +63,10 @@ add-result c =
     let at-loop = c .before .before .before in
     let start = at-loop .before .before in
     let rules = rulesIn (decode (start .args .m .now)) in
-    let place : c .place-of .result ≡ placeIn (ruleAt rules (start .args .rule) .scope) (start .args .unit) = c .place-of .ensures ∙ ap (λ (r : Rule). placeIn (r .scope) (start .args .unit)) (c .before .rule-in2 .ensures) in
-    let low = unit-place (ruleAt rules (start .args .rule) .scope) (start .args .unit) (start .pre .2) .0 in
+    let place : c .place-of .result ≡ placeIn (ruleNumbered rules (start .args .rule) .scope) (start .args .unit) = c .place-of .ensures ∙ ap (λ (r : Rule). placeIn (r .scope) (start .args .unit)) (c .before .rule-in2 .ensures) in
+    let low = unit-place (ruleNumbered rules (start .args .rule) .scope) (start .args .unit) (start .pre .2) .0 in
     let within = place-within (start .pre .0) (at-loop .loop .i) (at-loop .loop .inv .1) in
-    omega (arith, within, laid-few (start .pre .0), place, low, units-few (ruleAt rules (start .args .rule) .scope))
+    omega (arith, within, laid-few (start .pre .0), place, low, units-few (ruleNumbered rules (start .args .rule) .scope))
 
 returns : tie.Need-returns Inv-loop μ-loop
 unfolding cellAt

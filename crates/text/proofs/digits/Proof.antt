@@ -4,7 +4,7 @@ use borrow.Author.Needs.{needs}
 use borrow.Author.Tests.{le-leb, lt-leb}
 use native.Mathlib.Omega.{arith}
 use lib.ListN.{length}
-use Rattle.text.specs.Text.{isDigit, numberOf}
+use Rattle.text.specs.Text.{isDigit, fieldNumber}
 use Rattle.text.proofs.Numerals.{Read, read-short, read-long, read-none, read-off, read-more, read-all, read-fits}
 use Rattle.text.proofs.digits.Statement.{statement}
 use Rattle.text.proofs.digits.Tie as tie
@@ -16,11 +16,11 @@ abbrev μ-loop : tie.MeasureT-loop
 μ-loop f v₀ i₀ v i = length f - i
 
 returns : tie.Need-returns Inv-loop μ-loop
-unfolding numberOf
+unfolding fieldNumber
 returns c = read-short isDigit 1 12 10 48 (c .before .before .args .f .now) (omega arith)
 
 returns-2 : tie.Need-returns-2 Inv-loop μ-loop
-unfolding numberOf
+unfolding fieldNumber
 returns-2 c = read-long isDigit 1 12 10 48 (c .before .before .before .args .f .now) (omega arith) (omega arith)
 
 loop-holds : tie.Need-loop-holds Inv-loop μ-loop
@@ -30,11 +30,11 @@ shared-slice-read-x : tie.Need-shared-slice-read-x Inv-loop μ-loop
 shared-slice-read-x c = search needs
 
 returns-3 : tie.Need-returns-3 Inv-loop μ-loop
-unfolding numberOf
+unfolding fieldNumber
 returns-3 c = read-off (c .before .before .before .loop .inv) (c .before .before .loop-test .taken) (rw (lt-leb _ _ (c .if3 .taken)))
 
 returns-4 : tie.Need-returns-4 Inv-loop μ-loop
-unfolding numberOf
+unfolding fieldNumber
 returns-4 c =
     let at-loop = c .before .before .before .before in
     read-off (at-loop .loop .inv) (c .before .before .before .loop-test .taken) (rw (le-leb _ _ (c .before .if3 .left), lt-leb _ _ (c .if4 .taken)))
@@ -67,7 +67,7 @@ loop-again c =
     (omega arith)
 
 returns-5 : tie.Need-returns-5 Inv-loop μ-loop
-unfolding numberOf
+unfolding fieldNumber
 returns-5 c = read-all (c .before .loop .inv) (c .loop-test .left)
 
 pub digits-spec : {M : Type 1} → statement M

@@ -1,7 +1,7 @@
 -- `views::root_named` meets its contract: bytes that are no name stand for no root. Assumes nothing.
 use mathlib.Core.Path.{sym, ap, _∙_}
 use Rattle.state.specs.State.{decode}
-use Rattle.views.specs.Views.{placeOf}
+use Rattle.views.specs.Views.{foundRoot}
 use Rattle.views.proofs.Answers.{named-refused, named-empty, named-is}
 use borrow.Author.Needs.{needs}
 use Rattle.views.proofs.root_named.Statement.{statement}
@@ -29,11 +29,11 @@ enum-told : tie.Need-enum-told
 enum-told c = search needs
 
 returns-3 : tie.Need-returns-3
-returns-3 c = c .root-of .ensures ∙ ap (placeOf (decode (c .before .before .before .before .before .before .before .before .before .before .args .m .now) .part .profile .roots)) (sym (c .before .before .number .given .1) ∙ c .before .before .before .before .root-name .ensures) ∙ named-is _ (sym (c .before .before .before .before .before .before .before .memory-refusal .ensures) ∙ c .before .before .before .before .before .before .if1 .left) _ (c .before .before .before .before .before .if2 .left)
+returns-3 c = c .root-of .ensures ∙ ap (foundRoot (decode (c .before .before .before .before .before .before .before .before .before .before .args .m .now) .part .profile .roots)) (sym (c .before .before .number .given .1) ∙ c .before .before .before .before .root-name .ensures) ∙ named-is _ (sym (c .before .before .before .before .before .before .before .memory-refusal .ensures) ∙ c .before .before .before .before .before .before .if1 .left) _ (c .before .before .before .before .before .if2 .left)
 
 returns-4 : tie.Need-returns-4
-unfolding placeOf
-returns-4 c = ap (placeOf (decode (c .before .before .before .before .before .before .before .before .args .m .now) .part .profile .roots)) (sym (c .enum-told .given .1) ∙ c .before .before .root-name .ensures) ∙ named-is _ (sym (c .before .before .before .before .before .memory-refusal .ensures) ∙ c .before .before .before .before .if1 .left) _ (c .before .before .before .if2 .left)
+unfolding foundRoot
+returns-4 c = ap (foundRoot (decode (c .before .before .before .before .before .before .before .before .args .m .now) .part .profile .roots)) (sym (c .enum-told .given .1) ∙ c .before .before .root-name .ensures) ∙ named-is _ (sym (c .before .before .before .before .before .memory-refusal .ensures) ∙ c .before .before .before .before .if1 .left) _ (c .before .before .before .if2 .left)
 
 pub root-named-spec : {M : Type 1} → statement M
 root-named-spec =

@@ -6,7 +6,7 @@ use lib.Dec.{ltb, eqb}
 use lib.ListN.{length}
 use Prim.Native.Nat.{_<_}
 use Rattle.machine.specs.declared.Sent.{Sent}
-use Rattle.register.specs.Register.{sentIn}
+use Rattle.register.specs.Register.{sentAtPlace}
 use Rattle.state.proofs.Laid.{laid-orders, laid-sent}
 use borrow.Author.Needs.{needs}
 use Rattle.calls.proofs.refusals.is_overdrawn.Statement.{statement}
@@ -30,7 +30,7 @@ returns : tie.Need-returns
 returns c =
     let start = c .before .before .before .before .before in
     ap (λ (sent : Sent). ltb (sent .contracts .0) (start .args .contracts) || eqb (sent .reports) 0)
-    (c .before .before .sent-in .ensures ∙ ap (λ (l : List Sent). sentIn l (start .args .i)) (laid-sent (start .pre .0)))
+    (c .before .before .sent-in .ensures ∙ ap (λ (l : List Sent). sentAtPlace l (start .args .i)) (laid-sent (start .pre .0)))
 
 pub is-overdrawn-spec : {M : Type 1} → statement M
 is-overdrawn-spec = tie.close (tie.spec sub-sent-in part-sent-in-start part-sent-in-end sent-in-requires returns)

@@ -1,19 +1,19 @@
 -- `tables::scope_of` meets its contract: the number tells the scope. Assumes nothing.
 use borrow.Author.Tests.{eq-eqb, ne-eqb}
-use Rattle.packing.specs.RulePlace.{scopeOf}
+use Rattle.packing.specs.RulePlace.{scopeFrom}
 use Rattle.tables.proofs.terms.scope_of.Statement.{statement}
 use Rattle.tables.proofs.terms.scope_of.Tie as tie
 
 returns : tie.Need-returns
-unfolding scopeOf
+unfolding scopeFrom
 returns c = rw (eq-eqb _ _ (c .if1 .taken))
 
 returns-2 : tie.Need-returns-2
-unfolding scopeOf
+unfolding scopeFrom
 returns-2 c = rw (ne-eqb _ _ (c .before .if1 .left), eq-eqb _ _ (c .if2 .taken))
 
 returns-3 : tie.Need-returns-3
-unfolding scopeOf
+unfolding scopeFrom
 returns-3 c = rw (ne-eqb _ _ (c .before .if1 .left), ne-eqb _ _ (c .if2 .left))
 
 pub scope-of-spec : {M : Type 1} → statement M

@@ -7,7 +7,7 @@ use lib.ListN.{drop}
 use borrow.Author.Tests.{eq-eqb, ne-eqb}
 use Rattle.machine.specs.declared.Sent.{Sent}
 use Rattle.machine.specs.Register.{hasIdentity}
-use Rattle.register.specs.Register.{registerOf, placeOf}
+use Rattle.register.specs.Register.{registerOf, placeOfIdentity}
 use Rattle.register.proofs.Registers.{register-long, identity-at, orders-from}
 use Rattle.register.proofs.Finding.{place-here, place-later, place-end}
 use borrow.Author.Needs.{needs}
@@ -15,7 +15,7 @@ use Rattle.register.proofs.places.place_from.Statement.{statement}
 use Rattle.register.proofs.places.place_from.Tie as tie
 
 abbrev Inv-loop : tie.InvT-loop
-Inv-loop register k from identity i₀ i = (i ≤ k) × (i + placeOf (drop i (registerOf k register)) identity ≡ from + placeOf (drop from (registerOf k register)) identity)
+Inv-loop register k from identity i₀ i = (i ≤ k) × (i + placeOfIdentity (drop i (registerOf k register)) identity ≡ from + placeOfIdentity (drop from (registerOf k register)) identity)
 
 abbrev μ-loop : tie.MeasureT-loop
 μ-loop register k from identity i₀ i = k - i
@@ -45,7 +45,7 @@ returns c =
     let a = c .before .before .before .before .before .before .args in
     let t = c .before .before .before .loop-test .taken in
     let e = identity-at (a .k) (a .register .now) (l .i) t ∙ sym (c .before .identity-of .ensures) ∙ c .if1 .taken in
-    sym (place-here (a .identity) _ _ (l .i) (eq-eqb _ _ e)) ∙ ap (λ (q : List Sent). l .i + placeOf q (a .identity)) (sym (orders-from (a .k) (a .register .now) (l .i) t)) ∙ l .inv .1
+    sym (place-here (a .identity) _ _ (l .i) (eq-eqb _ _ e)) ∙ ap (λ (q : List Sent). l .i + placeOfIdentity q (a .identity)) (sym (orders-from (a .k) (a .register .now) (l .i) t)) ∙ l .inv .1
 
 add-i : tie.Need-add-i Inv-loop μ-loop
 add-i c = search needs
@@ -61,7 +61,7 @@ loop-again c =
     let t = c .before .before .before .loop-test .taken in
     let e = identity-at (a .k) (a .register .now) (l .i) t ∙ sym (c .before .identity-of .ensures) in (
       omega arith,
-      sym (place-later (a .identity) _ _ (l .i) (ne-eqb _ _ (λ s. c .if1 .left (sym e ∙ s)))) ∙ ap (λ (q : List Sent). l .i + placeOf q (a .identity)) (sym (orders-from (a .k) (a .register .now) (l .i) t)) ∙ l .inv .1,
+      sym (place-later (a .identity) _ _ (l .i) (ne-eqb _ _ (λ s. c .if1 .left (sym e ∙ s)))) ∙ ap (λ (q : List Sent). l .i + placeOfIdentity q (a .identity)) (sym (orders-from (a .k) (a .register .now) (l .i) t)) ∙ l .inv .1,
     )
 
 returns-2 : tie.Need-returns-2 Inv-loop μ-loop
