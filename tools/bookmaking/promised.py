@@ -3,7 +3,7 @@
 import re
 from dataclasses import dataclass, field
 
-CITED = re.compile(r"`([^`]+)`(?=\s+(?:proofs|specs|src)/)|((?:proofs|specs|src)/[A-Za-z0-9_/.]*[A-Za-z0-9_])|`([^`]+)`|(\bits parts?\b)|(;)")
+CITED = re.compile(r"`([^`]+)`(?=\s+(?:proofs|specs|src)/)|((?:proofs|specs|src)/(?:[A-Za-z0-9_/.]*[A-Za-z0-9_])?)|`([^`]+)`|(\bits parts?\b)|(;)")
 STATED = re.compile(r"Demands 1 to 3 reach ([0-9,]+) definitions in ([0-9,]+) lines, all promises ([0-9,]+) in ([0-9,]+)")
 
 
