@@ -15,7 +15,7 @@ use Rattle.rules.specs.declared.Scope.{Scope}
 use Rattle.rules.specs.declared.Scope.the-variants.{EveryFill, WholeRoot, OneUnit}
 use Rattle.rules.specs.declared.Rule.{Rule}
 use Rattle.admission.specs.Admission.{howMany, isFirmRule, onUnit, crowded, seenAfter, isNext, mayJoin}
-use Rattle.admission.specs.Counting.{inOne, overIn, coveredIn, SoFar, noRules, Follows, RootIs}
+use Rattle.admission.specs.Inner.Counting.{inOne, overIn, coveredIn, SoFar, noRules, Follows, RootIs}
 use Rattle.admission.specs.declared.Tally.{Tally}
 use Rattle.admission.specs.declared.Admitted.{Admitted}
 use Rattle.admission.specs.declared.Admitted.the-variants.{With, TooMany}

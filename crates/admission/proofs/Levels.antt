@@ -7,7 +7,7 @@ use lib.Seq.{append-snoc}
 use lib.Dec.{eqb, leb, ltb}
 use borrow.Author.Tests.{eqb-true, eq-eqb, ne-eqb, ltb-false, le-ltb, leb-true, not-true}
 use native.Mathlib.Omega.{arith}
-use Rattle.laws.specs.Tests.{and-l, and-r, tests}
+use Rattle.laws.proofs.Tests.{and-l, and-r, tests}
 use Rattle.measures.specs.Ranges.{isIn, units}
 use Rattle.rules.specs.Rules.{covers}
 use Rattle.rules.specs.declared.Scope.{Scope}
@@ -17,7 +17,7 @@ use Rattle.rules.specs.declared.Limit.{Limit}
 use Rattle.rules.specs.declared.Rule.{Rule}
 use Rattle.rules.specs.Valid.{isScope}
 use Rattle.admission.specs.Admission.{howMany, isFirmRule, onUnit, crowded, seenAfter, mayFollow, areInOrder, Bounded}
-use Rattle.admission.specs.Counting.{inOne, coveredIn, RootIs}
+use Rattle.admission.specs.Inner.Counting.{inOne, coveredIn, RootIs}
 
 -- a disjunction that does not hold
 pub or-l : (a b : Bool) → (a || b) ≡ false → a ≡ false

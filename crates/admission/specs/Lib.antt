@@ -1,2 +1,2 @@
 pub mod Admission
-pub mod Counting
+pub mod Inner

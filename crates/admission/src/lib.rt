@@ -3,7 +3,7 @@ ghost use mathlib.Core.Path.{_≡_};
 ghost use mathlib.Core.List.{List};
 ghost use Prim.Native.Nat.{ℕ, _+_, _<_, max};
 ghost use Rattle.rules.specs.declared.Rule.{Rule};
-ghost use Rattle.admission.specs.Counting.{SoFar, CountsSome, Follows, Numbered, RootIs, overIn, coveredIn};
+ghost use Rattle.admission.specs.Inner.Counting.{SoFar, CountsSome, Follows, Numbered, RootIs, overIn, coveredIn};
 use rules::Rule;
 use rules::Scope;
 

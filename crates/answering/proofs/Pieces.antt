@@ -6,7 +6,7 @@ use native.Mathlib.Nat.{add-zero, zero-add, suc-add}
 use native.Mathlib.Omega.{arith}
 use lib.ListN.{length, take, drop, length-append, length-drop}
 use lib.Seq.{take-append-le, drop-append-le}
-use Rattle.tables.specs.Tables.{places}
+use Rattle.tables.specs.Inner.Tables.{places}
 use Rattle.answering.specs.Lines.{recordLine}
 use Rattle.answering.specs.Run.{recordAnswer, recordMemory, recordCount, firstRecords, recordsOf, fitting, taken, memoryAfter, linesOf}
 

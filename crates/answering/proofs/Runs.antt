@@ -9,7 +9,7 @@ use native.Mathlib.Omega.{arith}
 use lib.ListN.{length, take, drop, length-append}
 use lib.Seq.{sets, sets-eq, length-sets, take-all, drop-drop}
 use Rattle.text.proofs.Written.{sets-append}
-use Rattle.tables.specs.Tables.{places}
+use Rattle.tables.specs.Inner.Tables.{places}
 use Rattle.profile.specs.declared.Reading.{Reading as Arming}
 use Rattle.answering.specs.Lines.{armLine, recordLine}
 use Rattle.answering.specs.Run.{Line, inFront, isArmed, openedOf, recordAnswer, recordMemory, recordCount, recordAt, firstRecords, fitting, taken, memoryAfter, linesOf, ranOf}

@@ -6,7 +6,7 @@ use native.Mathlib.Numerals.{add-one}
 use native.Mathlib.Omega.{arith}
 use lib.ListN.{length, getD, drop, set, length-append, length-set}
 use lib.Seq.{sets, length-sets}
-use Rattle.laws.specs.Lists.{from, ended}
+use Rattle.laws.proofs.Lists.{from, ended}
 use Rattle.text.specs.Digits.{decimal}
 use Rattle.text.proofs.Decimal.{decimal-few}
 use Rattle.text.proofs.Written.{sets-append}

@@ -3,7 +3,7 @@ use Prim.Native.Nat.{ℕ, _+_, _-_, _*_, _/_, _%_, _^_, min, _≤_, _<_}
 use mathlib.Core.Bool.{Bool, true, false}
 use mathlib.Core.List.{List, [], _∷_, _++_}
 use lib.ListN.{length, take, drop}
-use Rattle.tables.specs.Tables.{places}
+use Rattle.tables.specs.Inner.Tables.{places}
 use Rattle.profile.specs.declared.Reading.{Reading as Arming}
 use Rattle.profile.specs.declared.Reading.the-variants.{Accepted, Refused as NotArmed}
 use Rattle.machine.specs.Calls.{Call, order, lockout, offer}

@@ -7,7 +7,7 @@ use mathlib.Core.Logic.{_↔_}
 use mathlib.Core.Bool.{Bool, true, false, false≢true}
 use mathlib.Core.List.{List, [], _∷_}
 use Rattle.rules.specs.Allowance.{Largest, KeepsAll}
-use Rattle.tables.specs.Tables.{zeros}
+use Rattle.tables.specs.Inner.Tables.{zeros}
 use Rattle.laws.specs.Folds.{every}
 use Rattle.machine.specs.State.{State, armed as justArmed}
 use Rattle.machine.specs.Calls.{offer, remaining, status}
@@ -27,7 +27,7 @@ use Rattle.promises.proofs.Holds.{ready-holds, holds-ready}
 use Rattle.promises.proofs.Answered.{acted-answer, refused-by, by-refused, taken}
 use Rattle.bench.specs.Lent.{Memory, Text, Verdict, numbersIn, Called, Offered, called}
 use Rattle.bench.specs.Library.{Library, Meets, Unarmed, answersBy, RefusesTexts, RefusesCalls, GrantsAlways, ArmStoresNothing, StoresNoFill, CountsFirstOnly, hundred, forty}
-use Rattle.laws.specs.One.{alike}
+use Rattle.laws.proofs.One.{alike}
 use Rattle.bench.proofs.Words.{below-zeros, tested-below}
 use Rattle.bench.proofs.Computed.{hundred-read, forties}
 use Rattle.bench.proofs.Runs.{arm-accepted, arm-leaves, call-leaves, armed-answers}

@@ -10,7 +10,7 @@ use borrow.Author.Tests.{eqb-true}
 use Rattle.profile.specs.Profile.{outcomeOf}
 use Rattle.laws.specs.Folds.{every}
 use Rattle.text.specs.Text.{bytes}
-use Rattle.tables.specs.Tables.{zeros}
+use Rattle.tables.specs.Inner.Tables.{zeros}
 use Rattle.state.specs.State.{size, stored, decode}
 use Rattle.machine.specs.State.{State, armed}
 use Rattle.machine.specs.Calls.{Call}

@@ -9,14 +9,14 @@ use lib.ListN.{length, drop}
 use lib.Dec.{ltb, lit<, lit≤}
 use lib.Pow.{pow-mono}
 use borrow.Author.Tests.{ltb-true}
-use Rattle.laws.specs.Tests.{and-l, and-r, tests, under}
+use Rattle.laws.proofs.Tests.{and-l, and-r, tests, under}
 use Rattle.measures.specs.Ranges.{times, totals}
 use Rattle.bits.specs.Fields.{total}
 use Rattle.bits.proofs.Packing.{packed-lt}
 use Rattle.rules.specs.declared.Rule.{Rule}
 use Rattle.rules.specs.declared.Account.{Account}
 use Rattle.text.specs.Text.{isNameByte}
-use Rattle.tables.specs.Tables.{zeros, flat, tableNumbers}
+use Rattle.tables.specs.Inner.Tables.{zeros, flat, tableNumbers}
 use Rattle.laws.specs.Folds.{every}
 use Rattle.rules.specs.Amounts.{numberOf}
 use Rattle.rules.specs.Valid.{isRule}

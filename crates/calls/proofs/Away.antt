@@ -8,7 +8,7 @@ use lib.ListN.{length}
 use lib.Dec.{leb, ltb, eqb}
 use borrow.Author.Tests.{lt-ltb, le-ltb, ltb-true, le-leb, lt-leb, eqb-false, not-false}
 use Rattle.laws.specs.Folds.{keep}
-use Rattle.laws.specs.Tests.{and-l, and-r}
+use Rattle.laws.proofs.Tests.{and-l, and-r}
 use Rattle.measures.proofs.Determined.{test-in}
 use Rattle.machine.specs.Entries.{areOrdered}
 use Rattle.measures.specs.Ranges.{isIn, units, premiums, offers, identities, reportsAsked}
@@ -29,13 +29,13 @@ use Rattle.machine.specs.declared.Answer.the-variants.{Judged}
 use Rattle.register.specs.Register.{registerNumbers, registerIn, placeOfIdentity, sentAtPlace}
 use Rattle.register.proofs.Finding.{place-open, place-sent, place-identity}
 use Rattle.state.specs.State.{decode, stored}
-use Rattle.state.specs.Laid.{Laid, withClock, withRegister}
-use Rattle.state.specs.Tests.{registerPart, putRegister}
+use Rattle.state.specs.Inner.Laid.{Laid, withClock, withRegister}
+use Rattle.state.specs.Inner.Tests.{registerPart, putRegister}
 use Rattle.state.proofs.Laid.{laid-sent}
 use Rattle.state.proofs.After.{Holds, held-laid, held-state, step-on, register-after}
 use Rattle.state.proofs.Exactly.{sound-decode}
 use Rattle.state.specs.Sound.{SoundState}
-use Rattle.grant.specs.Grant.{Returning, Returned}
+use Rattle.grant.specs.Inner.Grant.{Returning, Returned}
 use Rattle.grant.specs.declared.Trips.{Trips}
 use Rattle.calls.specs.Calls.{timedRefusal, refusalIn, callAnswer, callMemory}
 use Rattle.calls.proofs.Armed.{sound-memory}

@@ -4,7 +4,7 @@ use mathlib.Core.Path.{_≡_, sym, ap, _∙_}
 use mathlib.Core.List.{List, [], _∷_, _++_}
 use lib.ListN.{length, drop}
 use borrow.Author.Tests.{eq-eqb, ne-eqb, le-ltb, lt-ltb}
-use Rattle.tables.specs.Tables.{zeros}
+use Rattle.tables.specs.Inner.Tables.{zeros}
 use Rattle.profile.specs.Profile.{outcomeOf, readingOf, scanOf}
 use Rattle.profile.specs.declared.Scan.{Scan}
 use Rattle.profile.specs.declared.Reading.the-variants.{Accepted, Refused as NotRead}

@@ -8,7 +8,7 @@ use mathlib.Core.List.{List}
 use lib.ListN.{length}
 use lib.Dec.{eqb, leb, ltb}
 use borrow.Author.Tests.{ne-eqb, lt-ltb, le-ltb, le-leb, leb-true, ltb-true, ltb-false, not-false}
-use Rattle.laws.specs.Tests.{and-l, and-r, same-test}
+use Rattle.laws.proofs.Tests.{and-l, and-r, same-test}
 use Rattle.measures.specs.Ranges.{isIn, times, units, premiums, offers}
 use Rattle.measures.proofs.Determined.{test-in}
 use Rattle.rules.specs.declared.Level.the-variants.{Firm, Root}
@@ -22,14 +22,14 @@ use Rattle.machine.specs.Locks.{verdictOf}
 use Rattle.machine.specs.Offers.{grantOf, levelTrips, longest}
 use Rattle.machine.specs.Judge.{logPlaces, filled, offered, judged, isRefusal}
 use Rattle.state.specs.State.{decode, stored}
-use Rattle.state.specs.Laid.{withClock}
+use Rattle.state.specs.Inner.Laid.{withClock}
 use Rattle.state.proofs.Exactly.{sound-decode}
 use Rattle.machine.specs.declared.Offer.{Offer}
 use Rattle.machine.specs.declared.Answer.the-variants.{Judged}
 use Rattle.machine.specs.Deeds.{granted, filling, clockAfter}
 use Rattle.machine.specs.Step.{after, partAfter, accountsAfter, locksAfter, logAfter}
 use Rattle.machine.proofs.Lists.{ordered-wider}
-use Rattle.grant.specs.Grant.{Fillable, AreCuts, Ready, HasRoom}
+use Rattle.grant.specs.Inner.Grant.{Fillable, AreCuts, Ready, HasRoom}
 use Rattle.grant.specs.declared.Cuts.{Cuts}
 use Rattle.grant.proofs.Trip.{grant-cuts}
 use Rattle.calls.specs.Calls.{memoryRefusal, timedRefusal, refusalIn, offerRefusal, callAnswer, callMemory, isShortOf, Met, Granting}

@@ -24,7 +24,7 @@ use Rattle.machine.proofs.Keeps.{remaining-same, status-same}
 use Rattle.machine.proofs.Sound.{step-sound}
 use Rattle.state.specs.State.{decode, stored}
 use Rattle.state.specs.Sound.{Given, SoundState, isSound}
-use Rattle.state.specs.Laid.{Laid}
+use Rattle.state.specs.Inner.Laid.{Laid}
 use Rattle.state.proofs.Stored.{decode-stored}
 use Rattle.state.proofs.Exactly.{made-parts, given-is-made, sound-decode, sound-state-fits, sound-stored, sound-is-laid}
 use Rattle.calls.specs.Calls.{memoryRefusal, refusalIn, callAnswer, callMemory}

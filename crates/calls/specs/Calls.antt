@@ -6,7 +6,7 @@ use mathlib.Core.List.{List, [], _∷_, _++_}
 use lib.ListN.{length, getD, drop}
 use lib.Dec.{leb, ltb, eqb}
 use Rattle.text.specs.Text.{bytes}
-use Rattle.tables.specs.Tables.{zeros}
+use Rattle.tables.specs.Inner.Tables.{zeros}
 use Rattle.profile.specs.Profile.{outcomeOf, readingOf}
 use Rattle.profile.specs.declared.Reading.{Reading}
 use Rattle.profile.specs.declared.Reading.the-variants.{Refused as NotRead}
@@ -20,7 +20,7 @@ use Rattle.machine.specs.Locks.{verdictOf}
 use Rattle.state.specs.Sound.{isSound}
 use Rattle.measures.specs.Ranges.{isIn, units, premiums, offers}
 use Rattle.machine.specs.declared.Offer.{Offer}
-use Rattle.grant.specs.Grant.{Fillable}
+use Rattle.grant.specs.Inner.Grant.{Fillable}
 use Rattle.machine.specs.declared.Answer.{Answer}
 use Rattle.machine.specs.declared.Answer.the-variants.{Refused}
 use Rattle.calls.specs.declared.Clearing.{Clearing}

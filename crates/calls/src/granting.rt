@@ -7,7 +7,7 @@ ghost use Rattle.machine.specs.Entries.{areOrdered};
 ghost use Rattle.machine.specs.Judge.{logPlaces};
 ghost use Rattle.machine.specs.Refusals.{noPlaces};
 ghost use Rattle.state.specs.State.{decode};
-ghost use Rattle.state.specs.Laid.{Laid};
+ghost use Rattle.state.specs.Inner.Laid.{Laid};
 ghost use Rattle.calls.specs.Calls.{isShortOf, Granting, callAnswer, callMemory};
 use machine::Answer;
 use machine::Offer;

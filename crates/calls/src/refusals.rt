@@ -11,7 +11,7 @@ ghost use Rattle.machine.specs.Remaining.{isCell};
 ghost use Rattle.machine.specs.Register.{isOpen};
 ghost use Rattle.register.specs.Register.{sentAtPlace};
 ghost use Rattle.state.specs.State.{decode};
-ghost use Rattle.state.specs.Laid.{Laid};
+ghost use Rattle.state.specs.Inner.Laid.{Laid};
 ghost use Rattle.calls.specs.Calls.{timedRefusal, refusalIn, offerRefusal};
 use crate::granting;
 use crate::memory_refusal;

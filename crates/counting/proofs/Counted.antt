@@ -17,13 +17,13 @@ use Rattle.machine.specs.declared.Entry.{Entry}
 use Rattle.machine.specs.Entries.{entryShare}
 use Rattle.machine.specs.Offers.{counted}
 use Rattle.machine.specs.Remaining.{leftOf}
-use Rattle.log.specs.Sieve.{sieveOf}
-use Rattle.log.specs.Memo.{recalledOf}
+use Rattle.log.specs.Inner.Sieve.{sieveOf}
+use Rattle.log.specs.Inner.Memo.{recalledOf}
 use Rattle.log.specs.declared.Two.{Two}
 use Rattle.state.specs.State.{decode}
-use Rattle.state.specs.Laid.{Laid, accountIn}
+use Rattle.state.specs.Inner.Laid.{Laid, accountIn}
 use Rattle.state.proofs.Laid.{laid-measured}
-use Rattle.counting.specs.Counting.{IsLogged, memosAfter}
+use Rattle.counting.specs.Inner.Counting.{IsLogged, memosAfter}
 
 -- what the log counts for a rule is what the rule takes for it, and for an absolute rule anything is
 module _ {log : List Entry} {rule : Rule} {time : ℕ} where

@@ -6,7 +6,7 @@ use mathlib.Core.List.{List, [], _∷_, _++_, map}
 use lib.Dec.{eqb, ltb}
 use borrow.Author.Tests.{ltb-false, le-ltb, eqb-true}
 use native.Mathlib.Omega.{arith}
-use Rattle.laws.specs.Tests.{and-l}
+use Rattle.laws.proofs.Tests.{and-l}
 use Rattle.measures.specs.Ranges.{totals}
 use Rattle.rules.specs.Rules.{levelOf, covers, isRate, counts, countedOf, held, added, share}
 use Rattle.rules.specs.Allowance.{All}

@@ -6,7 +6,7 @@ use mathlib.Core.List.{List, [], _∷_, _++_}
 use lib.Dec.{leb}
 use borrow.Author.Tests.{ltb-true, leb-true, lt-ltb}
 use native.Mathlib.Omega.{arith}
-use Rattle.laws.specs.Tests.{and-l, and-r}
+use Rattle.laws.proofs.Tests.{and-l, and-r}
 use Rattle.rules.specs.Rules.{levelOf, counts, ceiling}
 use Rattle.rules.specs.declared.Kind.{Kind}
 use Rattle.rules.specs.declared.Kind.the-variants.{Rate, Absolute}

@@ -7,7 +7,7 @@ use borrow.Author.Tests.{le-leb, not-false}
 use native.Mathlib.Nat.{le-refl}
 use native.Mathlib.Omega.{arith}
 use mathlib.Core.Path.{fun-ext}
-use Rattle.laws.specs.Tests.{and-l}
+use Rattle.laws.proofs.Tests.{and-l}
 use Rattle.measures.specs.Ranges.{isIn, times}
 use Rattle.rules.specs.declared.Level.{Level}
 use Rattle.rules.specs.declared.Level.the-variants.{Firm, Root}

@@ -6,7 +6,7 @@ use mathlib.Core.Bool.{true, false, _&&_, false≢true, and-false}
 use mathlib.Core.List.{List, [], _∷_, map}
 use lib.Pow.{pow-pos}
 use Rattle.bits.proofs.Words.{bit-beyond}
-use Rattle.laws.specs.Tests.{tests}
+use Rattle.laws.proofs.Tests.{tests}
 use Rattle.measures.specs.Ranges.{totals}
 use Rattle.rules.specs.Rules.{levelOf, countedOf, held, ceiling}
 use Rattle.rules.specs.Allowance.{All}

@@ -6,7 +6,7 @@ use mathlib.Core.Bool.{Bool, true, false, cond, _&&_, false≢true, or-true}
 use mathlib.Core.List.{List, List·Memᴰ}
 use borrow.Author.Tests.{eqb-true, eq-eqb}
 use native.Mathlib.Omega.{arith}
-use Rattle.laws.specs.Tests.{and-l, and-r}
+use Rattle.laws.proofs.Tests.{and-l, and-r}
 use Rattle.laws.specs.Folds.{anyOf}
 use Rattle.bits.specs.Locks.{here, first}
 use Rattle.rules.specs.Rules.{levelOf}

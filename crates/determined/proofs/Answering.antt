@@ -1,7 +1,7 @@
 -- The contracts of `answering` determine what a call gives: one theorem for each public function. Assumes nothing.
 use mathlib.Core.Path.{refl}
 use Rattle.determined.specs.Determines.{Determines}
-use Rattle.laws.specs.One.{alike}
+use Rattle.laws.proofs.One.{alike}
 use Rattle.answering.proofs.arm.Kinds as arm-kinds
 use Rattle.answering.proofs.arm.Reads as arm-reads
 use Rattle.answering.proofs.answer_record.Kinds as answer-record-kinds

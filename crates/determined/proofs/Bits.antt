@@ -1,7 +1,7 @@
 -- The contracts of `bits` determine what a call gives: one theorem for each public function. Assumes nothing.
 use mathlib.Core.Path.{refl}
 use Rattle.determined.specs.Determines.{Determines}
-use Rattle.laws.specs.One.{alike}
+use Rattle.laws.proofs.One.{alike}
 use Rattle.bits.proofs.read_fields.Kinds as read-fields-kinds
 use Rattle.bits.proofs.read_fields.Reads as read-fields-reads
 use Rattle.bits.proofs.write_fields.Kinds as write-fields-kinds

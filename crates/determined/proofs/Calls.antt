@@ -1,7 +1,7 @@
 -- The contracts of `calls` determine what a call gives: one theorem for each public function. Assumes nothing.
 use mathlib.Core.Path.{refl}
 use Rattle.determined.specs.Determines.{Determines}
-use Rattle.laws.specs.One.{alike}
+use Rattle.laws.proofs.One.{alike}
 use Rattle.calls.proofs.arm.Kinds as arm-kinds
 use Rattle.calls.proofs.arm.Reads as arm-reads
 use Rattle.calls.proofs.clear.Kinds as clear-kinds

@@ -1,7 +1,7 @@
 -- The contracts of `capi` determine what a call gives: one theorem for each public function. Assumes nothing.
 use mathlib.Core.Path.{refl}
 use Rattle.determined.specs.Determines.{Determines}
-use Rattle.laws.specs.One.{alike}
+use Rattle.laws.proofs.One.{alike}
 use Rattle.capi.proofs.mbrumzheg_arm.Kinds as mbrumzheg-arm-kinds
 use Rattle.capi.proofs.mbrumzheg_arm.Reads as mbrumzheg-arm-reads
 use Rattle.capi.proofs.mbrumzheg_clear.Kinds as mbrumzheg-clear-kinds

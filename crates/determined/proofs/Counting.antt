@@ -1,7 +1,7 @@
 -- The contracts of `counting` determine what a call gives: one theorem for each public function. Assumes nothing.
 use mathlib.Core.Path.{refl}
 use Rattle.determined.specs.Determines.{Determines}
-use Rattle.laws.specs.One.{alike}
+use Rattle.laws.proofs.One.{alike}
 use Rattle.counting.proofs.counted_by.Kinds as counted-by-kinds
 use Rattle.counting.proofs.counted_by.Reads as counted-by-reads
 use Rattle.counting.proofs.left.Kinds as left-kinds

@@ -1,7 +1,7 @@
 -- The contracts of `given` determine what a call gives: one theorem for each public function. Assumes nothing.
 use mathlib.Core.Path.{refl}
 use Rattle.determined.specs.Determines.{Determines}
-use Rattle.laws.specs.One.{alike}
+use Rattle.laws.proofs.One.{alike}
 use Rattle.given.proofs.is_name_number.Kinds as is-name-number-kinds
 use Rattle.given.proofs.is_name_number.Reads as is-name-number-reads
 use Rattle.given.proofs.are_roots.Kinds as are-roots-kinds

@@ -1,7 +1,7 @@
 -- The contracts of `grant` determine what a call gives: one theorem for each public function. Assumes nothing.
 use mathlib.Core.Path.{refl}
 use Rattle.determined.specs.Determines.{Determines}
-use Rattle.laws.specs.One.{alike}
+use Rattle.laws.proofs.One.{alike}
 use Rattle.grant.proofs.cuts_of.Kinds as cuts-of-kinds
 use Rattle.grant.proofs.cuts_of.Reads as cuts-of-reads
 use Rattle.grant.proofs.come_back.Kinds as come-back-kinds

@@ -1,7 +1,7 @@
 -- The contracts of `line` determine what a call gives: one theorem for each public function. Assumes nothing.
 use mathlib.Core.Path.{refl}
 use Rattle.determined.specs.Determines.{Determines}
-use Rattle.laws.specs.One.{alike}
+use Rattle.laws.proofs.One.{alike}
 use Rattle.line.proofs.firm_of.Kinds as firm-of-kinds
 use Rattle.line.proofs.firm_of.Reads as firm-of-reads
 use Rattle.line.proofs.read_line.Kinds as read-line-kinds

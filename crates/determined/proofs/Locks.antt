@@ -1,7 +1,7 @@
 -- The contracts of `locks` determine what a call gives: one theorem for each public function. Assumes nothing.
 use mathlib.Core.Path.{refl}
 use Rattle.determined.specs.Determines.{Determines}
-use Rattle.laws.specs.One.{alike}
+use Rattle.laws.proofs.One.{alike}
 use Rattle.locks.proofs.verdict.Kinds as verdict-kinds
 use Rattle.locks.proofs.verdict.Reads as verdict-reads
 use Rattle.locks.proofs.standing.Kinds as standing-kinds

@@ -1,7 +1,7 @@
 -- The contracts of `log` determine what a call gives: one theorem for each public function. Assumes nothing.
 use mathlib.Core.Path.{refl}
 use Rattle.determined.specs.Determines.{Determines}
-use Rattle.laws.specs.One.{alike}
+use Rattle.laws.proofs.One.{alike}
 use Rattle.log.proofs.is_log.Kinds as is-log-kinds
 use Rattle.log.proofs.is_log.Reads as is-log-reads
 use Rattle.log.proofs.counted.Kinds as counted-kinds

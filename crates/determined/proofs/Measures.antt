@@ -3,7 +3,7 @@ use mathlib.Core.Path.{refl}
 use Rattle.measures.specs.Ranges.{dollarLimits, premiums, totals, offers, numberLimits}
 use Rattle.measures.proofs.Determined.{dollars-determined, ten-thousandths-determined, contracts-determined, executions-determined}
 use Rattle.determined.specs.Determines.{Determines}
-use Rattle.laws.specs.One.{alike}
+use Rattle.laws.proofs.One.{alike}
 use Rattle.measures.proofs.is_in.Kinds as is-in-kinds
 use Rattle.measures.proofs.is_in.Reads as is-in-reads
 use Rattle.measures.proofs.Dollars.limit.Kinds as dollars-limit-kinds

@@ -1,7 +1,7 @@
 -- The contracts of `numbers` determine what a call gives: one theorem for each public function. Assumes nothing.
 use mathlib.Core.Path.{refl}
 use Rattle.determined.specs.Determines.{Determines}
-use Rattle.laws.specs.One.{alike}
+use Rattle.laws.proofs.One.{alike}
 use Rattle.numbers.proofs.least.Kinds as least-kinds
 use Rattle.numbers.proofs.least.Reads as least-reads
 use Rattle.numbers.proofs.greatest.Kinds as greatest-kinds

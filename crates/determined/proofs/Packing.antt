@@ -1,7 +1,7 @@
 -- The contracts of `packing` determine what a call gives: one theorem for each public function. Assumes nothing.
 use mathlib.Core.Path.{refl}
 use Rattle.determined.specs.Determines.{Determines}
-use Rattle.laws.specs.One.{alike}
+use Rattle.laws.proofs.One.{alike}
 use Rattle.packing.proofs.rule_of.Kinds as rule-of-kinds
 use Rattle.packing.proofs.rule_of.Reads as rule-of-reads
 use Rattle.packing.proofs.is_rule.Kinds as is-rule-kinds

@@ -1,7 +1,7 @@
 -- The contracts of `profile` determine what a call gives: one theorem for each public function. Assumes nothing.
 use mathlib.Core.Path.{refl}
 use Rattle.determined.specs.Determines.{Determines}
-use Rattle.laws.specs.One.{alike}
+use Rattle.laws.proofs.One.{alike}
 use Rattle.profile.proofs.root_number.Kinds as root-number-kinds
 use Rattle.profile.proofs.root_number.Reads as root-number-reads
 use Rattle.profile.proofs.read.Kinds as read-kinds

@@ -3,7 +3,7 @@ use Prim.Native.Nat.{ℕ}
 use mathlib.Core.List.{List}
 use mathlib.Core.Path.{refl}
 use Rattle.determined.specs.Determines.{DeterminesSeen}
-use Rattle.laws.specs.One.{alike}
+use Rattle.laws.proofs.One.{alike}
 use Rattle.reader.proofs.line_from.Kinds as line-from-kinds
 use Rattle.reader.proofs.line_from.Reads as line-from-reads
 

@@ -1,7 +1,7 @@
 -- The contracts of `records` determine what a call gives: one theorem for each public function. Assumes nothing.
 use mathlib.Core.Path.{refl}
 use Rattle.determined.specs.Determines.{Determines}
-use Rattle.laws.specs.One.{alike}
+use Rattle.laws.proofs.One.{alike}
 use Rattle.records.proofs.is_valid.Kinds as is-valid-kinds
 use Rattle.records.proofs.is_valid.Reads as is-valid-reads
 use Rattle.records.proofs.read.Kinds as read-kinds

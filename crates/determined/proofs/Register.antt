@@ -1,7 +1,7 @@
 -- The contracts of `register` determine what a call gives: one theorem for each public function. Assumes nothing.
 use mathlib.Core.Path.{refl}
 use Rattle.determined.specs.Determines.{Determines}
-use Rattle.laws.specs.One.{alike}
+use Rattle.laws.proofs.One.{alike}
 use Rattle.register.proofs.is_register.Kinds as is-register-kinds
 use Rattle.register.proofs.is_register.Reads as is-register-reads
 use Rattle.register.proofs.find.Kinds as find-kinds

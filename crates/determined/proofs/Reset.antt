@@ -1,7 +1,7 @@
 -- The contracts of `reset` determine what a call gives: one theorem for each public function. Assumes nothing.
 use mathlib.Core.Path.{refl}
 use Rattle.determined.specs.Determines.{Determines}
-use Rattle.laws.specs.One.{alike}
+use Rattle.laws.proofs.One.{alike}
 use Rattle.reset.proofs.lock_out.Kinds as lock-out-kinds
 use Rattle.reset.proofs.lock_out.Reads as lock-out-reads
 use Rattle.reset.proofs.reset_state.Kinds as reset-state-kinds

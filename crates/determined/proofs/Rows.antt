@@ -1,7 +1,7 @@
 -- The contracts of `rows` determine what a call gives: one theorem for each public function. Assumes nothing.
 use mathlib.Core.Path.{refl}
 use Rattle.determined.specs.Determines.{Determines}
-use Rattle.laws.specs.One.{alike}
+use Rattle.laws.proofs.One.{alike}
 use Rattle.rows.proofs.put_row.Kinds as put-row-kinds
 use Rattle.rows.proofs.put_row.Reads as put-row-reads
 use Rattle.rows.proofs.put_answer.Kinds as put-answer-kinds

@@ -1,7 +1,7 @@
 -- The contracts of `rules` determine what a call gives: one theorem for each public function. Assumes nothing.
 use mathlib.Core.Path.{refl}
 use Rattle.determined.specs.Determines.{Determines}
-use Rattle.laws.specs.One.{alike}
+use Rattle.laws.proofs.One.{alike}
 use Rattle.rules.proofs.Rule.covers.Kinds as rule-covers-kinds
 use Rattle.rules.proofs.Rule.covers.Reads as rule-covers-reads
 use Rattle.rules.proofs.Rule.counted.Kinds as rule-counted-kinds

@@ -1,7 +1,7 @@
 -- The contracts of `state` determine what a call gives: one theorem for each public function. Assumes nothing.
 use mathlib.Core.Path.{refl}
 use Rattle.determined.specs.Determines.{Determines}
-use Rattle.laws.specs.One.{alike}
+use Rattle.laws.proofs.One.{alike}
 use Rattle.state.proofs.write_armed.Kinds as write-armed-kinds
 use Rattle.state.proofs.write_armed.Reads as write-armed-reads
 use Rattle.state.proofs.is_sound.Kinds as is-sound-kinds

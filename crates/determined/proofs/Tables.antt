@@ -1,7 +1,7 @@
 -- The contracts of `tables` determine what a call gives: one theorem for each public function. Assumes nothing.
 use mathlib.Core.Path.{refl}
 use Rattle.determined.specs.Determines.{Determines}
-use Rattle.laws.specs.One.{alike}
+use Rattle.laws.proofs.One.{alike}
 use Rattle.tables.proofs.is_zero.Kinds as is-zero-kinds
 use Rattle.tables.proofs.is_zero.Reads as is-zero-reads
 

@@ -3,7 +3,7 @@ use Prim.Native.Nat.{ℕ}
 use mathlib.Core.List.{List}
 use mathlib.Core.Path.{refl}
 use Rattle.determined.specs.Determines.{DeterminesSeen, Determines}
-use Rattle.laws.specs.One.{alike}
+use Rattle.laws.proofs.One.{alike}
 use Rattle.text.proofs.find.Kinds as find-kinds
 use Rattle.text.proofs.find.Reads as find-reads
 use Rattle.text.proofs.field_at.Kinds as field-at-kinds

@@ -1,7 +1,7 @@
 -- The contracts of `views` determine what a call gives: one theorem for each public function. Assumes nothing.
 use mathlib.Core.Path.{refl}
 use Rattle.determined.specs.Determines.{Determines}
-use Rattle.laws.specs.One.{alike}
+use Rattle.laws.proofs.One.{alike}
 use Rattle.views.proofs.root_named.Kinds as root-named-kinds
 use Rattle.views.proofs.root_named.Reads as root-named-reads
 use Rattle.views.proofs.root_name.Kinds as root-name-kinds

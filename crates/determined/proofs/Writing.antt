@@ -1,7 +1,7 @@
 -- The contracts of `writing` determine what a call gives: one theorem for each public function. Assumes nothing.
 use mathlib.Core.Path.{refl}
 use Rattle.determined.specs.Determines.{Determines}
-use Rattle.laws.specs.One.{alike}
+use Rattle.laws.proofs.One.{alike}
 use Rattle.writing.proofs.text_size.Kinds as text-size-kinds
 use Rattle.writing.proofs.text_size.Reads as text-size-reads
 use Rattle.writing.proofs.write_text.Kinds as write-text-kinds

@@ -6,7 +6,7 @@ use mathlib.Core.List.{List}
 use lib.ListN.{getD, take, drop}
 use lib.Dec.{leb}
 use borrow.Author.Tests.{leb-true, lt-leb, le-leb, not-true, not-false}
-use Rattle.laws.specs.Tests.{and-r}
+use Rattle.laws.proofs.Tests.{and-r}
 use Rattle.measures.specs.Ranges.{_to_, isIn}
 use Rattle.given.specs.Parts.{namesHold, placesHold, rootsHold, placesOf, rulesHold}
 

@@ -7,11 +7,11 @@ use lib.ListN.{length, getD}
 use lib.Dec.{eqb, leb, lit<}
 use borrow.Author.Tests.{eqb-false, ne-eqb, le-leb, leb-true}
 use native.Mathlib.Omega.{arith}
-use Rattle.laws.specs.Tests.{and-l, and-r, and-i}
+use Rattle.laws.proofs.Tests.{and-l, and-r, and-i}
 use Rattle.text.specs.Text.{indexOf, isDigit, isNameByte}
 use Rattle.machine.specs.State.{Profile}
 use Rattle.profile.specs.Profile.{Outcome, outcomeOf}
-use Rattle.profile.specs.Lawful.{IsNameNumber, Lawful}
+use Rattle.profile.specs.Inner.Lawful.{IsNameNumber, Lawful}
 use Rattle.profile.proofs.Laws.{lawful, accepted-some, accepted-named}
 use Rattle.text.specs.Digits.{nameBytes}
 use Rattle.given.specs.Names.{isNameNumber}

@@ -7,9 +7,9 @@ use native.Mathlib.Omega.{arith}
 use native.Mathlib.Numerals.{add-one}
 use lib.ListN.{length, getD, drop, set, replicate, length-set}
 use lib.Seq.{getD-set-same, getD-set-other}
-use Rattle.laws.specs.Lists.{from}
-use Rattle.laws.specs.Marks.{unmarked}
-use Rattle.tables.specs.Tables.{allZero}
+use Rattle.laws.proofs.Lists.{from}
+use Rattle.laws.proofs.Marks.{unmarked}
+use Rattle.tables.specs.Inner.Tables.{allZero}
 use Rattle.given.specs.Names.{isNameNumber}
 use Rattle.given.specs.Given.{isFresh, areRoots}
 use Rattle.given.specs.Parts.{namesHold}

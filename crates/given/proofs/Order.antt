@@ -10,20 +10,20 @@ use borrow.Author.Tests.{le-ltb, ltb-true}
 use native.Mathlib.Nat.{sub-zero}
 use native.Mathlib.Numerals.{add-one}
 use native.Mathlib.Omega.{arith}
-use Rattle.laws.specs.Tests.{and-l, and-r}
+use Rattle.laws.proofs.Tests.{and-l, and-r}
 use Rattle.laws.specs.Lists.{same}
 use Rattle.measures.specs.Ranges.{isIn, units}
 use Rattle.rules.specs.declared.Scope.{Scope}
 use Rattle.rules.specs.declared.Scope.the-variants.{EveryFill, WholeRoot, OneUnit}
 use Rattle.rules.specs.declared.Rule.{Rule}
 use Rattle.rules.specs.Valid.{isLimit, isKind, isScope, isRule}
-use Rattle.tables.specs.Tables.{allZero, places, isPlace, placesPass}
+use Rattle.tables.specs.Inner.Tables.{allZero, places, isPlace, placesPass}
 use Rattle.packing.specs.RulePlace.{ruleAt, ruleNumbers, isRulePlace}
 use Rattle.tables.proofs.Tables.{length-places}
 use Rattle.tables.proofs.Passing.{pass-on}
 use Rattle.packing.proofs.RulePlace.{rule-codec}
 use Rattle.admission.specs.Admission.{seenAfter, mayJoin, mayFollow, areInOrder}
-use Rattle.admission.specs.Counting.{SoFar, noRules, Follows}
+use Rattle.admission.specs.Inner.Counting.{SoFar, noRules, Follows}
 use Rattle.admission.specs.declared.Admitted.the-variants.{With, TooMany}
 use Rattle.admission.specs.declared.Tally.{Tally}
 use Rattle.admission.proofs.Joining.{none-so-far}

@@ -8,7 +8,7 @@ use mathlib.Core.List.{List, [], _∷_, _++_}
 use lib.ListN.{length, getD, take, drop, length-drop, length-map}
 use lib.Seq.{take-all, drop-drop}
 use lib.Dec.{eqb}
-use Rattle.laws.specs.Lists.{from, ended}
+use Rattle.laws.proofs.Lists.{from, ended}
 use Rattle.rules.specs.Rules.{isRate}
 use Rattle.rules.specs.Units.{unitsOf, ofUnit}
 use Rattle.rules.specs.declared.Scope.the-variants.{WholeRoot}
@@ -16,7 +16,7 @@ use Rattle.rules.specs.declared.Rule.{Rule}
 use Rattle.machine.specs.State.{cellsBy, cellsOf}
 use Rattle.machine.specs.Offers.{windowOf, longest}
 use Rattle.machine.proofs.Cells.{cells-self}
-use Rattle.tables.specs.Tables.{allZero, places}
+use Rattle.tables.specs.Inner.Tables.{allZero, places}
 use Rattle.packing.specs.RulePlace.{ruleAt}
 use Rattle.tables.proofs.Passing.{places-on}
 use Rattle.given.specs.Given.{isFresh, areRoots}

@@ -7,7 +7,7 @@ use lib.Dec.{leb}
 use Rattle.measures.specs.Ranges.{_to_, isIn}
 use Rattle.rules.specs.Valid.{isTotalNumber}
 use Rattle.rules.specs.declared.Rule.{Rule}
-use Rattle.tables.specs.Tables.{allZero, places, placesPass}
+use Rattle.tables.specs.Inner.Tables.{allZero, places, placesPass}
 use Rattle.packing.specs.RulePlace.{ruleAt, isRulePlace}
 use Rattle.admission.specs.Admission.{areInOrder}
 use Rattle.given.specs.Given.{areRoots}

@@ -6,7 +6,7 @@ ghost use lib.ListN.{length, getD, drop};
 ghost use Rattle.rules.specs.Rules.{isRate};
 ghost use Rattle.rules.specs.declared.Rule.{Rule};
 ghost use Rattle.text.specs.Text.{isNameByte};
-ghost use Rattle.tables.specs.Tables.{places};
+ghost use Rattle.tables.specs.Inner.Tables.{places};
 ghost use Rattle.packing.specs.RulePlace.{ruleAt};
 ghost use Rattle.rules.specs.Valid.{isTotalNumber, hasRate};
 ghost use Rattle.machine.specs.State.{cellsBy, cellsOf};

@@ -10,9 +10,9 @@ use Rattle.rules.specs.declared.Account.{Account}
 use Rattle.machine.specs.declared.Offer.{Offer}
 use Rattle.machine.specs.Offers.{credited}
 use Rattle.state.specs.State.{decode}
-use Rattle.state.specs.Laid.{Laid}
+use Rattle.state.specs.Inner.Laid.{Laid}
 use Rattle.state.proofs.Done.{Doing, doing-none, doing-at, doing-more, doing-all}
-use Rattle.grant.specs.Grant.{concerns, fills, reachedAt, Credited, AllCredited}
+use Rattle.grant.specs.Inner.Grant.{concerns, fills, reachedAt, Credited, AllCredited}
 use Rattle.grant.specs.declared.Reached.{Reached}
 use Rattle.grant.proofs.Credits.{credit-fair}
 use Rattle.grant.proofs.Tested.{Tested, tested-none, tested-more, tested-done}

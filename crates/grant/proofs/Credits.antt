@@ -16,11 +16,11 @@ use Rattle.machine.specs.declared.Offer.{Offer}
 use Rattle.machine.specs.Offers.{coversOffer, sameLevel, credited}
 use Rattle.machine.specs.Remaining.{noAccount}
 use Rattle.machine.proofs.Totals.{isPaid}
-use Rattle.laws.specs.Every.{every-at}
+use Rattle.laws.proofs.Every.{every-at}
 use Rattle.state.specs.State.{stored, decode}
-use Rattle.state.specs.Laid.{accountIn, withTotal}
+use Rattle.state.specs.Inner.Laid.{accountIn, withTotal}
 use Rattle.state.proofs.Done.{isMeasured, Fair, changeAt}
-use Rattle.grant.specs.Grant.{concerns, fills, areTotals}
+use Rattle.grant.specs.Inner.Grant.{concerns, fills, areTotals}
 use Rattle.rules.specs.declared.Kind.the-variants.{Absolute}
 
 -- a rule, as the code finds it: whether it is absolute, and whether it covers the offer

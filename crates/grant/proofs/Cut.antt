@@ -9,7 +9,7 @@ use lib.ListN.{length, getD, drop, drop-of-length-le}
 use lib.Seq.{drop-cons}
 use lib.Dec.{eqb}
 use borrow.Author.Tests.{not-true, not-false}
-use Rattle.laws.specs.Tests.{and-l}
+use Rattle.laws.proofs.Tests.{and-l}
 use Rattle.rules.specs.Amounts.{numberOf, amountIn}
 use Rattle.rules.specs.Rules.{levelOf, covers}
 use Rattle.rules.specs.Allowance.{allowance}
@@ -25,7 +25,7 @@ use Rattle.rules.proofs.Amounts.{number-in}
 use Rattle.machine.specs.declared.Entry.{Entry}
 use Rattle.machine.specs.Offers.{counted, coversOffer, sameLevel}
 use Rattle.machine.specs.declared.Offer.{Offer}
-use Rattle.grant.specs.Grant.{concerns, allowedBy, lowered, leastAt}
+use Rattle.grant.specs.Inner.Grant.{concerns, allowedBy, lowered, leastAt}
 
 -- the next of a list's elements, as code counts
 pub next : {A : Type 0} (l : List A) (i : ℕ) (d : A) → i < length l → drop i l ≡ getD l i d ∷ drop (i + 1) l

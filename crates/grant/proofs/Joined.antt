@@ -7,17 +7,17 @@ use mathlib.Core.List.{List, [], _∷_, _++_}
 use lib.ListN.{length, length-append}
 use lib.Dec.{ltb}
 use borrow.Author.Tests.{ltb-true, not-true, not-false}
-use Rattle.laws.specs.Tests.{and-l, and-r}
+use Rattle.laws.proofs.Tests.{and-l, and-r}
 use Rattle.measures.specs.Ranges.{offers}
 use Rattle.machine.specs.Entries.{isEntry, recent}
 use Rattle.machine.specs.State.{State, rulesIn, rootsIn}
 use Rattle.rules.specs.Valid.{hasRate}
 use Rattle.machine.specs.Offers.{entryOf, longest, joinedLog}
 use Rattle.packing.proofs.EntryPlace.{entry-valid}
-use Rattle.state.specs.Laid.{Fits, withLog}
+use Rattle.state.specs.Inner.Laid.{Fits, withLog}
 use Rattle.machine.specs.declared.Offer.{Offer}
 use Rattle.machine.proofs.Lists.{every-keep, every-join}
-use Rattle.grant.specs.Grant.{Fillable, HasRoom}
+use Rattle.grant.specs.Inner.Grant.{Fillable, HasRoom}
 use Rattle.machine.proofs.Windows.{rate-longest}
 
 -- whether a fill joins the log, by the longest window

@@ -22,8 +22,8 @@ use Rattle.machine.specs.Deeds.{reported}
 use Rattle.machine.proofs.Totals.{isPaid}
 use Rattle.machine.proofs.Bounds.{account-most}
 use Rattle.state.specs.State.{decode}
-use Rattle.state.specs.Laid.{Laid, accountIn}
-use Rattle.grant.specs.Grant.{concerns, overrunAt}
+use Rattle.state.specs.Inner.Laid.{Laid, accountIn}
+use Rattle.grant.specs.Inner.Grant.{concerns, overrunAt}
 use Rattle.grant.proofs.Cut.{concerns-off}
 
 -- a rule that does not cover the report is not overrun by it

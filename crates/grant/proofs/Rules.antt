@@ -18,10 +18,10 @@ use Rattle.machine.specs.Remaining.{noAccount, ruleNumbered, firstCell}
 use Rattle.machine.specs.Offers.{coversOffer, credited}
 use Rattle.machine.proofs.Walk.{facing-account, facing-rule, through}
 use Rattle.state.specs.State.{decode}
-use Rattle.state.specs.Laid.{Laid, accountIn}
+use Rattle.state.specs.Inner.Laid.{Laid, accountIn}
 use Rattle.state.proofs.After.{held-laid}
 use Rattle.state.proofs.Done.{change-none, doing-at}
-use Rattle.grant.specs.Grant.{concerns, fills, lowered, overrunAt, Credited}
+use Rattle.grant.specs.Inner.Grant.{concerns, fills, lowered, overrunAt, Credited}
 use Rattle.grant.specs.declared.Reached.{Reached}
 use Rattle.grant.proofs.Cut.{Cut, lowered-off, cut-more}
 use Rattle.grant.proofs.Tested.{Tested, tested-more, tested-off}

@@ -14,8 +14,8 @@ use Rattle.machine.specs.Entries.{areOrdered}
 use Rattle.machine.specs.State.{State, Locks, rulesIn, rootsIn}
 use Rattle.machine.specs.Offers.{joinedLog, credited, levelTrips}
 use Rattle.state.specs.State.{stored, decode}
-use Rattle.state.specs.Laid.{Laid, withClock, withLocks, withRegister, withLog, withAccounts}
-use Rattle.state.specs.Tests.{registerPart, putRegister}
+use Rattle.state.specs.Inner.Laid.{Laid, withClock, withLocks, withRegister, withLog, withAccounts}
+use Rattle.state.specs.Inner.Tests.{registerPart, putRegister}
 use Rattle.state.proofs.Laid.{laid-orders, laid-sent}
 use Rattle.state.proofs.After.{Holds, held-state, held-laid, step-on, register-after, fits-clock, fits-register}
 use Rattle.state.proofs.Done.{fits-all}
@@ -25,7 +25,7 @@ use Rattle.machine.specs.declared.Sent.{Sent}
 use Rattle.machine.specs.Deeds.{Source, granted, reported, filling, clockAfter}
 use Rattle.machine.specs.Step.{after, partAfter, accountsAfter, locksAfter, logAfter}
 use Rattle.machine.proofs.Grants.{grant-le}
-use Rattle.grant.specs.Grant.{leastAt, reachedAt, Fillable, HasRoom, AllCredited, marked, Ready, Returning}
+use Rattle.grant.specs.Inner.Grant.{leastAt, reachedAt, Fillable, HasRoom, AllCredited, marked, Ready, Returning}
 use Rattle.grant.specs.declared.Cuts.{Cuts}
 use Rattle.grant.specs.declared.Reached.{Reached}
 use Rattle.grant.specs.declared.Trips.{Trips}

@@ -20,7 +20,7 @@ use Rattle.machine.specs.Entries.{entryShare}
 use Rattle.laws.specs.Folds.{sumOf, anyOf}
 use Rattle.machine.specs.Offers.{counted, coversOffer, sameLevel, grantOf, levelTrips, tripsBy}
 use Rattle.machine.specs.declared.Offer.{Offer}
-use Rattle.grant.specs.Grant.{concerns, allowedBy, lowered, leastAt, fills, reachedAt}
+use Rattle.grant.specs.Inner.Grant.{concerns, allowedBy, lowered, leastAt, fills, reachedAt}
 use Rattle.grant.proofs.Cut.{level-of, lowered-le}
 use Rattle.machine.specs.Deeds.{granted}
 

@@ -1,1 +1,1 @@
-pub mod Grant
+pub mod Inner

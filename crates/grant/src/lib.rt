@@ -7,13 +7,13 @@ ghost use Rattle.measures.specs.Ranges.{premiums, offers};
 ghost use Rattle.rules.specs.Rules.{levelOf, isRate};
 ghost use Rattle.rules.specs.declared.Level.the-variants.{Firm};
 ghost use Rattle.machine.specs.Offers.{sameLevel, joinedLog};
-ghost use Rattle.log.specs.Memo.{RightTwo};
+ghost use Rattle.log.specs.Inner.Memo.{RightTwo};
 ghost use Rattle.rules.specs.Valid.{isTotal};
 ghost use Rattle.machine.specs.State.{rulesIn};
 ghost use Rattle.state.specs.State.{stored, decode};
-ghost use Rattle.state.specs.Laid.{Laid, accountIn, withLog};
+ghost use Rattle.state.specs.Inner.Laid.{Laid, accountIn, withLog};
 ghost use Rattle.register.specs.Register.{sentAtPlace};
-ghost use Rattle.grant.specs.Grant.{Fillable, areTotals, Lowered, AreCuts, Credited, AllCredited, HasRoom, marked, Ready, Filled, Returning, Returned};
+ghost use Rattle.grant.specs.Inner.Grant.{Fillable, areTotals, Lowered, AreCuts, Credited, AllCredited, HasRoom, marked, Ready, Filled, Returning, Returned};
 
 mod overruns;
 

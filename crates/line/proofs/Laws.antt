@@ -8,7 +8,7 @@ use lib.Dec.{eqb, ltb}
 use borrow.Author.Tests.{le-ltb, ltb-true, ltb-false, eqb-true, not-false}
 use native.Mathlib.Nat.{pow-le-pow-right}
 use native.Mathlib.Omega.{arith}
-use Rattle.laws.specs.Tests.{tests}
+use Rattle.laws.proofs.Tests.{tests}
 use Rattle.measures.specs.Ranges.{Range, _to_, In, isIn}
 use Rattle.rules.specs.Rules.{InRange, InDay}
 use Rattle.rules.specs.declared.Scope.{Scope}

@@ -8,7 +8,7 @@ use lib.Dec.{eqb, leb, ltb}
 use borrow.Author.Tests.{ltb-true, le-leb, lt-leb, lt-ltb, le-ltb}
 use native.Mathlib.Decide.{decLt}
 use native.Mathlib.Omega.{arith}
-use Rattle.laws.specs.Tests.{tests}
+use Rattle.laws.proofs.Tests.{tests}
 use Rattle.measures.specs.Ranges.{Range, In, isIn}
 use Rattle.measures.specs.Checked.{Taken, Beyond}
 use Rattle.rules.specs.declared.Limit.{Limit}
@@ -16,7 +16,7 @@ use Rattle.rules.specs.declared.Rule.{Rule}
 use Rattle.text.specs.Text.{fields, fieldsFrom}
 use Rattle.text.proofs.Lists.{Cursor, cursor-step, cursor-there, cursor-gone}
 use Rattle.line.specs.Line.{limitsOf, limitOf, kindOf, isAbsolute, typeIn, limitIn, timeIn, rootIn, isFirmLevel, callPut, month, malformed, otherFirm, outOfRange, levelClash, unitClash, faultOf, scopeOf, ruleOf, lineOf}
-use Rattle.line.specs.Parts.{limitRead, HeadSays, TailSays}
+use Rattle.line.specs.Inner.Parts.{limitRead, HeadSays, TailSays}
 use Rattle.line.specs.declared.LimitType.{LimitType}
 use Rattle.line.specs.declared.limits.LimitRead.the-variants.{Is as Ranged, Out}
 use Rattle.line.specs.declared.fields.Head.{Head}

@@ -4,7 +4,7 @@ ghost use Prim.Native.Nat.{_+_, _≤_, _<_};
 ghost use lib.ListN.{length};
 ghost use Rattle.text.proofs.Lists.{Cursor};
 ghost use Rattle.line.specs.Line.{timeOf, letterOf, isRead, theNumber};
-ghost use Rattle.line.specs.Parts.{HeadSays, TailSays};
+ghost use Rattle.line.specs.Inner.Parts.{HeadSays, TailSays};
 use crate::LimitType;
 use crate::limits::type_of;
 use text::Number;

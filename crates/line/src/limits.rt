@@ -2,7 +2,7 @@
 ghost use mathlib.Core.Path.{_≡_};
 ghost use Prim.Native.Nat.{max};
 ghost use Rattle.line.specs.Line.{typeOf, isAbsolute, kindOf, isKnown, theType};
-ghost use Rattle.line.specs.Parts.{limitRead};
+ghost use Rattle.line.specs.Inner.Parts.{limitRead};
 use crate::LimitType;
 use crate::TypeRead;
 use measures::Contracts;

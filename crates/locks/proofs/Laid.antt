@@ -6,11 +6,11 @@ use lib.ListN.{length, take, drop}
 use Rattle.shapes.specs.Shape.{both, named, word, flag, cell}
 use Rattle.machine.specs.State.{Locks}
 use Rattle.state.specs.State.{number, locksOf, locksShape, locksNumbers, stored, decode}
-use Rattle.state.specs.Laid.{Laid, withLocks}
-use Rattle.state.specs.Tests.{locksPart, putLocks}
+use Rattle.state.specs.Inner.Laid.{Laid, withLocks}
+use Rattle.state.specs.Inner.Tests.{locksPart, putLocks}
 use Rattle.state.proofs.Laid.{laid-locks}
 use Rattle.state.proofs.Stores.{put-locks}
-use Rattle.locks.specs.Locks.{locksIn, AreLocks}
+use Rattle.locks.specs.Inner.Locks.{locksIn, AreLocks}
 use Rattle.locks.proofs.Numbers.{flag-told}
 
 -- the numbers of locks stand for these

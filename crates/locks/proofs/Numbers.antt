@@ -16,7 +16,7 @@ use Rattle.machine.specs.Effects.{lifting}
 use Rattle.machine.specs.Locks.{isTripped, isByUser, isLocked, verdictOf, lifted, trippedBy, lockedOut}
 use Rattle.machine.specs.Order.{levelNamed}
 use Rattle.state.specs.State.{locksNumbers}
-use Rattle.locks.specs.Locks.{locksIn, AreLocks, tripping}
+use Rattle.locks.specs.Inner.Locks.{locksIn, AreLocks, tripping}
 
 -- a mark that is read, that is lifted, and that is set
 pub flag-told : (b : Bool) → eqb (flagNumber b) 1 ≡ b

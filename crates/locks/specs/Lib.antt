@@ -1,1 +1,1 @@
-pub mod Locks
+pub mod Inner

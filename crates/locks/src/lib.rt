@@ -6,7 +6,7 @@ ghost use Rattle.machine.specs.Locks.{verdictOf, lifted, trippedBy, lockedOut};
 ghost use Rattle.machine.specs.Order.{levelNamed};
 ghost use Rattle.machine.specs.Remaining.{standing as standingBy};
 ghost use Rattle.state.specs.State.{locksNumbers};
-ghost use Rattle.locks.specs.Locks.{locksIn, AreLocks, tripping};
+ghost use Rattle.locks.specs.Inner.Locks.{locksIn, AreLocks, tripping};
 use bits::Standing;
 use machine::Effect;
 

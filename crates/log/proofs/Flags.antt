@@ -14,7 +14,7 @@ use Rattle.machine.specs.Entries.{isEntry, isFlagged}
 use Rattle.machine.specs.declared.Entry.{Entry}
 use Rattle.machine.specs.Order.{unflagged}
 use Rattle.packing.proofs.EntryPlace.{Ranged, entry-ranged, entry-in, entry-here}
-use Rattle.log.specs.Sieve.{fillNumber, hasFlag, flagDigits, withoutFlags}
+use Rattle.log.specs.Inner.Sieve.{fillNumber, hasFlag, flagDigits, withoutFlags}
 use Rattle.log.proofs.Sifting.{flags-most, fill-is}
 
 abbrev digits : Bool → Bool → ℕ

@@ -7,8 +7,8 @@ use native.Mathlib.Numerals.{add-one}
 use native.Mathlib.Omega.{arith}
 use lib.ListN.{length, getD, take, drop, set, length-append, length-drop, take-append-drop}
 use lib.Seq.{take-at, drop-at, take-suc, length-take-le, getD-append-add, getD-drop}
-use Rattle.laws.specs.Tests.{and-l, and-r}
-use Rattle.tables.specs.Tables.{zeros, flat, tableNumbers}
+use Rattle.laws.proofs.Tests.{and-l, and-r}
+use Rattle.tables.specs.Inner.Tables.{zeros, flat, tableNumbers}
 use Rattle.packing.specs.EntryPlace.{entryNumbers}
 use Rattle.machine.specs.declared.Entry.{Entry}
 use Rattle.rules.specs.Rules.{counts}
@@ -19,9 +19,9 @@ use Rattle.laws.specs.Folds.{every, keep}
 use Rattle.machine.proofs.Lists.{keep-le}
 use Rattle.tables.proofs.Tables.{length-flat, length-places}
 use Rattle.packing.proofs.EntryPlace.{entry-ranged}
-use Rattle.log.specs.Log.{HeldLog, entriesOf, Last, Kept}
+use Rattle.log.specs.Inner.Log.{HeldLog, entriesOf, Last, Kept}
 use Rattle.log.specs.Newest.{isSince, newest, lookedAt}
-use Rattle.log.specs.Sieve.{firstTime}
+use Rattle.log.specs.Inner.Sieve.{firstTime}
 use Rattle.log.proofs.Logs.{codec, held-valid, held-table}
 use Rattle.log.proofs.Newest.{newest-many, newest-kept, few-looked-at}
 use Rattle.log.proofs.Sifting.{still-counts}

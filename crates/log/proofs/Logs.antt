@@ -7,9 +7,10 @@ use native.Mathlib.Omega.{arith}
 use lib.ListN.{length, getD, take, drop, set, drop-of-length-le}
 use lib.Seq.{take-all}
 use borrow.Author.Tests.{lt-leb, le-leb}
-use Rattle.laws.specs.Tests.{and-l, and-r, and-i}
-use Rattle.laws.specs.Lists.{same, same-eq}
-use Rattle.tables.specs.Tables.{allZero, places, isPlace, placesPass}
+use Rattle.laws.proofs.Tests.{and-l, and-r, and-i}
+use Rattle.laws.specs.Lists.{same}
+use Rattle.laws.proofs.Lists.{same-eq}
+use Rattle.tables.specs.Inner.Tables.{allZero, places, isPlace, placesPass}
 use Rattle.laws.specs.Folds.{every}
 use Rattle.machine.specs.Entries.{isEntry, areOrdered, isFlagged}
 use Rattle.machine.specs.declared.Entry.{Entry}
@@ -18,7 +19,7 @@ use Rattle.packing.proofs.Parts.{two}
 use Rattle.tables.proofs.Tables.{Codec, is-table, valid-places, length-table, length-places, place-table, places-table, rest-table}
 use Rattle.tables.proofs.Passing.{pass-each, each-pass}
 use Rattle.packing.proofs.EntryPlace.{entry-codec, entry-wider}
-use Rattle.log.specs.Log.{isLogPlace, entriesHold, logHolds, HeldLog, HeldIn, entriesOf, placesIn, entriesIn, logNumbers}
+use Rattle.log.specs.Inner.Log.{isLogPlace, entriesHold, logHolds, HeldLog, HeldIn, entriesOf, placesIn, entriesIn, logNumbers}
 
 -- an entry of at most 64 roots in its place
 pub codec : Codec 2 (isEntry 64) entryAt entryNumbers

@@ -9,7 +9,7 @@ use lib.Bits.{bitAnd, and-le-r}
 use lib.Dec.{eqb}
 use lib.ListN.{getD, drop}
 use borrow.Author.Tests.{eqb-true, ne-eqb, eq-eqb}
-use Rattle.laws.specs.Tests.{and-l, and-r}
+use Rattle.laws.proofs.Tests.{and-l, and-r}
 use Rattle.rules.specs.Rules.{added, executions}
 use Rattle.rules.specs.declared.Limit.{Limit}
 use Rattle.rules.specs.declared.Limit.the-variants.{Notional, Volume, Count}
@@ -23,10 +23,10 @@ use Rattle.packing.proofs.EntryPlace.{entry-here, entry-ranged}
 use Rattle.log.proofs.Logs.{held-entry}
 use Rattle.log.specs.declared.sieves.Sieve.{Sieve}
 use Rattle.log.specs.declared.Memo.{Memo}
-use Rattle.log.specs.Log.{HeldLog, entriesOf}
+use Rattle.log.specs.Inner.Log.{HeldLog, entriesOf}
 use Rattle.log.specs.Newest.{isSince, newest}
-use Rattle.log.specs.Sieve.{sieveOf, isWanted, passes, fillNumber, sifted}
-use Rattle.log.specs.Memo.{memoSum, sieveFor, isMemoOf, memoFor, noMemo, Right}
+use Rattle.log.specs.Inner.Sieve.{sieveOf, isWanted, passes, fillNumber, sifted}
+use Rattle.log.specs.Inner.Memo.{memoSum, sieveFor, isMemoOf, memoFor, noMemo, Right}
 use Rattle.log.proofs.Newest.{newest-sum}
 use Rattle.log.proofs.Sifting.{sieve-counts, held-fill, place-since, sifted-most}
 use Rattle.log.proofs.Sums.{Summed, summed-more, picked-most}

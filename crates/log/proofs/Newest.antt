@@ -8,13 +8,13 @@ use lib.ListN.{length, drop, length-append, length-reverse}
 use lib.Seq.{drop-drop, drop-at}
 use lib.Dec.{leb}
 use borrow.Author.Tests.{leb-true, le-leb}
-use Rattle.laws.specs.Tests.{and-l, and-r}
+use Rattle.laws.proofs.Tests.{and-l, and-r}
 use Rattle.laws.specs.Folds.{keep, sumOf}
-use Rattle.tables.specs.Tables.{places}
+use Rattle.tables.specs.Inner.Tables.{places}
 use Rattle.packing.specs.EntryPlace.{entryAt}
 use Rattle.machine.specs.declared.Entry.{Entry}
 use Rattle.machine.specs.Entries.{areOrdered}
-use Rattle.log.specs.Log.{entriesOf}
+use Rattle.log.specs.Inner.Log.{entriesOf}
 use Rattle.log.specs.Newest.{passed, looked, isSince, newest, lookedAt}
 
 module _ {A : Type 0} (test : A → Bool) where

@@ -8,12 +8,12 @@ use mathlib.Core.List.{List}
 use lib.ListN.{drop}
 use lib.Dec.{leb}
 use borrow.Author.Tests.{leb-true, le-leb}
-use Rattle.laws.specs.Tests.{and-l, and-r, and-i, same-test, tests}
+use Rattle.laws.proofs.Tests.{and-l, and-r, and-i, same-test, tests}
 use Rattle.measures.specs.Ranges.{isIn, times}
-use Rattle.tables.specs.Tables.{allZero, places, placesPass}
+use Rattle.tables.specs.Inner.Tables.{allZero, places, placesPass}
 use Rattle.packing.specs.EntryPlace.{entryAt}
 use Rattle.tables.proofs.Passing.{pass-on, places-on}
-use Rattle.log.specs.Log.{isLogPlace, entriesHold}
+use Rattle.log.specs.Inner.Log.{isLogPlace, entriesHold}
 use Rattle.machine.specs.Entries.{areOrdered}
 
 -- the places from i on hold entries in order, none earlier than `from`

@@ -8,7 +8,7 @@ use lib.Bits.{bitAnd, and-mask, and-zero-r, and-block}
 use lib.Dec.{eqb, leb, ltb}
 use borrow.Author.Tests.{leb-true, le-leb, lt-leb, ltb-true, lt-ltb, eqb-true, eq-eqb, ne-eqb}
 use lib.ListN.{getD, drop}
-use Rattle.laws.specs.Tests.{and-l, and-r, and-i, same-test}
+use Rattle.laws.proofs.Tests.{and-l, and-r, and-i, same-test}
 use Rattle.measures.specs.Ranges.{isIn, units}
 use Rattle.rules.specs.Rules.{levelOf, covers, counts, added, share}
 use Rattle.rules.specs.declared.Scope.{Scope}
@@ -26,8 +26,8 @@ use Rattle.bits.specs.Fields.{total, packed}
 use Rattle.packing.specs.EntryPlace.{flagNumber, fillValues, entryAt, entryNumbers, isEntryPlace}
 use Rattle.tables.proofs.Passing.{pass-each}
 use Rattle.packing.proofs.EntryPlace.{Ranged, entry-ranged}
-use Rattle.log.specs.Log.{HeldLog, entriesOf}
-use Rattle.log.specs.Sieve.{firstTime, sieveIn, sieveOf, passes, fillNumber, sifted}
+use Rattle.log.specs.Inner.Log.{HeldLog, entriesOf}
+use Rattle.log.specs.Inner.Sieve.{firstTime, sieveIn, sieveOf, passes, fillNumber, sifted}
 use Rattle.log.specs.Newest.{isSince}
 use Rattle.log.specs.declared.sieves.Sieve.{Sieve}
 use Rattle.log.proofs.Logs.{place-numbers, held-valid, held-entry}

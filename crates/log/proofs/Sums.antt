@@ -9,7 +9,7 @@ use lib.ListN.{drop}
 use Rattle.laws.specs.Folds.{sumOf}
 use Rattle.machine.specs.declared.Entry.{Entry}
 use Rattle.packing.specs.EntryPlace.{entryAt}
-use Rattle.log.specs.Log.{entriesOf}
+use Rattle.log.specs.Inner.Log.{entriesOf}
 use Rattle.log.specs.Newest.{isSince, newest}
 use Rattle.log.proofs.Newest.{read-on}
 

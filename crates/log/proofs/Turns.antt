@@ -7,16 +7,16 @@ use native.Mathlib.Numerals.{add-one}
 use native.Mathlib.Omega.{arith}
 use lib.ListN.{length, getD, take, drop, set, length-append, length-drop, drop-of-length-le}
 use lib.Seq.{sets, drop-cons, getD-append-add, getD-drop, set-at, append-snoc, take-at, drop-at, length-take-le}
-use Rattle.tables.specs.Tables.{zeros, flat, tableNumbers}
+use Rattle.tables.specs.Inner.Tables.{zeros, flat, tableNumbers}
 use Rattle.laws.specs.Folds.{every}
-use Rattle.laws.specs.Every.{every-first, every-drop, every-append, every-join}
+use Rattle.laws.proofs.Every.{every-first, every-drop, every-append, every-join}
 use Rattle.machine.specs.Entries.{isEntry, recent}
 use Rattle.machine.specs.declared.Entry.{Entry}
 use Rattle.packing.specs.EntryPlace.{entryAt, entryNumbers, isEntryPlace, logTable}
 use Rattle.shapes.proofs.Tables.{length-zeros}
 use Rattle.tables.proofs.Tables.{length-flat, length-places, length-table, place-table, read-table, put-at, put-next}
 use Rattle.tables.proofs.AllZero.{zeros-add}
-use Rattle.log.specs.Log.{HeldLog, entriesOf, joinedEntries, Kept}
+use Rattle.log.specs.Inner.Log.{HeldLog, entriesOf, joinedEntries, Kept}
 use Rattle.log.proofs.Logs.{codec, held-valid, held-table}
 
 -- a list p and then another from p's length on: what stands past p, one more at p's end, and how long they are

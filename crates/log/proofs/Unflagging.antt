@@ -11,10 +11,10 @@ use Rattle.rules.specs.declared.Level.{Level}
 use Rattle.machine.specs.Entries.{isFlagged}
 use Rattle.machine.specs.declared.Entry.{Entry}
 use Rattle.machine.specs.Order.{unflagged, unflaggedLog}
-use Rattle.tables.specs.Tables.{zeros}
+use Rattle.tables.specs.Inner.Tables.{zeros}
 use Rattle.packing.specs.EntryPlace.{amountValues, entryAt, entryNumbers, logTable}
-use Rattle.log.specs.Log.{HeldLog, Left, entriesOf}
-use Rattle.log.specs.Sieve.{fillNumber, hasFlag, withoutFlags}
+use Rattle.log.specs.Inner.Log.{HeldLog, Left, entriesOf}
+use Rattle.log.specs.Inner.Sieve.{fillNumber, hasFlag, withoutFlags}
 use Rattle.log.proofs.Logs.{place-numbers}
 use Rattle.log.proofs.Flags.{unflagged-entry, unflagged-fill, fill-flagged}
 use Rattle.log.proofs.Turns.{Turned, turned-place, turned-next, turned-entry, turned-put, turned-skip, turned-made, rest-blanked}

@@ -1,4 +1,2 @@
-pub mod Log
 pub mod Newest
-pub mod Sieve
-pub mod Memo
+pub mod Inner

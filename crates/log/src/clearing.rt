@@ -8,8 +8,8 @@ ghost use Prim.Native.Nat.{_+_, _*_, _<_};
 ghost use lib.ListN.{length};
 ghost use lib.Seq.{sets};
 ghost use Rattle.packing.specs.EntryPlace.{flagNumber};
-ghost use Rattle.log.specs.Log.{HeldLog, entriesOf, Left};
-ghost use Rattle.log.specs.Sieve.{hasFlag, withoutFlags};
+ghost use Rattle.log.specs.Inner.Log.{HeldLog, entriesOf, Left};
+ghost use Rattle.log.specs.Inner.Sieve.{hasFlag, withoutFlags};
 use crate::blank;
 use machine::Effect;
 

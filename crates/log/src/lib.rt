@@ -11,10 +11,10 @@ ghost use Rattle.laws.specs.Folds.{sumOf};
 ghost use Prim.Native.Nat.{_≤_, _<_};
 ghost use lib.ListN.{length};
 ghost use Rattle.rules.specs.Amounts.{amountIn};
-ghost use Rattle.tables.specs.Tables.{zeros};
-ghost use Rattle.log.specs.Log.{entriesHold, logHolds, HeldIn, entriesIn, logNumbers, joinedEntries};
-ghost use Rattle.log.specs.Memo.{memoSum, noMemo, recalledOf, RightTwo};
-ghost use Rattle.log.specs.Sieve.{sieveOf};
+ghost use Rattle.tables.specs.Inner.Tables.{zeros};
+ghost use Rattle.log.specs.Inner.Log.{entriesHold, logHolds, HeldIn, entriesIn, logNumbers, joinedEntries};
+ghost use Rattle.log.specs.Inner.Memo.{memoSum, noMemo, recalledOf, RightTwo};
+ghost use Rattle.log.specs.Inner.Sieve.{sieveOf};
 
 mod clearing;
 mod sieves;

@@ -8,7 +8,7 @@ ghost use Prim.Native.Nat.{_+_, _*_, _≤_, _<_};
 ghost use lib.ListN.{length, take, drop};
 ghost use lib.Seq.{sets};
 ghost use Rattle.packing.specs.EntryPlace.{entryNumbers};
-ghost use Rattle.log.specs.Log.{HeldLog, entriesOf, joinedEntries, Last, Kept, Left};
+ghost use Rattle.log.specs.Inner.Log.{HeldLog, entriesOf, joinedEntries, Last, Kept, Left};
 ghost use Rattle.log.specs.Newest.{newest};
 use crate::blank;
 use crate::sieves::first_time;

@@ -4,7 +4,7 @@ use mathlib.Core.Path.{_≡_, refl, sym}
 use mathlib.Core.Bool.{Bool, true, false, not, cond, _&&_, _||_, false≢true}
 use mathlib.Core.List.{List, [], _∷_}
 use native.Mathlib.Omega.{arith}
-use Rattle.laws.specs.Tests.{and-l, and-r, tests}
+use Rattle.laws.proofs.Tests.{and-l, and-r, tests}
 use Rattle.laws.specs.Folds.{every, keep, sumOf}
 use Rattle.rules.specs.Rules.{levelOf, share}
 use Rattle.rules.specs.declared.Level.{Level}

@@ -5,7 +5,7 @@ use mathlib.Core.Bool.{Bool, true, false, cond, _&&_, false≢true}
 use mathlib.Core.List.{List, [], _∷_, map}
 use lib.ListN.{length}
 use native.Mathlib.Omega.{arith}
-use Rattle.laws.specs.Tests.{tests}
+use Rattle.laws.proofs.Tests.{tests}
 use Rattle.rules.specs.Rules.{levelOf, covers, counts, share}
 use Rattle.rules.specs.Allowance.{Largest, Keeps, All, KeepsAll, allowance, leastOf}
 use Rattle.rules.specs.declared.Limit.{Limit}

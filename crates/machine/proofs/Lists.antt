@@ -7,10 +7,10 @@ use lib.ListN.{length, getD}
 use lib.Dec.{leb}
 use borrow.Author.Tests.{leb-true, le-leb}
 use native.Mathlib.Omega.{arith}
-use Rattle.laws.specs.Tests.{and-l, and-r}
+use Rattle.laws.proofs.Tests.{and-l, and-r}
 use Rattle.laws.specs.Folds.{every, keep, sumOf}
 use Rattle.rules.specs.Allowance.{All}
-pub use Rattle.laws.specs.Every.{every-imp, every-map, every-keep, every-join}
+pub use Rattle.laws.proofs.Every.{every-imp, every-map, every-keep, every-join}
 use Rattle.machine.specs.declared.Entry.{Entry}
 use Rattle.machine.specs.Entries.{areOrdered}
 

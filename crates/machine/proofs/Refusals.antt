@@ -7,7 +7,7 @@ use lib.ListN.{length}
 use lib.Dec.{leb, ltb, eqb}
 use borrow.Author.Tests.{ltb-true, ltb-false, leb-false, not-false}
 use native.Mathlib.Nat.{suc-ne-zero}
-use Rattle.laws.specs.Tests.{and-l, and-r, tests}
+use Rattle.laws.proofs.Tests.{and-l, and-r, tests}
 use Rattle.measures.specs.Ranges.{In, isIn, times, units, premiums, offers, identities, reportsAsked}
 use Rattle.rules.specs.Units.{isUnitOf}
 use Rattle.rules.specs.declared.Level.{Level}

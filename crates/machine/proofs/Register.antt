@@ -8,7 +8,7 @@ use lib.ListN.{length, length-append, length-map}
 use lib.Dec.{eqb}
 use borrow.Author.Tests.{lt-ltb, eq-eqb, ne-eqb}
 use native.Mathlib.Omega.{arith}
-use Rattle.laws.specs.Tests.{and-l, and-r, tests}
+use Rattle.laws.proofs.Tests.{and-l, and-r, tests}
 use Rattle.laws.specs.Folds.{every, anyOf, keep, sumOf}
 use Rattle.measures.specs.Ranges.{In, units, premiums, identities, contractsOpen, reportsLeft}
 use Rattle.measures.proofs.Determined.{in-test}

@@ -6,7 +6,7 @@ use mathlib.Core.List.{List, map}
 use lib.Dec.{eqb, leb}
 use borrow.Author.Tests.{leb-true, eqb-true}
 use native.Mathlib.Omega.{arith}
-use Rattle.laws.specs.Tests.{and-l, and-r, tests}
+use Rattle.laws.proofs.Tests.{and-l, and-r, tests}
 use Rattle.laws.specs.Folds.{every}
 use Rattle.measures.specs.Ranges.{In, isIn, totals}
 use Rattle.measures.proofs.Determined.{in-test}

@@ -7,7 +7,7 @@ use mathlib.Core.Bool.{Bool, true, _&&_, _||_}
 use mathlib.Core.List.{List, [], _∷_}
 use lib.Dec.{ltb, leb}
 use borrow.Author.Tests.{lt-ltb, leb-true}
-use Rattle.laws.specs.Tests.{and-l, and-r}
+use Rattle.laws.proofs.Tests.{and-l, and-r}
 use Rattle.laws.specs.Folds.{every}
 use Rattle.rules.specs.Rules.{isRate}
 use Rattle.rules.specs.Valid.{isLimit, isKind, isScope, isRule, hasRate}

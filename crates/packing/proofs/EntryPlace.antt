@@ -8,7 +8,7 @@ use native.Mathlib.Omega.{arith}
 use lib.ListN.{length, getD, drop}
 use lib.Dec.{eqb, ltb}
 use borrow.Author.Tests.{eqb-true, eq-eqb, le-leb, lt-ltb}
-use Rattle.laws.specs.Tests.{and-l, and-r, and-i, same-test, tests}
+use Rattle.laws.proofs.Tests.{and-l, and-r, and-i, same-test, tests}
 use Rattle.laws.specs.Lists.{same}
 use Rattle.measures.specs.Ranges.{In, isIn, times, units, premiums, offers}
 use Rattle.measures.proofs.Determined.{in-test}
@@ -17,7 +17,7 @@ use Rattle.bits.proofs.Packing.{unpacked-packed, done, most, fits}
 use Rattle.machine.specs.declared.Entry.{Entry}
 use Rattle.machine.specs.Entries.{isEntry}
 use Rattle.tables.specs.declared.Place.{Place}
-use Rattle.tables.specs.Tables.{isPlace}
+use Rattle.tables.specs.Inner.Tables.{isPlace}
 use Rattle.packing.specs.EntryPlace.{flagNumber, fillWidths, amountWidths, fillValues, amountValues, entryNumbers, entryFrom, entryAt, isEntryPlace, isEntryButTime, entryPlace}
 use Rattle.tables.proofs.Tables.{Codec, placed}
 use Rattle.packing.proofs.Parts.{told, shifted, by-shift, spare-test}

@@ -7,7 +7,7 @@ use native.Mathlib.Omega.{arith}
 use lib.ListN.{length, getD, drop}
 use lib.Dec.{ltb}
 use borrow.Author.Tests.{lt-ltb, ltb-true}
-use Rattle.laws.specs.Tests.{and-l, and-r, and-i}
+use Rattle.laws.proofs.Tests.{and-l, and-r, and-i}
 use Rattle.measures.specs.Ranges.{isIn, units, dollarLimits, numberLimits}
 use Rattle.measures.proofs.Determined.{test-in}
 use Rattle.bits.specs.Fields.{total, unpacked, Fit}

@@ -9,7 +9,7 @@ use lib.ListN.{length, getD, drop}
 use lib.Pow.{pow-pos}
 use lib.Dec.{eqb, leb, ltb, leb·suc-suc}
 use borrow.Author.Tests.{eqb-true, eq-eqb, ne-eqb, le-leb, lt-leb}
-use Rattle.laws.specs.Tests.{and-l, and-r, and-i, same-test}
+use Rattle.laws.proofs.Tests.{and-l, and-r, and-i, same-test}
 use Rattle.laws.specs.Lists.{same}
 use Rattle.bits.specs.Fields.{packed, unpacked, Fit}
 use Rattle.rules.specs.declared.Scope.{Scope}
@@ -18,7 +18,7 @@ use Rattle.rules.specs.declared.Kind.{Kind}
 use Rattle.rules.specs.declared.Kind.the-variants.{Rate, Absolute}
 use Rattle.rules.specs.declared.Limit.{Limit}
 use Rattle.rules.specs.declared.Rule.{Rule}
-use Rattle.tables.specs.Tables.{isPlace}
+use Rattle.tables.specs.Inner.Tables.{isPlace}
 use Rattle.packing.specs.RulePlace.{limitNumber, measureNumber, windowNumber, kindNumber, scopeNumber, rootNumber, unitNumber, limitWidths, scopeWidths, limitValues, scopeValues, ruleNumbers, limitFrom, kindFrom, scopeFrom, ruleFrom, ruleAt, isLimitPlace, isKindPlace, isScopePlace, isRulePlace}
 use Rattle.rules.specs.Valid.{isLimit, isKind, isScope, isRule}
 use Rattle.packing.proofs.Parts.{told, field-test}

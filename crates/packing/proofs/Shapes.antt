@@ -9,7 +9,7 @@ use Rattle.shapes.specs.Shape.{Exact, cell, coded, both, named, rows, table as 
 use Rattle.shapes.proofs.Exact.{coded-exact, table-exact}
 use Rattle.rules.specs.declared.Rule.{Rule}
 use Rattle.machine.specs.declared.Entry.{Entry}
-use Rattle.tables.specs.Tables.{allZero, tableNumbers, places, isPlace, placesPass}
+use Rattle.tables.specs.Inner.Tables.{allZero, tableNumbers, places, isPlace, placesPass}
 use Rattle.packing.specs.RulePlace.{ruleAt, isRulePlace, rulesTable, ruleShape, rulesShape}
 use Rattle.packing.specs.EntryPlace.{entryAt, isEntryPlace, logTable, entryShape, logShape}
 use Rattle.packing.proofs.RulePlace.{rule-codec}

@@ -10,7 +10,7 @@ use Rattle.machine.specs.Entries.{isEntry}
 use Rattle.machine.specs.declared.Entry.{Entry}
 use Rattle.tables.specs.declared.Place.{Place}
 use Rattle.shapes.specs.Shape.{Shape, coded, table as counted}
-use Rattle.tables.specs.Tables.{tableNumbers, isPlace, placeOf}
+use Rattle.tables.specs.Inner.Tables.{tableNumbers, isPlace, placeOf}
 
 -- a flag as a bit
 abbrev pub flagNumber : Bool → ℕ

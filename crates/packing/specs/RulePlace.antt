@@ -15,7 +15,7 @@ use Rattle.rules.specs.declared.Limit.the-variants.{Notional, Volume, Count}
 use Rattle.rules.specs.declared.Rule.{Rule}
 use Rattle.tables.specs.declared.Place.{Place}
 use Rattle.shapes.specs.Shape.{Shape, coded, table as counted}
-use Rattle.tables.specs.Tables.{tableNumbers, isPlace, placeOf}
+use Rattle.tables.specs.Inner.Tables.{tableNumbers, isPlace, placeOf}
 
 -- the limit's number
 abbrev pub limitNumber : Limit → ℕ

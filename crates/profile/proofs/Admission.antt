@@ -14,13 +14,13 @@ use Rattle.packing.proofs.RulePlace.{rule-wider}
 use Rattle.rules.specs.Valid.{isRule}
 use Rattle.machine.specs.State.{Profile}
 use Rattle.admission.specs.Admission.{mayJoin}
-use Rattle.admission.specs.Counting.{SoFar, Follows, Numbered}
+use Rattle.admission.specs.Inner.Counting.{SoFar, Follows, Numbered}
 use Rattle.admission.specs.declared.Tally.{Tally}
 use Rattle.admission.specs.declared.Admitted.{Admitted}
 use Rattle.admission.specs.declared.Admitted.the-variants.{With, TooMany}
 use Rattle.profile.specs.Profile.{rootsWith, numbered, joined, tooMany, rootsTable}
-use Rattle.profile.specs.Lawful.{Said, Lawful}
-use Rattle.profile.specs.Held.{Held, Joins}
+use Rattle.profile.specs.Inner.Lawful.{Said, Lawful}
+use Rattle.profile.specs.Inner.Held.{Held, Joins}
 use Rattle.profile.proofs.Joined.{known-of, scope-of, grow, ownOf, joined-is, joined-length, join-is, own-rule, lawful-joined}
 use Rattle.profile.proofs.Memory.{length-roots, length-rules, names-known, roots-kept, roots-put, rules-put}
 

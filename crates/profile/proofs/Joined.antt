@@ -14,14 +14,14 @@ use Rattle.rules.specs.declared.Rule.{Rule}
 use Rattle.text.specs.Text.{indexOf}
 use Rattle.text.proofs.Lists.{index-le}
 use Rattle.laws.specs.Folds.{every}
-use Rattle.laws.specs.Every.{every-imp, every-join}
+use Rattle.laws.proofs.Every.{every-imp, every-join}
 use Rattle.rules.specs.Valid.{isScope, isRule}
 use Rattle.machine.specs.State.{Profile}
 use Rattle.packing.proofs.RulePlace.{rule-wider}
 use Rattle.admission.specs.Admission.{crowded, overfull, seenAfter, isNext, mayJoin, areInOrder}
 use Rattle.admission.proofs.Levels.{or-l, or-r, order-more}
 use Rattle.profile.specs.Profile.{rootsWith, numbered, joined, tooMany, startOf}
-use Rattle.profile.specs.Lawful.{IsNameNumber, SaidScope, Said, Lawful}
+use Rattle.profile.specs.Inner.Lawful.{IsNameNumber, SaidScope, Said, Lawful}
 use Rattle.profile.proofs.Roots.{with-index, with-length, with-named, with-placed}
 
 -- before the first line nothing is too many

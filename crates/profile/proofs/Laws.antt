@@ -7,7 +7,7 @@ use lib.ListN.{length, getD}
 use lib.Dec.{eqb, leb}
 use borrow.Author.Tests.{eqb-true, eqb-false, leb-true}
 use native.Mathlib.Omega.{arith}
-use Rattle.laws.specs.Tests.{and-l, tests}
+use Rattle.laws.proofs.Tests.{and-l, tests}
 use Rattle.measures.specs.Ranges.{_to_, isIn}
 use Rattle.rules.specs.declared.Scope.{Scope}
 use Rattle.rules.specs.declared.Scope.the-variants.{EveryFill, WholeRoot, OneUnit}
@@ -22,7 +22,7 @@ use Rattle.machine.specs.State.{Profile}
 use Rattle.profile.specs.declared.Reading.the-variants.{Accepted, Refused}
 use Rattle.admission.specs.Admission.{seenAfter, isNext, areInOrder, Bounded}
 use Rattle.admission.proofs.Levels.{bounded-none, ordered-bounded}
-use Rattle.profile.specs.Lawful.{IsNameNumber, Lawful}
+use Rattle.profile.specs.Inner.Lawful.{IsNameNumber, Lawful}
 use Rattle.profile.proofs.Joined.{start-lawful, joined-length, lawful-joined}
 use Rattle.line.proofs.Laws.{line-refused}
 use Rattle.profile.proofs.Said.{said, firm-named}

@@ -10,7 +10,7 @@ use native.Mathlib.Omega.{arith}
 use Rattle.rules.specs.declared.Scope.{Scope}
 use Rattle.rules.specs.declared.Scope.the-variants.{EveryFill, WholeRoot, OneUnit}
 use Rattle.rules.specs.declared.Rule.{Rule}
-use Rattle.tables.specs.Tables.{flat, tableNumbers}
+use Rattle.tables.specs.Inner.Tables.{flat, tableNumbers}
 use Rattle.packing.specs.RulePlace.{rootNumber, ruleNumbers, rulesTable}
 use Rattle.tables.proofs.Tables.{Codec, length-table, put-next}
 use Rattle.packing.proofs.RulePlace.{rule-codec}

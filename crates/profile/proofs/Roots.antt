@@ -11,7 +11,7 @@ use native.Mathlib.Omega.{arith}
 use Rattle.text.specs.Text.{indexOf}
 use Rattle.text.proofs.Lists.{index-le}
 use Rattle.profile.specs.Profile.{withRoot}
-use Rattle.profile.specs.Lawful.{IsNameNumber}
+use Rattle.profile.specs.Inner.Lawful.{IsNameNumber}
 
 -- a name that is there stands at its index
 index-at : (b : ℕ) (s : List ℕ) → indexOf b s < length s → getD s (indexOf b s) 0 ≡ b

@@ -7,7 +7,7 @@ use lib.ListN.{length}
 use lib.Dec.{eqb, leb}
 use borrow.Author.Tests.{le-leb}
 use native.Mathlib.Omega.{arith}
-use Rattle.laws.specs.Tests.{and-l, and-r, tests}
+use Rattle.laws.proofs.Tests.{and-l, and-r, tests}
 use Rattle.measures.specs.Ranges.{Range, In, isIn, units}
 use Rattle.rules.specs.Rules.{InRange}
 use Rattle.rules.specs.declared.Scope.the-variants.{WholeRoot, OneUnit}
@@ -22,7 +22,7 @@ use Rattle.line.specs.Line.{isRead, theNumber, firmField, rootField, rootIn, is
 use Rattle.line.specs.declared.Line.the-variants.{Is}
 use Rattle.line.proofs.Laws.{InScope, InWindow, line-accepted, line-rule, line-firm}
 use Rattle.rules.specs.Valid.{isLimit, isKind}
-use Rattle.profile.specs.Lawful.{IsNameNumber, SaidScope, Said}
+use Rattle.profile.specs.Inner.Lawful.{IsNameNumber, SaidScope, Said}
 
 -- a number in its range passes the test
 in-passes : (r : Range) (n : ℕ) → In r n → isIn r n ≡ true

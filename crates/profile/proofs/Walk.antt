@@ -7,21 +7,21 @@ use lib.ListN.{length, getD, drop, replicate}
 use borrow.Author.Tests.{ne-eqb}
 use native.Mathlib.Omega.{arith}
 use Rattle.measures.specs.Ranges.{_to_, isIn}
-use Rattle.laws.specs.Lists.{ended}
+use Rattle.laws.proofs.Lists.{ended}
 use Rattle.rules.specs.declared.Rule.{Rule}
 use Rattle.text.specs.Text.{pieces, lines}
 use Rattle.reader.specs.Lines.{lineFrom}
 use Rattle.reader.proofs.Lines.{line-on, line-inside}
 use Rattle.line.specs.Line.{firmIn, lineOf, anyLine}
 use Rattle.line.proofs.Laws.{any-line}
-use Rattle.tables.specs.Tables.{zeros, flat, tableNumbers}
+use Rattle.tables.specs.Inner.Tables.{zeros, flat, tableNumbers}
 use Rattle.line.specs.declared.Line.the-variants.{Is, Refused as Faulty}
 use Rattle.line.proofs.Laws.{line-refused}
 use Rattle.admission.specs.Admission.{howMany}
 use Rattle.profile.specs.Profile.{joined, Outcome, afterLine, readOn, startOf, outcomeOf, readingOf, rootsTable, scanOf}
 use Rattle.machine.specs.State.{Profile}
-use Rattle.admission.specs.Counting.{noRules}
-use Rattle.profile.specs.Held.{Stored, Held, Joins, ReadingTold}
+use Rattle.admission.specs.Inner.Counting.{noRules}
+use Rattle.profile.specs.Inner.Held.{Stored, Held, Joins, ReadingTold}
 use Rattle.profile.specs.declared.Reading.{Reading}
 use Rattle.profile.specs.declared.Reading.the-variants.{Accepted, Refused}
 use Rattle.admission.specs.declared.Tally.{Tally}

@@ -1,3 +1,2 @@
 pub mod Profile
-pub mod Lawful
-pub mod Held
+pub mod Inner

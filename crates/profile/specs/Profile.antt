@@ -14,7 +14,7 @@ use Rattle.text.specs.Text.{lines, indexOf}
 use Rattle.line.specs.Line.{firmIn, lineOf}
 use Rattle.line.specs.declared.Line.{Line}
 use Rattle.line.specs.declared.Line.the-variants.{Is, Refused as Faulty}
-use Rattle.tables.specs.Tables.{tableNumbers}
+use Rattle.tables.specs.Inner.Tables.{tableNumbers}
 use Rattle.packing.specs.RulePlace.{rulesTable}
 use Rattle.profile.specs.declared.Reading.{Reading}
 use Rattle.profile.specs.declared.Scan.{Scan}

@@ -5,7 +5,7 @@ use native.Mathlib.Omega.{arith}
 use mathlib.Core.Path.{_≡_, refl, sym, ap, _∙_, subst⁻¹}
 use mathlib.Core.List.{List, [], _++_}
 use lib.ListN.{drop}
-use Rattle.tables.specs.Tables.{zeros}
+use Rattle.tables.specs.Inner.Tables.{zeros}
 use Rattle.profile.specs.Profile.{outcomeOf}
 use Rattle.profile.specs.declared.Reading.the-variants.{Accepted}
 use Rattle.machine.specs.State.{State, armed}

@@ -14,7 +14,7 @@ use Rattle.profile.proofs.Laws.{reading-accepted}
 use Rattle.machine.specs.State.{State, armed}
 use Rattle.state.specs.State.{size, decode, stored}
 use Rattle.state.specs.Sound.{SoundState, isSound}
-use Rattle.state.specs.Laid.{Fits}
+use Rattle.state.specs.Inner.Laid.{Fits}
 use Rattle.state.proofs.Exactly.{taken-apart}
 use Rattle.state.proofs.Stored.{stored-rest, decode-stored}
 use Rattle.state.proofs.Exactly.{made-parts, sound-fits, given-is-made, sound-stored}

@@ -9,7 +9,7 @@ use lib.ListN.{length, getD, drop}
 use lib.Dec.{eqb, ltb}
 use borrow.Author.Tests.{ltb-true, ltb-false, lt-ltb, le-ltb, eqb-true, eqb-false, ne-eqb}
 use Rattle.text.specs.Text.{bytes}
-use Rattle.tables.specs.Tables.{zeros}
+use Rattle.tables.specs.Inner.Tables.{zeros}
 use Rattle.machine.specs.Judge.{isRefusal}
 use Rattle.state.specs.State.{size}
 use Rattle.calls.specs.Calls.{isShort, armAnswer, clearAnswer, clearMemory, callAnswer, callMemory, sayAnswer, sayMemory, textAnswer, textMemory}

@@ -6,7 +6,7 @@ use mathlib.Core.List.{List}
 use lib.ListN.{getD}
 use lib.Dec.{eqb}
 use borrow.Author.Tests.{eqb-true}
-use Rattle.laws.specs.Tests.{and-l}
+use Rattle.laws.proofs.Tests.{and-l}
 use Rattle.state.specs.Sound.{isSound}
 use Rattle.state.proofs.Exactly.{taken-apart}
 use Rattle.state.proofs.Map.{map-test}

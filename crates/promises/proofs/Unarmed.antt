@@ -7,7 +7,7 @@ use mathlib.Core.List.{List, [], _∷_, _++_}
 use lib.ListN.{length, getD, drop, length-append}
 use lib.Dec.{eqb, leb}
 use borrow.Author.Tests.{eq-eqb, ne-eqb, le-ltb, leb-true, leb-false}
-use Rattle.tables.specs.Tables.{zeros}
+use Rattle.tables.specs.Inner.Tables.{zeros}
 use Rattle.shapes.proofs.Tables.{length-zeros}
 use Rattle.profile.specs.Profile.{outcomeOf, readingOf}
 use Rattle.profile.specs.declared.Reading.the-variants.{Accepted, Refused as NotRead}

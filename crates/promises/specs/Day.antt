@@ -5,7 +5,7 @@ use mathlib.Core.Path.{_≡_}
 use mathlib.Core.List.{List, [], _∷_, _++_}
 use lib.ListN.{drop}
 use Rattle.rules.specs.Allowance.{All}
-use Rattle.tables.specs.Tables.{zeros}
+use Rattle.tables.specs.Inner.Tables.{zeros}
 use Rattle.profile.specs.Profile.{outcomeOf, readingOf}
 use Rattle.profile.specs.declared.Reading.the-variants.{Refused as NotRead}
 use Rattle.state.specs.State.{size, decode}

@@ -5,7 +5,7 @@ use mathlib.Core.List.{List, [], _∷_}
 use lib.ListN.{length, take, drop}
 use lib.Seq.{length-take-le}
 use native.Mathlib.Omega.{arith}
-use Rattle.laws.specs.Lists.{ended}
+use Rattle.laws.proofs.Lists.{ended}
 use Rattle.text.specs.Text.{pieces, lines, indexOf}
 use Rattle.text.proofs.Lists.{index-le, within, first-line, line-here as next-lines}
 use Rattle.reader.specs.Lines.{lineFrom}

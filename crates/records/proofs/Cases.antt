@@ -6,7 +6,7 @@ use mathlib.Core.List.{List}
 use lib.ListN.{length}
 use native.Mathlib.Omega.{arith}
 use borrow.Author.Tests.{eq-eqb, ne-eqb, le-leb, lt-leb}
-use Rattle.laws.specs.Tests.{tests}
+use Rattle.laws.proofs.Tests.{tests}
 use Rattle.laws.specs.Lists.{same}
 use Rattle.bits.specs.Fields.{total, Fit, fieldsOf}
 use Rattle.bits.proofs.Packing.{done, most, fits}

@@ -6,8 +6,9 @@ use mathlib.Core.List.{List, _++_}
 use lib.ListN.{length, getD, drop}
 use lib.Dec.{eqb, leb}
 use borrow.Author.Tests.{eq-eqb, eqb-true, le-leb, lt-leb}
-use Rattle.laws.specs.Tests.{and-l, and-r}
-use Rattle.laws.specs.Lists.{same, same-eq, same-refl}
+use Rattle.laws.proofs.Tests.{and-l, and-r}
+use Rattle.laws.specs.Lists.{same}
+use Rattle.laws.proofs.Lists.{same-eq, same-refl}
 use Rattle.bits.specs.Fields.{total, Fit, fieldsOf, bytesOf}
 use Rattle.bits.proofs.Packing.{read-write, write-read, length-bytes, bytes-fit}
 use Rattle.records.specs.Form.{Form, recordOf, eventAt, accepts, written}

@@ -7,14 +7,15 @@ use native.Mathlib.Omega.{arith}
 use lib.ListN.{length, getD, take, drop, set, length-append, length-drop, length-set}
 use lib.Seq.{sets, take-at, drop-at, split-at, length-take-le}
 use borrow.Author.Tests.{eq-eqb}
-use Rattle.laws.specs.Tests.{and-l}
-use Rattle.laws.specs.Lists.{same, same-eq}
+use Rattle.laws.proofs.Tests.{and-l}
+use Rattle.laws.specs.Lists.{same}
+use Rattle.laws.proofs.Lists.{same-eq}
 use Rattle.laws.specs.Folds.{keep}
-use Rattle.laws.specs.Every.{every-at}
+use Rattle.laws.proofs.Every.{every-at}
 use Rattle.bits.specs.Fields.{total, packed}
 use Rattle.machine.specs.declared.Sent.{Sent}
 use Rattle.machine.specs.Register.{hasIdentity, noSent, usedUp, isSent, areDifferent}
-use Rattle.tables.specs.Tables.{zeros, flat, tableNumbers, isPlace}
+use Rattle.tables.specs.Inner.Tables.{zeros, flat, tableNumbers, isPlace}
 use Rattle.tables.proofs.AllZero.{zeros-add}
 use Rattle.packing.proofs.Parts.{two}
 use Rattle.tables.proofs.Tables.{length-flat, length-table, place-table, read-table, put-at, put-next}

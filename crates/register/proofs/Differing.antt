@@ -10,7 +10,7 @@ use lib.ListN.{length, getD, drop, length-drop, drop-of-length-le}
 use lib.Dec.{eqb}
 use borrow.Author.Tests.{eqb-false}
 use Rattle.laws.specs.Folds.{anyOf, sumOf}
-use Rattle.laws.specs.Marks.{unmarked}
+use Rattle.laws.proofs.Marks.{unmarked}
 use Rattle.bits.specs.Locks.{bit, withBit}
 use Rattle.bits.proofs.Words.{bit-cases, bit-with-same, bit-with-other}
 use Rattle.machine.specs.declared.Sent.{Sent}

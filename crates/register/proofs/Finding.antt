@@ -8,7 +8,7 @@ use native.Mathlib.Omega.{arith}
 use lib.ListN.{length, getD, take, drop, set, drop-of-length-le}
 use lib.Dec.{eqb, ltb}
 use borrow.Author.Tests.{eqb-true, eq-eqb, ne-eqb, ltb-true, ltb-false, lt-ltb, not-true}
-use Rattle.laws.specs.Tests.{and-l, and-r, same-test}
+use Rattle.laws.proofs.Tests.{and-l, and-r, same-test}
 use Rattle.laws.specs.Folds.{anyOf, keep}
 use Rattle.machine.specs.declared.Sent.{Sent}
 use Rattle.machine.specs.Register.{hasIdentity, isOpen, noSent, sentAt, usedUp, areDifferent}

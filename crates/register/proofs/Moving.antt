@@ -6,7 +6,7 @@ use native.Mathlib.Numerals.{add-one}
 use native.Mathlib.Omega.{arith}
 use lib.ListN.{length, getD, take, drop, set, length-append, length-drop, drop-of-length-le}
 use lib.Seq.{take-all, take-suc, drop-cons, append-snoc, set-at, getD-append-add, getD-drop, length-take-le}
-use Rattle.tables.specs.Tables.{zeros}
+use Rattle.tables.specs.Inner.Tables.{zeros}
 use Rattle.packing.proofs.Parts.{two}
 
 module _ (s : List ℕ) (j : ℕ) where

@@ -9,14 +9,14 @@ use native.Mathlib.Omega.{arith}
 use lib.ListN.{length, getD, drop, length-drop}
 use lib.Seq.{drop-drop, drop-cons, take-all}
 use borrow.Author.Tests.{lt-leb, le-leb}
-use Rattle.laws.specs.Tests.{and-l, and-r}
+use Rattle.laws.proofs.Tests.{and-l, and-r}
 use Rattle.laws.specs.Folds.{every}
-use Rattle.laws.specs.Every.{every-imp}
+use Rattle.laws.proofs.Every.{every-imp}
 use Rattle.machine.specs.declared.Sent.{Sent}
 use Rattle.machine.specs.Register.{noSent, isSent, areDifferent}
 use Rattle.shapes.specs.Shape.{coded}
 use Rattle.shapes.proofs.Valid.{table-few, table-all}
-use Rattle.tables.specs.Tables.{allZero, places, placesPass}
+use Rattle.tables.specs.Inner.Tables.{allZero, places, placesPass}
 use Rattle.tables.proofs.Passing.{pass-on}
 use Rattle.tables.proofs.Tables.{Codec, length-places, length-table, places-table}
 use Rattle.register.specs.SentPlace.{sentNumbers, sentFrom, isSentPlace, sentShape}

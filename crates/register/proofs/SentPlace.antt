@@ -8,7 +8,7 @@ use lib.ListN.{length, getD, drop}
 use lib.Seq.{getD-drop}
 use lib.Dec.{eqb, leb, ltb}
 use borrow.Author.Tests.{eqb-true, eq-eqb, le-leb, lt-ltb}
-use Rattle.laws.specs.Tests.{and-l, and-r, same-test, tests}
+use Rattle.laws.proofs.Tests.{and-l, and-r, same-test, tests}
 use Rattle.laws.specs.Lists.{same}
 use Rattle.measures.specs.Ranges.{isIn, premiums}
 use Rattle.bits.specs.Fields.{total, packed, unpacked, Fit}
@@ -16,7 +16,7 @@ use Rattle.bits.proofs.Packing.{unpacked-packed, done, most, fits}
 use Rattle.machine.specs.declared.Sent.{Sent}
 use Rattle.machine.specs.Register.{isSent}
 use Rattle.machine.proofs.Register.{sent-in, in-sent}
-use Rattle.tables.specs.Tables.{isPlace}
+use Rattle.tables.specs.Inner.Tables.{isPlace}
 use Rattle.packing.specs.EntryPlace.{amountWidths}
 use Rattle.tables.proofs.Tables.{Codec}
 use Rattle.packing.proofs.Parts.{told, shifted, by-shift, spare-test}

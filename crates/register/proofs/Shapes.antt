@@ -8,7 +8,7 @@ use lib.Dec.{leb}
 use Rattle.machine.specs.declared.Sent.{Sent}
 use Rattle.shapes.specs.Shape.{Exact, cell, coded, both, named, rows, table as counted}
 use Rattle.shapes.proofs.Exact.{coded-exact, table-exact}
-use Rattle.tables.specs.Tables.{allZero, tableNumbers, isPlace, placesPass}
+use Rattle.tables.specs.Inner.Tables.{allZero, tableNumbers, isPlace, placesPass}
 use Rattle.register.specs.SentPlace.{isSentPlace, sentShape}
 use Rattle.register.specs.Register.{registerShape, registerNumbers, registerIn}
 use Rattle.register.proofs.SentPlace.{sent-codec}

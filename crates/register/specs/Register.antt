@@ -8,7 +8,7 @@ use Rattle.laws.specs.Folds.{every}
 use Rattle.machine.specs.Register.{hasIdentity, noSent, isSent, areDifferent}
 use Rattle.machine.specs.declared.Sent.{Sent}
 use Rattle.shapes.specs.Shape.{Shape, table as counted}
-use Rattle.tables.specs.Tables.{tableNumbers, places}
+use Rattle.tables.specs.Inner.Tables.{tableNumbers, places}
 use Rattle.register.specs.SentPlace.{sentNumbers, sentFrom, sentShape}
 
 -- the register's table: how many orders there are, and their places

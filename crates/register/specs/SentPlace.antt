@@ -7,7 +7,7 @@ use Rattle.bits.specs.Fields.{packed, unpacked}
 use Rattle.machine.specs.Register.{isSent}
 use Rattle.machine.specs.declared.Sent.{Sent}
 use Rattle.shapes.specs.Shape.{Shape, coded}
-use Rattle.tables.specs.Tables.{isPlace}
+use Rattle.tables.specs.Inner.Tables.{isPlace}
 use Rattle.packing.specs.EntryPlace.{amountWidths}
 
 -- the widths of the first number's fields: spare, identity, root, unit, reports still allowed; the second's are those of an entry's

@@ -3,7 +3,7 @@ ghost use mathlib.Core.Path.{_≡_};
 ghost use mathlib.Core.List.{_++_};
 ghost use Prim.Native.Nat.{_+_, _≤_};
 ghost use lib.ListN.{length, drop};
-ghost use Rattle.tables.specs.Tables.{zeros};
+ghost use Rattle.tables.specs.Inner.Tables.{zeros};
 ghost use Rattle.register.specs.Register.{registerOf, placeOfIdentity};
 use crate::words;
 

@@ -4,7 +4,7 @@ ghost use mathlib.Core.Bool.{false, not, _&&_};
 ghost use Prim.Native.Nat.{_*_, _≤_};
 ghost use lib.ListN.{length, drop};
 ghost use Rattle.machine.specs.Register.{isOpen, areDifferent};
-ghost use Rattle.tables.specs.Tables.{allZero, placesPass};
+ghost use Rattle.tables.specs.Inner.Tables.{allZero, placesPass};
 ghost use Rattle.register.specs.SentPlace.{isSentPlace};
 ghost use Rattle.register.specs.Register.{registerOf};
 use crate::places;

@@ -14,7 +14,7 @@ use Rattle.machine.specs.Deeds.{resetting, clockAfter}
 use Rattle.machine.specs.Locks.{lifted}
 use Rattle.machine.specs.Step.{locksAfter, logAfter, partAfter, after}
 use Rattle.machine.proofs.Effects.{totals-stay, log-stays}
-use Rattle.state.specs.Laid.{withClock}
+use Rattle.state.specs.Inner.Laid.{withClock}
 use Rattle.machine.specs.Register.{registerAfter}
 
 -- it zeroes no counter

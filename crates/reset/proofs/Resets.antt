@@ -9,13 +9,13 @@ use Rattle.machine.specs.Deeds.{resetting, lockingOut, clockAfter}
 use Rattle.machine.specs.Locks.{lifted, lockedOut}
 use Rattle.machine.specs.Order.{unflaggedLog, levelNamed, wiped}
 use Rattle.machine.specs.Step.{accountsAfter, locksAfter, logAfter, partAfter, after}
-use Rattle.log.specs.Log.{entriesIn, logNumbers}
+use Rattle.log.specs.Inner.Log.{entriesIn, logNumbers}
 use Rattle.state.specs.State.{locksNumbers, stored, decode}
-use Rattle.state.specs.Laid.{Laid, withClock, withLocks, withAccounts, withLog}
-use Rattle.state.specs.Tests.{locksPart, logPart, putLocks, putLog}
+use Rattle.state.specs.Inner.Laid.{Laid, withClock, withLocks, withAccounts, withLog}
+use Rattle.state.specs.Inner.Tests.{locksPart, logPart, putLocks, putLog}
 use Rattle.state.proofs.After.{Holds, held-laid, step-on, log-after, fits-clock, fits-locks}
 use Rattle.state.proofs.Done.{fits-all}
-use Rattle.locks.specs.Locks.{locksIn}
+use Rattle.locks.specs.Inner.Locks.{locksIn}
 use Rattle.locks.proofs.Laid.{locks-after}
 use Rattle.reset.proofs.Wipes.{wiped-fair}
 use Rattle.machine.specs.Register.{registerAfter}

@@ -20,7 +20,7 @@ use Rattle.machine.specs.Remaining.{ruleNumbered, firstCell}
 use Rattle.machine.specs.Order.{wiped}
 use Rattle.machine.proofs.Walk.{cells-next, own-rule}
 use Rattle.state.specs.State.{stored, decode}
-use Rattle.state.specs.Laid.{Laid, accountIn, withTotal}
+use Rattle.state.specs.Inner.Laid.{Laid, accountIn, withTotal}
 use Rattle.state.proofs.Walked.{place-within}
 use Rattle.state.proofs.Done.{isMeasured, Fair, change-none}
 use Rattle.state.proofs.Between.{Passing, passing-none, passing-at, passing-more}

@@ -14,7 +14,7 @@ ghost use Rattle.machine.specs.Step.{after};
 ghost use Rattle.state.specs.State.{stored, decode};
 ghost use Rattle.machine.specs.State.{rulesIn};
 ghost use Rattle.machine.specs.Remaining.{firstCell};
-ghost use Rattle.state.specs.Laid.{Laid, withAccounts, between};
+ghost use Rattle.state.specs.Inner.Laid.{Laid, withAccounts, between};
 use machine::Effect;
 use rules::Rule;
 use rules::Scope;

@@ -9,8 +9,9 @@ use lib.Dec.{eqb, leb}
 use lib.ListN.{length, getD, take, drop, length-append, length-drop, take-append-drop}
 use lib.Seq.{take-at, drop-at, take-add, take-take, length-take-le}
 use borrow.Author.Tests.{eqb-true, eq-eqb, leb-true, le-leb}
-use Rattle.laws.specs.Tests.{and-l, and-r, and-i, and-on, same-test}
-use Rattle.laws.specs.Lists.{same, same-eq, same-refl}
+use Rattle.laws.proofs.Tests.{and-l, and-r, and-i, and-on, same-test}
+use Rattle.laws.specs.Lists.{same}
+use Rattle.laws.proofs.Lists.{same-eq, same-refl}
 use Rattle.shapes.specs.Tables.{zeros, allZero, flat, places, placesPass}
 use Rattle.laws.specs.Folds.{every}
 use Rattle.shapes.specs.Shape.{Shape, Exact, Long, cell, coded, both, named, rows, table, Field, ExactField, flag, word}

@@ -6,9 +6,9 @@ use mathlib.Core.List.{List, [], _∷_, _++_, append-assoc, append-nil}
 use native.Mathlib.Omega.{arith}
 use lib.ListN.{length, getD, take, drop, set, length-append, length-set}
 use lib.Seq.{take-at, drop-at, set-at, split-at, set-split, length-take-le}
-use Rattle.laws.specs.Tests.{and-l, and-r}
+use Rattle.laws.proofs.Tests.{and-l, and-r}
 use Rattle.shapes.specs.Tables.{zeros, flat}
-use Rattle.laws.specs.Every.{every-at, every-take}
+use Rattle.laws.proofs.Every.{every-at, every-take}
 use Rattle.shapes.specs.Shape.{Shape, Exact, Long, cell, both, rows}
 use Rattle.shapes.proofs.Tables.{length-flat}
 use Rattle.shapes.proofs.Exact.{rows-many, rows-all}

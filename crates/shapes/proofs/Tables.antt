@@ -9,7 +9,7 @@ use lib.Dec.{eqb}
 use lib.ListN.{length, take, drop, length-append, length-drop, length-replicate}
 use lib.Seq.{drop-at, take-add}
 use borrow.Author.Tests.{eqb-true}
-use Rattle.laws.specs.Tests.{and-l, and-r}
+use Rattle.laws.proofs.Tests.{and-l, and-r}
 use Rattle.shapes.specs.Tables.{zeros, allZero, flat, places, placesPass}
 use Rattle.laws.specs.Folds.{every}
 use Rattle.shapes.specs.Shape.{Shape, Exact, Long}

@@ -6,7 +6,7 @@ use mathlib.Core.List.{List, [], _∷_}
 use lib.ListN.{length}
 use lib.Dec.{leb}
 use borrow.Author.Tests.{eq-eqb, le-leb, leb-true}
-use Rattle.laws.specs.Tests.{and-l, and-r, and-i}
+use Rattle.laws.proofs.Tests.{and-l, and-r, and-i}
 use Rattle.laws.specs.Folds.{every}
 use Rattle.shapes.specs.Shape.{Shape, cell, both, named, rows, table}
 use Rattle.shapes.proofs.Exact.{rows-all}

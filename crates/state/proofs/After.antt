@@ -6,10 +6,10 @@ use mathlib.Core.List.{List, _++_}
 use lib.ListN.{length, take, drop, length-append, length-drop}
 use Rattle.machine.specs.declared.Entry.{Entry}
 use Rattle.machine.specs.State.{State, Locks, rulesIn, rootsIn, Fitting}
-use Rattle.log.specs.Log.{entriesIn, logNumbers}
+use Rattle.log.specs.Inner.Log.{entriesIn, logNumbers}
 use Rattle.state.specs.State.{size, encode, stored, decode}
-use Rattle.state.specs.Laid.{Fits, Laid, withClock, withLocks, withLog, withRegister}
-use Rattle.state.specs.Tests.{logPart, putLog, putRegister}
+use Rattle.state.specs.Inner.Laid.{Fits, Laid, withClock, withLocks, withLog, withRegister}
+use Rattle.state.specs.Inner.Tests.{logPart, putLog, putRegister}
 use Rattle.state.proofs.Stored.{encode-long, decode-stored, stored-laid, stored-again}
 use Rattle.state.proofs.Stores.{put-log, put-register}
 use Rattle.state.proofs.Laid.{laid-entries}

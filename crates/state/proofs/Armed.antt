@@ -8,7 +8,7 @@ use Rattle.shapes.specs.Shape.{cell, both, named, rows, table, flag, word}
 use Rattle.rules.specs.declared.Rule.{Rule}
 use Rattle.rules.proofs.Amounts.{number-in}
 use Rattle.machine.specs.State.{Profile, cellsOf, noLocks, fresh, armed}
-use Rattle.tables.specs.Tables.{zeros, flat, tableNumbers as filled}
+use Rattle.tables.specs.Inner.Tables.{zeros, flat, tableNumbers as filled}
 use Rattle.packing.specs.RulePlace.{rulesTable}
 use Rattle.tables.proofs.AllZero.{zeros-add}
 use Rattle.packing.proofs.Shapes.{rules-written, log-written}

@@ -7,14 +7,14 @@ use mathlib.Core.Path.{_≡_, refl, sym, ap, ap₂, _∙_}
 use mathlib.Core.Bool.{Bool, true, _&&_}
 use mathlib.Core.List.{List, [], _∷_, map}
 use lib.ListN.{length, getD, set}
-use Rattle.laws.specs.Tests.{and-l, and-r}
+use Rattle.laws.proofs.Tests.{and-l, and-r}
 use Rattle.laws.specs.Folds.{every}
 use Rattle.rules.specs.declared.Rule.{Rule}
 use Rattle.rules.specs.declared.Account.{Account}
 use Rattle.machine.specs.State.{State, rulesIn, rootsIn, accountRule, Fitting}
 use Rattle.machine.specs.Remaining.{noAccount}
 use Rattle.state.specs.State.{stored, decode}
-use Rattle.state.specs.Laid.{Fits, Laid, accountIn, withAccounts, between}
+use Rattle.state.specs.Inner.Laid.{Fits, Laid, accountIn, withAccounts, between}
 use Rattle.state.proofs.After.{Holds, held-state, step-on}
 use Rattle.state.proofs.Done.{done, isMeasured, Fair, changeAt, Doing, fits-done}
 

@@ -8,14 +8,14 @@ use mathlib.Core.Bool.{Bool, true, _&&_}
 use mathlib.Core.List.{List, [], _∷_, _++_, map}
 use lib.ListN.{length, getD, take, drop, set}
 use lib.Seq.{set-getD}
-use Rattle.laws.specs.Tests.{and-l, and-r}
+use Rattle.laws.proofs.Tests.{and-l, and-r}
 use Rattle.laws.specs.Folds.{every}
 use Rattle.rules.specs.Amounts.{isOf}
 use Rattle.rules.specs.declared.Account.{Account}
 use Rattle.machine.specs.State.{State, rulesIn, rootsIn, accountRule, Fitting}
 use Rattle.machine.specs.Remaining.{noAccount}
 use Rattle.state.specs.State.{stored, decode}
-use Rattle.state.specs.Laid.{Fits, Laid, accountIn, withAccounts}
+use Rattle.state.specs.Inner.Laid.{Fits, Laid, accountIn, withAccounts}
 use Rattle.state.proofs.After.{Holds, held-state, step-on}
 
 -- a list whose first i elements went through f

@@ -4,7 +4,7 @@ use mathlib.Core.Path.{_≡_, refl}
 use mathlib.Core.Bool.{true}
 use mathlib.Core.List.{List}
 use lib.ListN.{length}
-use Rattle.laws.specs.Tests.{and-l}
+use Rattle.laws.proofs.Tests.{and-l}
 use Rattle.shapes.specs.Shape.{Exact, cell, both, named, table}
 use Rattle.shapes.proofs.Exact.{one-exact, both-exact, named-exact, rows-exact, table-exact, flag-exact, word-exact}
 use Rattle.shapes.proofs.Valid.{table-few}

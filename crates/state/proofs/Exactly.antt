@@ -7,7 +7,7 @@ use mathlib.Core.List.{List, []}
 use lib.ListN.{length, take}
 use lib.Dec.{eqb, leb}
 use borrow.Author.Tests.{eq-eqb, eqb-true, le-leb, leb-true, lt-ltb, ltb-true}
-use Rattle.laws.specs.Tests.{and-l, and-r, and-i, tests}
+use Rattle.laws.proofs.Tests.{and-l, and-r, and-i, tests}
 use Rattle.laws.specs.Folds.{every}
 use Rattle.rules.specs.Amounts.{isOf}
 use Rattle.rules.specs.Valid.{isRule, hasRate}
@@ -21,7 +21,7 @@ use Rattle.given.proofs.Given.{given-made}
 use Rattle.writing.proofs.ReadBack.{given-by-text}
 use Rattle.state.specs.State.{size, numbersShape, encode, stored, decode}
 use Rattle.state.specs.Sound.{Given, SoundState, Sound, isSoundState, isSound}
-use Rattle.state.specs.Laid.{Fits, Laid}
+use Rattle.state.specs.Inner.Laid.{Fits, Laid}
 use Rattle.state.proofs.Stored.{decode-stored, stored-test, stored-long, is-stored, test-restored, test-fits, test-laid}
 
 -- what the test of a profile says, part by part

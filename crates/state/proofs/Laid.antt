@@ -14,7 +14,7 @@ use Rattle.rules.specs.declared.Amount.{Amount}
 use Rattle.rules.specs.declared.Rule.{Rule}
 use Rattle.rules.proofs.Amounts.{in-number}
 use Rattle.packing.specs.RulePlace.{ruleAt, rulesTable, rulesShape, ruleShape}
-use Rattle.laws.specs.Every.{every-at}
+use Rattle.laws.proofs.Every.{every-at}
 use Rattle.tables.proofs.Tables.{read-table}
 use Rattle.packing.proofs.RulePlace.{rule-codec, rule-in-range, rule-wider}
 use Rattle.packing.proofs.EntryPlace.{entry-wider}
@@ -22,15 +22,15 @@ use Rattle.machine.specs.State.{State, cellsOf, rulesIn, rootsIn, accountRule, 
 use Rattle.machine.specs.Entries.{isEntry}
 use Rattle.machine.specs.Remaining.{noAccount, ruleNumbered as ruleIn}
 use Rattle.machine.proofs.Lists.{every-imp}
-use Rattle.log.specs.Log.{HeldIn, entriesIn, logNumbers}
+use Rattle.log.specs.Inner.Log.{HeldIn, entriesIn, logNumbers}
 use Rattle.log.proofs.Logs.{numbers-held, numbers-entries}
 use Rattle.given.specs.Parts.{totalsSize}
 use Rattle.state.specs.State.{number, locksNumbers, stored, decode, logAt, registerAt, totalsAt}
-use Rattle.state.specs.Laid.{Fits, Laid, accountIn, withClock, withTotal}
-use Rattle.state.specs.Tests.{rulesPart, locksPart, logPart, registerPart}
+use Rattle.state.specs.Inner.Laid.{Fits, Laid, accountIn, withClock, withTotal}
+use Rattle.state.specs.Inner.Tests.{rulesPart, locksPart, logPart, registerPart}
 use Rattle.state.proofs.Accounts.{map-length}
 use Rattle.shapes.specs.Shape.{cell, both, named, rows, table, coded}
-use Rattle.tables.specs.Tables.{places}
+use Rattle.tables.specs.Inner.Tables.{places}
 use Rattle.state.proofs.Map.{decode-is}
 use Rattle.state.proofs.Lent.{ones-places}
 use Rattle.state.proofs.Stores.{stored-rules, stored-roots, stored-locks, stored-log, stored-total, put-clock, put-account, stored-register}

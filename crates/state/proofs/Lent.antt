@@ -17,17 +17,17 @@ use Rattle.rules.specs.declared.Rule.{Rule}
 use Rattle.rules.proofs.Amounts.{number-in, of-in}
 use Rattle.machine.specs.State.{cellsOf}
 use Rattle.machine.proofs.Totals.{isPaid}
-use Rattle.tables.specs.Tables.{allZero, places, placesPass}
+use Rattle.tables.specs.Inner.Tables.{allZero, places, placesPass}
 use Rattle.packing.specs.RulePlace.{ruleAt, isRulePlace, rulesShape}
 use Rattle.packing.specs.EntryPlace.{entryAt, isEntryPlace, logShape}
 use Rattle.packing.proofs.Shapes.{rules-read, rules-tested, log-read, log-tested}
 use Rattle.admission.specs.Admission.{areInOrder}
 use Rattle.given.specs.Given.{areRoots}
 use Rattle.given.specs.Parts.{namesHold, placesHold, rootsHold, rulesHold, totalsHold, totalsSize}
-use Rattle.log.specs.Log.{logHolds}
+use Rattle.log.specs.Inner.Log.{logHolds}
 use Rattle.log.proofs.Logs.{areLogged, holds-parts}
 use Rattle.state.specs.State.{number, locksOf, locksShape, totalsShape, accountsOf}
-use Rattle.state.specs.Tests.{locksHold}
+use Rattle.state.specs.Inner.Tests.{locksHold}
 use Rattle.machine.proofs.Cells.{cells-bound}
 use Rattle.register.specs.Register.{registerShape, registerHolds}
 use Rattle.register.proofs.Shapes.{register-read}

@@ -11,7 +11,7 @@ use Rattle.laws.specs.Folds.{every}
 use Rattle.shapes.specs.Shape.{table}
 use Rattle.shapes.proofs.Exact.{table-exact, table-many, read-part, first-decide}
 use Rattle.rules.specs.declared.Rule.{Rule}
-use Rattle.tables.specs.Tables.{places}
+use Rattle.tables.specs.Inner.Tables.{places}
 use Rattle.packing.specs.RulePlace.{ruleAt, rulesShape}
 use Rattle.packing.specs.EntryPlace.{logShape}
 use Rattle.packing.proofs.Shapes.{rules-exact, rules-read, log-exact}
@@ -20,10 +20,10 @@ use Rattle.machine.proofs.Totals.{isPaid}
 use Rattle.admission.specs.Admission.{areInOrder}
 use Rattle.given.specs.Given.{areRoots}
 use Rattle.given.specs.Parts.{rootsHold, rulesOf, rulesHold, totalsHold, totalsSize}
-use Rattle.log.specs.Log.{logHolds}
+use Rattle.log.specs.Inner.Log.{logHolds}
 use Rattle.log.proofs.Logs.{areLogged}
 use Rattle.state.specs.State.{size, number, locksShape, totalsShape, accountsOf, locksAt, logAt, totalsAt, registerAt}
-use Rattle.state.specs.Tests.{rootsPart, rulesPart, totalsPart, locksPart, logPart, locksHold, registerPart}
+use Rattle.state.specs.Inner.Tests.{rootsPart, rulesPart, totalsPart, locksPart, logPart, locksHold, registerPart}
 use Rattle.state.proofs.Exact.{number-exact, totals-exact, locks-exact}
 use Rattle.state.proofs.Lent.{roots-lent, rules-lent, totals-lent, locks-lent, log-lent, register-lent}
 use Rattle.state.proofs.Map.{rootsTold}

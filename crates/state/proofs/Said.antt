@@ -7,7 +7,7 @@ use mathlib.Core.List.{List, []}
 use lib.ListN.{length, getD, drop, length-drop}
 use lib.Dec.{eqb, ltb, leb}
 use borrow.Author.Tests.{le-leb}
-use Rattle.laws.specs.Tests.{and-i, tests, and-r}
+use Rattle.laws.proofs.Tests.{and-i, tests, and-r}
 use Rattle.laws.specs.Folds.{every}
 use Rattle.measures.specs.Ranges.{isIn, times}
 use Rattle.shapes.specs.Shape.{coded, table}
@@ -32,8 +32,8 @@ use Rattle.register.specs.Register.{registerShape}
 use Rattle.machine.specs.Register.{areDifferent}
 use Rattle.machine.specs.Refusals.{used}
 use Rattle.machine.specs.Judge.{logPlaces}
-use Rattle.state.specs.Tests.{useHolds}
-use Rattle.state.specs.Laid.{Laid}
+use Rattle.state.specs.Inner.Tests.{useHolds}
+use Rattle.state.specs.Inner.Laid.{Laid}
 use Rattle.state.proofs.Stored.{test-laid}
 
 -- what a memory says, part by part, whose parts are as they should be

@@ -7,7 +7,7 @@ use mathlib.Core.List.{List, []}
 use lib.ListN.{length, getD, drop}
 use lib.Dec.{eqb, leb, ltb}
 use borrow.Author.Tests.{le-leb, lt-leb}
-use Rattle.laws.specs.Tests.{and-l, and-i, and-on, same-test, tests, and-r}
+use Rattle.laws.proofs.Tests.{and-l, and-i, and-on, same-test, tests, and-r}
 use Rattle.laws.specs.Folds.{every}
 use Rattle.measures.specs.Ranges.{isIn, times}
 use Rattle.shapes.specs.Shape.{table}
@@ -20,11 +20,11 @@ use Rattle.given.specs.Names.{isNameNumber}
 use Rattle.admission.specs.Admission.{areInOrder}
 use Rattle.given.specs.Given.{areRoots}
 use Rattle.given.specs.Parts.{rulesHold, totalsHold}
-use Rattle.log.specs.Log.{logHolds}
+use Rattle.log.specs.Inner.Log.{logHolds}
 use Rattle.log.proofs.Logs.{areLogged}
 use Rattle.state.specs.State.{size, number, locksShape, totalsShape, accountsOf, locksAt, logAt, totalsAt, registerAt}
 use Rattle.state.specs.Sound.{isSound}
-use Rattle.state.specs.Tests.{rulesPart, totalsPart, locksPart, logPart, frontHolds, locksHold, partsHold, soundParts, registerPart, useHolds}
+use Rattle.state.specs.Inner.Tests.{rulesPart, totalsPart, locksPart, logPart, frontHolds, locksHold, partsHold, soundParts, registerPart, useHolds}
 use Rattle.state.proofs.Map.{rootsTold, rulesTold, roots-told}
 use Rattle.state.proofs.Parts.{roots-held, rules-held, rules-are, totals-held, locks-held, log-held, log-many, register-held}
 use Rattle.state.proofs.Said.{Said, sound-said, said-sound, few-told, rules-few, Parted}

@@ -8,7 +8,7 @@ use lib.ListN.{length, take, drop, length-append, take-append-drop}
 use lib.Seq.{drop-at, take-all}
 use lib.Dec.{eqb}
 use borrow.Author.Tests.{eqb-true}
-use Rattle.laws.specs.Tests.{and-l, and-r, and-i}
+use Rattle.laws.proofs.Tests.{and-l, and-r, and-i}
 use Rattle.shapes.specs.Shape.{cell, both, named, coded, word, flag, table}
 use Rattle.shapes.proofs.Exact.{rows-many}
 use Rattle.shapes.proofs.Valid.{every-any, rows-ok, table-ok, table-few, table-all}
@@ -17,7 +17,7 @@ use Rattle.packing.specs.RulePlace.{ruleShape, rulesShape}
 use Rattle.packing.specs.EntryPlace.{entryShape, logShape}
 use Rattle.given.specs.Parts.{totalsSize}
 use Rattle.state.specs.State.{size, number, marksOf, locksShape, asTuple, profileShape, totalsShape, partShape, Numbers, numbersShape, totalsIn, accountsOf, numbersOf, stateOf, encode, stored, decode}
-use Rattle.state.specs.Laid.{Fits, Laid}
+use Rattle.state.specs.Inner.Laid.{Fits, Laid}
 use Rattle.state.proofs.Accounts.{accounts-rules, accounts-totals, accounts-measured, accounts-again, map-length}
 use Rattle.state.proofs.Exact.{numbers-exact}
 use Rattle.machine.proofs.Cells.{cells-bound}

@@ -12,21 +12,21 @@ use Rattle.shapes.proofs.Exact.{table-exact}
 use Rattle.shapes.proofs.Parts.{Part, part-of, put-part, put-one, seen, narrow}
 use Rattle.rules.specs.Amounts.{numberOf}
 use Rattle.rules.specs.declared.Account.{Account}
-use Rattle.tables.specs.Tables.{zeros, flat}
+use Rattle.tables.specs.Inner.Tables.{zeros, flat}
 use Rattle.packing.specs.RulePlace.{rulesTable}
 use Rattle.packing.specs.EntryPlace.{logShape}
 use Rattle.packing.proofs.Shapes.{rules-exact, log-exact, rules-written, log-written}
 use Rattle.machine.specs.declared.Entry.{Entry}
 use Rattle.machine.specs.State.{State, Locks, rootsIn, accountRule, Fitting}
 use Rattle.machine.specs.Remaining.{noAccount}
-use Rattle.log.specs.Log.{logNumbers}
+use Rattle.log.specs.Inner.Log.{logNumbers}
 use Rattle.state.specs.State.{size, number, marksOf, locksShape, locksNumbers, numbersShape, numbersOf, encode, stored, locksAt, logAt, totalsAt, registerAt}
-use Rattle.state.specs.Laid.{Fits, withClock, withLocks, withLog, withAccounts, withRegister}
+use Rattle.state.specs.Inner.Laid.{Fits, withClock, withLocks, withLog, withAccounts, withRegister}
 use Rattle.state.proofs.Accounts.{map-length, map-set}
 use Rattle.state.proofs.Exact.{number-exact, locks-exact}
 use Rattle.state.proofs.Stored.{fits-ok}
 use Rattle.state.proofs.Places.{clock-in, roots-in, rules-in, HasTotal, total-in, locks-in, log-in, register-in}
-use Rattle.state.specs.Tests.{putLocks, putLog, putRegister}
+use Rattle.state.specs.Inner.Tests.{putLocks, putLog, putRegister}
 use Rattle.register.specs.Register.{registerShape, registerNumbers}
 use Rattle.register.proofs.Shapes.{register-exact, register-written}
 use Rattle.machine.specs.declared.Sent.{Sent}

@@ -7,7 +7,7 @@ use mathlib.Core.List.{List}
 use lib.ListN.{length}
 use lib.Dec.{leb, ltb}
 use borrow.Author.Tests.{lt-ltb, le-ltb, ltb-true, le-leb, leb-true}
-use Rattle.laws.specs.Tests.{same-test}
+use Rattle.laws.proofs.Tests.{same-test}
 use Rattle.laws.specs.Folds.{every}
 use Rattle.rules.specs.Valid.{hasRate}
 use Rattle.machine.specs.State.{State, rulesIn, rootsIn}
@@ -19,7 +19,7 @@ use Rattle.machine.specs.Register.{isSent, keptPlaces}
 use Rattle.machine.proofs.Lists.{sum-most, keep-le}
 use Rattle.machine.proofs.Windows.{rate-longest}
 use Rattle.machine.proofs.Register.{sent-in}
-use Rattle.state.specs.Laid.{Fits}
+use Rattle.state.specs.Inner.Laid.{Fits}
 
 module _ {s : State} (f : Fits s) where
   -- at most 1,024 places are kept

@@ -10,7 +10,7 @@ use Rattle.machine.specs.State.{rulesIn}
 use Rattle.machine.specs.Remaining.{ruleNumbered, firstCell}
 use Rattle.machine.proofs.Walk.{cells-next, cells-within, cells-end}
 use Rattle.state.specs.State.{decode}
-use Rattle.state.specs.Laid.{Laid}
+use Rattle.state.specs.Inner.Laid.{Laid}
 use Rattle.state.proofs.Laid.{many-accounts}
 
 module _ {xs : List ℕ} (h : Laid xs) where

@@ -1,4 +1,3 @@
 pub mod State
 pub mod Sound
-pub mod Laid
-pub mod Tests
+pub mod Inner

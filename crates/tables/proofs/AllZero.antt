@@ -8,9 +8,9 @@ use lib.Dec.{eqb}
 use lib.Bits.{bitOr, or-add-and, and-le-l, and-le-r}
 use lib.ListN.{length, getD, take, drop, take-append-drop, replicate-append-replicate}
 use borrow.Author.Tests.{eqb-true, eq-eqb}
-use Rattle.laws.specs.Tests.{and-l, and-r, and-i, same-test}
-use Rattle.laws.specs.Lists.{from, ended}
-use Rattle.tables.specs.Tables.{zeros, allZero}
+use Rattle.laws.proofs.Tests.{and-l, and-r, and-i, same-test}
+use Rattle.laws.proofs.Lists.{from, ended}
+use Rattle.tables.specs.Inner.Tables.{zeros, allZero}
 
 -- a list of zeros
 pub zeros-add : (n m : ℕ) → zeros n ++ zeros m ≡ zeros (n + m)

@@ -7,8 +7,8 @@ use native.Mathlib.Nat.{not-suc-le-zero, le-of-suc-le-suc, suc-mul, zero-mul, ad
 use native.Mathlib.Omega.{arith}
 use lib.ListN.{drop}
 use lib.Seq.{drop-drop}
-use Rattle.laws.specs.Tests.{and-l, and-r}
-use Rattle.tables.specs.Tables.{places, placesPass}
+use Rattle.laws.proofs.Tests.{and-l, and-r}
+use Rattle.tables.specs.Inner.Tables.{places, placesPass}
 
 -- the first k places pass a test exactly if each of them does
 pub pass-each : (w : ℕ) (test : List ℕ → Bool) (k : ℕ) (xs : List ℕ) → placesPass w test k xs ≡ true → (i : ℕ) → i < k → test (drop (i * w) xs) ≡ true

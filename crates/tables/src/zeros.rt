@@ -2,7 +2,7 @@
 ghost use mathlib.Core.Path.{_≡_};
 ghost use Prim.Native.Nat.{_%_};
 ghost use lib.ListN.{length};
-ghost use Rattle.tables.specs.Tables.{allZero};
+ghost use Rattle.tables.specs.Inner.Tables.{allZero};
 
 // Whether every number is 0, of whole eights of them: eight at a step, each into a variable of its own, so that no step waits for more than one other.
 pub(crate) fn zero_in_eights(s: &[u64]) -> bool

@@ -6,7 +6,7 @@ use mathlib.Core.List.{List, [], _∷_, _++_, map}
 use lib.ListN.{length, getD}
 use borrow.Author.Tests.{le-leb}
 use native.Mathlib.Omega.{arith}
-use Rattle.laws.specs.Tests.{and-l, and-r, and-i, tests}
+use Rattle.laws.proofs.Tests.{and-l, and-r, and-i, tests}
 use Rattle.text.specs.Text.{all, made}
 
 module _ (p : ℕ → Bool) where

@@ -8,7 +8,7 @@ use lib.Dec.{eqb, lit<}
 use borrow.Author.Tests.{le-leb}
 use native.Mathlib.Nat.{pow-zero, pow-suc, div-lt-iff-lt-mul, mod-lt}
 use native.Mathlib.Omega.{arith}
-use Rattle.laws.specs.Tests.{and-i}
+use Rattle.laws.proofs.Tests.{and-i}
 use Rattle.text.specs.Text.{all, isDigit, value, fieldNumber}
 use Rattle.text.specs.declared.Number.the-variants.{Is}
 use Rattle.text.specs.Digits.{digitsUpTo, decimal}

@@ -11,7 +11,7 @@ use borrow.Author.Tests.{eqb-true, ne-eqb}
 use native.Mathlib.Nat.{pow-zero, pow-suc, one-le-pow, zero-mul, mod-lt, div-lt-iff-lt-mul, div-add-mod'}
 use native.Mathlib.Numerals.{add-one}
 use native.Mathlib.Omega.{arith}
-use Rattle.laws.specs.Tests.{and-i}
+use Rattle.laws.proofs.Tests.{and-i}
 use Rattle.text.specs.Text.{all, numeral}
 use Rattle.text.specs.Digits.{digitsUpTo}
 use Rattle.text.proofs.Bytes.{all-append}

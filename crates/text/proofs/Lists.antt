@@ -10,7 +10,7 @@ use borrow.Author.Tests.{leb-false, le-leb, lt-leb, eq-eqb, ne-eqb}
 use native.Mathlib.Decide.{decLt}
 use native.Mathlib.Nat.{add-zero, zero-add, suc-add}
 use native.Mathlib.Omega.{arith}
-use Rattle.laws.specs.Lists.{from, ended}
+use Rattle.laws.proofs.Lists.{from, ended}
 use Rattle.text.specs.Text.{all, onto, pieces, lines, fields, field, fieldsFrom, indexOf}
 
 -- the index of b lies further on past a byte that is not b; it is here at b, and at the end

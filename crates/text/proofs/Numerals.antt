@@ -12,11 +12,11 @@ use native.Mathlib.Decide.{decLt}
 use native.Mathlib.Nat.{add-zero, pow-zero, pow-suc, pow-succ', pow-le-pow-right, add-mul, mul-assoc, mul-comm, mul-one, one-mul, zero-mul, mul-le-mul-right}
 use native.Mathlib.Numerals.{add-one}
 use native.Mathlib.Omega.{arith}
-use Rattle.laws.specs.Tests.{and-l, and-r}
+use Rattle.laws.proofs.Tests.{and-l, and-r}
 use Rattle.text.specs.Text.{all, made, isDigit, isNameByte, isName, numeral, nameNumber}
 use Rattle.text.specs.declared.Number.{Number}
 use Rattle.text.specs.declared.Number.the-variants.{Is, Bad}
-use Rattle.laws.specs.Lists.{from, ended}
+use Rattle.laws.proofs.Lists.{from, ended}
 use Rattle.text.proofs.Lists.{all-on, all-off, all-end}
 
 -- what a field of least to most bytes, each with the property p, is read as

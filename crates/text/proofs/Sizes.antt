@@ -11,7 +11,7 @@ use native.Mathlib.Decide.{decLt}
 use native.Mathlib.Nat.{pow-zero, pow-suc, one-le-pow, div-lt-iff-lt-mul, le-div-iff-mul-le, one-mul}
 use native.Mathlib.Numerals.{add-one}
 use native.Mathlib.Omega.{arith}
-use Rattle.laws.specs.Tests.{and-l, and-r}
+use Rattle.laws.proofs.Tests.{and-l, and-r}
 use Rattle.text.specs.Digits.{digitsUpTo, nameBytes, decimal}
 use Rattle.text.proofs.InBase.{digits-none, digits-last}
 

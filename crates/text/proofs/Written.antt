@@ -9,7 +9,7 @@ use native.Mathlib.Omega.{arith}
 use lib.Dec.{eqb}
 use lib.ListN.{length, getD, drop, set, length-append, length-map, length-set}
 use lib.Seq.{sets, sets-eq, set-comm}
-use Rattle.laws.specs.Lists.{from, ended}
+use Rattle.laws.proofs.Lists.{from, ended}
 use Rattle.text.specs.Digits.{digitsUpTo, nameBytes, decimal}
 
 -- two texts written one after the other are one text

@@ -11,7 +11,7 @@ use Rattle.given.specs.Given.{areRoots}
 use Rattle.text.proofs.Bytes.{made-most}
 use Rattle.writing.proofs.Roots.{root-name}
 use Rattle.state.specs.State.{decode}
-use Rattle.state.specs.Laid.{Laid}
+use Rattle.state.specs.Inner.Laid.{Laid}
 use Rattle.state.proofs.Exactly.{made-parts, given-is-made, sound-decode, sound-is-laid}
 use Rattle.calls.specs.Calls.{memoryRefusal}
 use Rattle.calls.proofs.Armed.{sound-memory}

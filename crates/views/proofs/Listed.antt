@@ -7,7 +7,7 @@ use mathlib.Core.List.{List, _++_}
 use lib.ListN.{length, getD, take, drop, length-drop}
 use lib.Seq.{getD-take, getD-drop, length-take-le}
 use borrow.Author.Tests.{ne-eqb, le-ltb, lt-ltb}
-use Rattle.laws.specs.Tests.{tests}
+use Rattle.laws.proofs.Tests.{tests}
 use Rattle.shapes.specs.Shape.{cell, table}
 use Rattle.shapes.proofs.Exact.{table-exact, read-part}
 use Rattle.packing.specs.RulePlace.{rulesShape}
@@ -15,11 +15,11 @@ use Rattle.machine.specs.State.{Profile, State, rootsIn}
 use Rattle.given.specs.Given.{isMade}
 use Rattle.given.specs.Parts.{rulesOf}
 use Rattle.writing.specs.Writing.{textOf}
-use Rattle.writing.specs.Parts.{namesOf, Lent, profileIn}
+use Rattle.writing.specs.Inner.Parts.{namesOf, Lent, profileIn}
 use Rattle.writing.proofs.Lent.{made-lent, names-lent}
 use Rattle.state.specs.State.{number, decode}
-use Rattle.state.specs.Laid.{Laid}
-use Rattle.state.specs.Tests.{rootsPart, rulesPart}
+use Rattle.state.specs.Inner.Laid.{Laid}
+use Rattle.state.specs.Inner.Tests.{rootsPart, rulesPart}
 use Rattle.state.proofs.Exact.{number-exact}
 use Rattle.state.proofs.Exactly.{taken-apart, given-is-made, sound-decode}
 use Rattle.state.proofs.Laid.{laid-roots}

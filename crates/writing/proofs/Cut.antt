@@ -20,7 +20,7 @@ use Rattle.text.specs.Digits.{nameBytes, decimal}
 use Rattle.text.proofs.Decimal.{decimal-some, decimal-few}
 use Rattle.packing.specs.RulePlace.{limitNumber}
 use Rattle.writing.specs.Writing.{typeName, limitText, windowText, rootText, levelText, callPutText, monthText, fieldTexts, beforeFields, trimmed, withCommas, lineText}
-use Rattle.writing.specs.Parts.{afterComma, lettersText, endText}
+use Rattle.writing.specs.Inner.Parts.{afterComma, lettersText, endText}
 
 -- bytes that were written are a text if they are that text's
 pub as-text : {words text : List ℕ} → words ≡ text → (was : List ℕ) (at : ℕ) {now : List ℕ} {r : ℕ} → r ≡ at + length words → now ≡ sets was at words

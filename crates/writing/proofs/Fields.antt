@@ -8,7 +8,7 @@ use lib.Dec.{eqb, leb, ltb, lit<}
 use borrow.Author.Tests.{lt-ltb, le-ltb, ne-eqb}
 use native.Mathlib.Nat.{max-eq-right}
 use native.Mathlib.Omega.{arith}
-use Rattle.laws.specs.Tests.{and-i, tests}
+use Rattle.laws.proofs.Tests.{and-i, tests}
 use Rattle.laws.specs.Lists.{same}
 use Rattle.measures.specs.Ranges.{Range, isIn, dollarLimits, numberLimits, units}
 use Rattle.rules.specs.Rules.{isRate}

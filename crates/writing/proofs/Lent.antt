@@ -8,12 +8,12 @@ use lib.Seq.{take-all}
 use native.Mathlib.Omega.{arith}
 use Rattle.shapes.specs.Shape.{cell, both, named, rows, table}
 use Rattle.shapes.proofs.Tables.{length-places}
-use Rattle.tables.specs.Tables.{places}
+use Rattle.tables.specs.Inner.Tables.{places}
 use Rattle.packing.specs.RulePlace.{ruleAt, rulesShape}
 use Rattle.packing.proofs.Shapes.{rules-read}
 use Rattle.given.specs.Given.{isMade}
 use Rattle.given.specs.Parts.{rulesOf}
-use Rattle.writing.specs.Parts.{namesOf, Lent, profileIn}
+use Rattle.writing.specs.Inner.Parts.{namesOf, Lent, profileIn}
 use Rattle.writing.proofs.ReadBack.{made-facts}
 
 -- a made profile's tables

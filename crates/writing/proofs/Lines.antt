@@ -7,7 +7,7 @@ use lib.ListN.{length, length-append}
 use lib.Dec.{leb, ltb}
 use borrow.Author.Tests.{ltb-true, lt-ltb}
 use native.Mathlib.Omega.{arith}
-use Rattle.laws.specs.Tests.{and-r}
+use Rattle.laws.proofs.Tests.{and-r}
 use Rattle.rules.specs.declared.Rule.{Rule}
 use Rattle.text.specs.Text.{all, pieces, lines}
 use Rattle.laws.specs.Folds.{every}
@@ -16,7 +16,7 @@ use Rattle.given.specs.Names.{isNameNumber}
 use Rattle.given.specs.Given.{areRoots}
 use Rattle.writing.specs.Writing.{lineText, linesText}
 use Rattle.text.proofs.Bytes.{all-append, all-weaker}
-use Rattle.laws.specs.Every.{every-first, every-rest}
+use Rattle.laws.proofs.Every.{every-first, every-rest}
 use Rattle.writing.proofs.Pieces.{inLine, piece-then}
 use Rattle.writing.proofs.Longest.{line-most}
 use Rattle.writing.proofs.Line.{line-bytes}

@@ -6,7 +6,7 @@ use mathlib.Core.Bool.{true}
 use mathlib.Core.List.{List}
 use lib.ListN.{length, getD}
 use native.Mathlib.Omega.{arith}
-use Rattle.laws.specs.Tests.{tests}
+use Rattle.laws.proofs.Tests.{tests}
 use Rattle.rules.specs.declared.Scope.{Scope}
 use Rattle.rules.specs.declared.Scope.the-variants.{EveryFill, WholeRoot, OneUnit}
 use Rattle.rules.specs.declared.Kind.{Kind}
@@ -24,7 +24,7 @@ use Rattle.given.specs.Names.{isNameNumber}
 use Rattle.given.specs.Given.{areRoots}
 use Rattle.given.proofs.Order.{rule-scope}
 use Rattle.writing.specs.Writing.{typeName, rootText, lineText}
-use Rattle.writing.specs.Parts.{endText}
+use Rattle.writing.specs.Inner.Parts.{endText}
 use Rattle.writing.proofs.Roots.{root-name}
 use Rattle.writing.proofs.Fields.{rule-limit, rule-kind}
 use Rattle.writing.proofs.Cut.{letters-few, rate-long, absolute-few, line-long}

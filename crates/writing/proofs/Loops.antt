@@ -13,14 +13,14 @@ use Rattle.rules.specs.declared.Rule.{Rule}
 use Rattle.rules.specs.Valid.{isRule}
 use Rattle.text.proofs.Decimal.{decimal-few}
 use Rattle.text.proofs.Written.{sets-append}
-use Rattle.tables.specs.Tables.{places}
+use Rattle.tables.specs.Inner.Tables.{places}
 use Rattle.packing.specs.RulePlace.{limitNumber, ruleAt}
 use Rattle.given.proofs.Names.{name-few}
 use Rattle.given.proofs.Order.{rule-scope}
 use Rattle.given.proofs.Places.{rulesFrom, rules-start, rules-on, rules-end}
 use Rattle.writing.specs.Writing.{rootText, lineText, linesText}
-use Rattle.writing.specs.Parts.{namesOf, KnownScope, RulesPlaced}
-use Rattle.laws.specs.Every.{every-first, every-rest}
+use Rattle.writing.specs.Inner.Parts.{namesOf, KnownScope, RulesPlaced}
+use Rattle.laws.proofs.Every.{every-first, every-rest}
 use Rattle.writing.proofs.Cut.{type-few, end-few, line-long}
 
 -- a line is short, whatever stands in the tables

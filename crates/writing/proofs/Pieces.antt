@@ -8,12 +8,12 @@ use lib.Dec.{eqb, leb, ltb}
 use borrow.Author.Tests.{eq-eqb, ne-eqb, ltb-true, le-leb}
 use native.Mathlib.Decide.{decLt}
 use native.Mathlib.Omega.{arith}
-use Rattle.laws.specs.Tests.{and-l, and-r, and-i}
+use Rattle.laws.proofs.Tests.{and-l, and-r, and-i}
 use Rattle.text.specs.Text.{all, made, onto, pieces, fields}
 use Rattle.laws.specs.Folds.{every}
 use Rattle.writing.specs.Writing.{beforeFields, trimmed, withCommas}
 use Rattle.text.proofs.Bytes.{all-append, all-weaker, made-all}
-use Rattle.laws.specs.Every.{every-first, every-rest}
+use Rattle.laws.proofs.Every.{every-first, every-rest}
 
 -- a text up to a separator is its first piece, where no byte before it is the separator
 module _ (p : ℕ → Bool) (b : ℕ) (off : p b ≡ false) where

@@ -7,7 +7,7 @@ use mathlib.Core.List.{List, [], _∷_, map}
 use lib.ListN.{length, getD}
 use borrow.Author.Tests.{le-leb, ltb-true}
 use native.Mathlib.Omega.{arith}
-use Rattle.laws.specs.Tests.{and-i, tests}
+use Rattle.laws.proofs.Tests.{and-i, tests}
 use Rattle.measures.specs.Ranges.{_to_, isIn}
 use Rattle.rules.specs.declared.Rule.{Rule}
 use Rattle.text.specs.Text.{lines}
@@ -21,7 +21,7 @@ use Rattle.admission.specs.Admission.{areInOrder}
 use Rattle.given.specs.Given.{areRoots, isMade}
 use Rattle.writing.specs.Writing.{lineText, textOf, textMost}
 use Rattle.text.proofs.Bytes.{all-at}
-use Rattle.laws.specs.Every.{every-first}
+use Rattle.laws.proofs.Every.{every-first}
 use Rattle.writing.proofs.Line.{line-firm}
 use Rattle.writing.proofs.Lines.{isByte, lines-back, lines-bytes, lines-few, lines-some}
 use Rattle.writing.proofs.Reading.{read-on}

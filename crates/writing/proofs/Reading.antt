@@ -10,7 +10,7 @@ use borrow.Author.Tests.{lt-ltb, le-ltb, eqb-true, not-true}
 use native.Mathlib.Decide.{decLt}
 use native.Mathlib.Nat.{max-eq-left}
 use native.Mathlib.Omega.{arith}
-use Rattle.laws.specs.Tests.{tests}
+use Rattle.laws.proofs.Tests.{tests}
 use Rattle.rules.specs.declared.Scope.{Scope}
 use Rattle.rules.specs.declared.Scope.the-variants.{EveryFill, WholeRoot, OneUnit}
 use Rattle.rules.specs.declared.Rule.{Rule}
@@ -24,7 +24,7 @@ use Rattle.given.specs.Names.{isNameNumber}
 use Rattle.given.specs.Given.{areRoots}
 use Rattle.writing.specs.Writing.{lineText}
 use Rattle.given.proofs.Order.{rule-scope}
-use Rattle.laws.specs.Every.{every-first, every-rest}
+use Rattle.laws.proofs.Every.{every-first, every-rest}
 use Rattle.writing.proofs.Roots.{root-index}
 use Rattle.writing.proofs.Fields.{named, withName}
 use Rattle.writing.proofs.Line.{line-back}

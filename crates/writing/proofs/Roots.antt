@@ -8,7 +8,7 @@ use lib.Dec.{eqb}
 use borrow.Author.Tests.{eq-eqb, ne-eqb, eqb-false, not-true}
 use native.Mathlib.Nat.{min-zero, zero-min, suc-min-suc}
 use native.Mathlib.Omega.{arith}
-use Rattle.laws.specs.Tests.{and-l, and-r, tests}
+use Rattle.laws.proofs.Tests.{and-l, and-r, tests}
 use Rattle.text.specs.Text.{indexOf}
 use Rattle.given.specs.Names.{isNameNumber}
 use Rattle.given.specs.Given.{isFresh, areRoots}

@@ -7,12 +7,12 @@ use lib.Seq.{getD-take, getD-drop}
 use borrow.Author.Tests.{ltb-true}
 use native.Mathlib.Nat.{add-comm}
 use native.Mathlib.Omega.{arith}
-use Rattle.laws.specs.Tests.{and-l}
+use Rattle.laws.proofs.Tests.{and-l}
 use Rattle.rules.specs.declared.Scope.the-variants.{EveryFill, WholeRoot, OneUnit}
 use Rattle.rules.specs.Valid.{isScope}
 use Rattle.text.specs.Digits.{digitsUpTo, nameBytes}
 use Rattle.writing.specs.Writing.{rootText}
-use Rattle.writing.specs.Parts.{namesOf, KnownScope}
+use Rattle.writing.specs.Inner.Parts.{namesOf, KnownScope}
 
 module _ (roots : List ℕ) where
   -- a root that is known stands in the table

@@ -2,7 +2,7 @@
 use mathlib.Core.Path.{sym}
 use mathlib.Core.Logic.{⊎-elim}
 use borrow.Author.Needs.{needs}
-use Rattle.admission.specs.Counting.{RootIs}
+use Rattle.admission.specs.Inner.Counting.{RootIs}
 use Rattle.admission.proofs.Joining.{rules-full, firm-full, firm-joins}
 use Rattle.admission.proofs.admit.Statement.{statement}
 use Rattle.admission.proofs.admit.Tie as tie

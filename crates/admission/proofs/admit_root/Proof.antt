@@ -4,7 +4,7 @@ use mathlib.Core.Path.{_≡_, sym, ap, _∙_}
 use native.Mathlib.Omega.{arith}
 use lib.ListN.{getD}
 use borrow.Author.Needs.{needs}
-use Rattle.admission.specs.Counting.{coveredIn}
+use Rattle.admission.specs.Inner.Counting.{coveredIn}
 use Rattle.admission.proofs.Joining.{root-late, roots-full, no-wrap, units-full, root-joins}
 use Rattle.admission.proofs.admit_root.Statement.{statement}
 use Rattle.admission.proofs.admit_root.Tie as tie

@@ -2,7 +2,7 @@
 use Prim.Native.Nat.{_<_}
 use native.Mathlib.Omega.{arith}
 use borrow.Author.Needs.{needs}
-use Rattle.admission.specs.Counting.{RootIs}
+use Rattle.admission.specs.Inner.Counting.{RootIs}
 use Rattle.admission.proofs.Levels.{unit-known, whole-share, unit-share}
 use Rattle.admission.proofs.covered.Statement.{statement}
 use Rattle.admission.proofs.covered.Tie as tie

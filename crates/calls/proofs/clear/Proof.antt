@@ -4,7 +4,7 @@ use mathlib.Core.Path.{sym, ap, _∙_}
 use mathlib.Core.List.{List, _++_}
 use lib.ListN.{drop}
 use lib.Seq.{length-take-le}
-use Rattle.tables.specs.Tables.{zeros}
+use Rattle.tables.specs.Inner.Tables.{zeros}
 use Rattle.state.specs.State.{size}
 use Rattle.calls.proofs.Cases.{clear-short, clear-done}
 use borrow.Author.Needs.{needs}

@@ -10,7 +10,7 @@ use Rattle.machine.specs.State.{rulesIn}
 use Rattle.machine.specs.Remaining.{ruleNumbered, RuleAndUnit, accountAt, accountFor, leftOf}
 use Rattle.machine.proofs.Units.{place-low, account-rule}
 use Rattle.state.specs.State.{decode}
-use Rattle.state.specs.Laid.{accountIn}
+use Rattle.state.specs.Inner.Laid.{accountIn}
 use borrow.Author.Needs.{needs}
 use Rattle.counting.proofs.left.Statement.{statement}
 use Rattle.counting.proofs.left.Tie as tie

@@ -5,8 +5,8 @@ use Rattle.rules.specs.Amounts.{amountIn}
 use Rattle.laws.specs.Folds.{sumOf}
 use Rattle.machine.specs.Entries.{entryShare}
 use Rattle.machine.specs.declared.Entry.{Entry}
-use Rattle.log.specs.Sieve.{sieveOf}
-use Rattle.log.specs.Memo.{recalledOf}
+use Rattle.log.specs.Inner.Sieve.{sieveOf}
+use Rattle.log.specs.Inner.Memo.{recalledOf}
 use Rattle.state.specs.State.{decode}
 use Rattle.state.proofs.Laid.{laid-held, laid-entries}
 use Rattle.counting.proofs.Counted.{logged-so, logged-any, memos-rate, memos-absolute}

@@ -3,7 +3,7 @@ use Prim.Native.Nat.{_-_, _≤_}
 use mathlib.Core.Path.{_≡_, sym, ap, _∙_}
 use borrow.Author.Needs.{needs}
 use native.Mathlib.Omega.{arith}
-use Rattle.tables.specs.Tables.{places}
+use Rattle.tables.specs.Inner.Tables.{places}
 use Rattle.packing.specs.RulePlace.{ruleAt}
 use Rattle.rules.specs.Valid.{hasRate}
 use Rattle.given.proofs.Places.{rulesFrom, rules-start, rate-on, rate-off, rate-end}

@@ -2,7 +2,7 @@
 use Prim.Native.Nat.{_-_, _≤_, max}
 use mathlib.Core.Path.{_≡_, sym, _∙_}
 use native.Mathlib.Omega.{arith}
-use Rattle.tables.specs.Tables.{places}
+use Rattle.tables.specs.Inner.Tables.{places}
 use Rattle.packing.specs.RulePlace.{ruleAt}
 use Rattle.machine.specs.Offers.{longest}
 use Rattle.given.proofs.Places.{rulesFrom, span-start, span-on, span-end}

@@ -6,7 +6,7 @@ use lib.ListN.{length, drop}
 use borrow.Author.Tests.{not-true, not-false}
 use borrow.Author.Needs.{needs}
 use native.Mathlib.Omega.{arith}
-use Rattle.tables.specs.Tables.{allZero}
+use Rattle.tables.specs.Inner.Tables.{allZero}
 use Rattle.given.specs.Given.{areRoots}
 use Rattle.given.proofs.Places.{to-end, namesFrom, roots-start, roots-end}
 use Rattle.given.proofs.Marks.{Marked, marked-start, marked-back, back-on, late}

@@ -6,7 +6,7 @@ use borrow.Author.Needs.{needs}
 use borrow.Author.Tests.{not-true, not-false}
 use native.Mathlib.Omega.{arith}
 use lib.ListN.{length, drop}
-use Rattle.tables.specs.Tables.{allZero}
+use Rattle.tables.specs.Inner.Tables.{allZero}
 use Rattle.packing.specs.RulePlace.{ruleAt, isRulePlace}
 use Rattle.packing.proofs.RulePlace.{rule-here}
 use Rattle.packing.proofs.RuleTests.{is-rule-here}

@@ -7,7 +7,7 @@ use borrow.Author.Tests.{not-true, not-false}
 use native.Mathlib.Omega.{arith}
 use Rattle.rules.proofs.Units.{units-few}
 use Rattle.machine.specs.State.{cellsOf}
-use Rattle.tables.specs.Tables.{allZero, places}
+use Rattle.tables.specs.Inner.Tables.{allZero, places}
 use Rattle.packing.specs.RulePlace.{ruleAt}
 use Rattle.given.specs.Parts.{totalsHold}
 use Rattle.given.proofs.Places.{to-end, rulesFrom, rules-start, totals-on, totals-off, totals-end}

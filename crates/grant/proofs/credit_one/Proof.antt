@@ -4,7 +4,7 @@ use mathlib.Core.Path.{_≡_, sym, ap, ap₂, _∙_, subst}
 use mathlib.Core.Bool.{Bool, false, not, _&&_, _||_, or-false}
 use lib.Dec.{eqb}
 use borrow.Author.Tests.{not-false}
-use Rattle.laws.specs.Tests.{and-r}
+use Rattle.laws.proofs.Tests.{and-r}
 use Rattle.measures.specs.Ranges.{In, totals}
 use Rattle.rules.specs.Amounts.{numberOf, amountIn, isOf}
 use Rattle.rules.specs.Rules.{InRange, added, ceiling, held}
@@ -16,7 +16,7 @@ use Rattle.rules.specs.declared.Rule.{Rule}
 use Rattle.rules.specs.declared.Account.{Account}
 use Rattle.rules.proofs.Amounts.{number-in, of-in}
 use Rattle.machine.proofs.Totals.{total-in}
-use Rattle.state.specs.Laid.{accountIn}
+use Rattle.state.specs.Inner.Laid.{accountIn}
 use Rattle.machine.specs.Offers.{credited}
 use Rattle.state.proofs.Laid.{laid-in-range, laid-measured}
 use Rattle.state.proofs.Done.{change-none}

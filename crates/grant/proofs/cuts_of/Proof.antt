@@ -7,7 +7,7 @@ use Rattle.rules.specs.declared.Level.the-variants.{Firm, Root}
 use Rattle.machine.specs.State.{rulesIn, cellsOf}
 use Rattle.machine.specs.Remaining.{firstCell}
 use Rattle.state.specs.State.{decode}
-use Rattle.log.specs.Memo.{RightTwo}
+use Rattle.log.specs.Inner.Memo.{RightTwo}
 use Rattle.state.proofs.Laid.{laid-few}
 use Rattle.state.proofs.Walked.{place-within, walked, next-place}
 use Rattle.grant.proofs.Cut.{Cut, cut-none, cut-done}

@@ -2,12 +2,12 @@
 use native.Mathlib.Omega.{arith}
 use mathlib.Core.Path.{sym, ap, _∙_}
 use mathlib.Core.List.{List}
-use Rattle.log.specs.Log.{joinedEntries}
+use Rattle.log.specs.Inner.Log.{joinedEntries}
 use Rattle.machine.specs.declared.Entry.{Entry}
 use Rattle.machine.specs.Offers.{entryOf}
 use Rattle.machine.specs.State.{rootsIn}
 use Rattle.state.specs.State.{stored, decode}
-use Rattle.state.specs.Laid.{withLog}
+use Rattle.state.specs.Inner.Laid.{withLog}
 use Rattle.state.proofs.Laid.{laid-held, laid-entries}
 use Rattle.state.proofs.After.{log-after}
 use Rattle.grant.proofs.Joined.{joined-off, joined-on, window-day, grant-some, room-for, entry-in}

@@ -6,7 +6,7 @@ use Rattle.rules.specs.declared.Level.the-variants.{Firm, Root}
 use Rattle.rules.specs.declared.Rule.{Rule}
 use Rattle.rules.proofs.Amounts.{of-in}
 use Rattle.state.specs.State.{decode}
-use Rattle.state.specs.Laid.{accountIn}
+use Rattle.state.specs.Inner.Laid.{accountIn}
 use Rattle.state.proofs.Laid.{laid-in-range}
 use Rattle.grant.proofs.Cut.{lowered-off, lowered-firm, lowered-root, allows-is}
 use borrow.Author.Needs.{needs}

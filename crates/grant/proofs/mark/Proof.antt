@@ -2,9 +2,9 @@
 use native.Mathlib.Omega.{arith}
 use Rattle.machine.specs.State.{State, rootsIn}
 use Rattle.machine.specs.Locks.{trippedBy}
-use Rattle.state.specs.Laid.{withLocks}
+use Rattle.state.specs.Inner.Laid.{withLocks}
 use Rattle.state.proofs.After.{held-laid, step-on}
-use Rattle.locks.specs.Locks.{tripping}
+use Rattle.locks.specs.Inner.Locks.{tripping}
 use Rattle.locks.proofs.Laid.{locks-held, locks-after}
 use Rattle.grant.proofs.Steps.{clock-holds}
 use borrow.Author.Needs.{needs}

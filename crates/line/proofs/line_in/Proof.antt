@@ -2,7 +2,7 @@
 use mathlib.Core.Path.{_≡_, sym, _∙_}
 use mathlib.Core.Bool.{_&&_}
 use borrow.Author.Tests.{lt-ltb, le-ltb, eq-eqb, ne-eqb, not-false}
-use Rattle.laws.specs.Tests.{and-r}
+use Rattle.laws.proofs.Tests.{and-r}
 use Rattle.line.specs.Line.{lineOf, outOfRange}
 use Rattle.line.proofs.Parts.{limit-is, limit-out, said, line-said, letters, both-set}
 use borrow.Author.Needs.{needs}

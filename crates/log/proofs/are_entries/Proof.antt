@@ -9,11 +9,11 @@ use lib.Dec.{leb}
 use borrow.Author.Needs.{needs}
 use native.Mathlib.Omega.{arith}
 use Rattle.measures.specs.Ranges.{isIn, times}
-use Rattle.tables.specs.Tables.{allZero}
+use Rattle.tables.specs.Inner.Tables.{allZero}
 use Rattle.packing.specs.EntryPlace.{entryAt}
 use Rattle.packing.proofs.EntryPlace.{time-here, is-entry-here}
-use Rattle.log.specs.Log.{isLogPlace}
-use Rattle.log.specs.Sieve.{hasFlag}
+use Rattle.log.specs.Inner.Log.{isLogPlace}
+use Rattle.log.specs.Inner.Sieve.{hasFlag}
 use Rattle.log.proofs.Flags.{flag-here}
 use Rattle.log.proofs.Order.{leftHolds, fromHolds, left-start, left-step, left-end, holds-is}
 use Rattle.log.proofs.are_entries.Statement.{statement}

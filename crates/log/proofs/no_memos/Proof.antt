@@ -1,6 +1,6 @@
 -- `log::no_memos` meets its contract: no entry passes a sieve that wants 1 under the mask 0. Assumes nothing.
 use mathlib.Core.Path.{refl}
-use Rattle.log.specs.Memo.{noMemo}
+use Rattle.log.specs.Inner.Memo.{noMemo}
 use Rattle.log.proofs.Memos.{none-right}
 use Rattle.log.proofs.no_memos.Statement.{statement}
 use Rattle.log.proofs.no_memos.Tie as tie

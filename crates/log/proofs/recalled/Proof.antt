@@ -1,6 +1,6 @@
 -- `log::recalled` meets its contract: a memo of the rule's sieve says what the rule counts. Assumes nothing.
 use mathlib.Core.Path.{sym, _∙_}
-use Rattle.log.specs.Memo.{recalledOf}
+use Rattle.log.specs.Inner.Memo.{recalledOf}
 use Rattle.log.proofs.Memos.{for-rule, memoed}
 use Rattle.log.proofs.Sifting.{from-most}
 use borrow.Author.Needs.{needs}

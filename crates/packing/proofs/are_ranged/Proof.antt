@@ -1,7 +1,7 @@
 -- `tables::are_ranged` meets its contract: a test for each number. Assumes nothing.
 use borrow.Author.Needs.{needs}
-use Rattle.tables.proofs.are_ranged.Statement.{statement}
-use Rattle.tables.proofs.are_ranged.Tie as tie
+use Rattle.packing.proofs.are_ranged.Statement.{statement}
+use Rattle.packing.proofs.are_ranged.Tie as tie
 
 is-in-requires : tie.Need-is-in-requires
 is-in-requires c κs = search needs

@@ -1,8 +1,8 @@
 -- `packing::entry_of` meets its contract: each field stands where the shift and the mask take it from. Assumes nothing.
 use mathlib.Core.Path.{sym}
 use Rattle.packing.proofs.EntryPlace.{entry-in}
-use Rattle.tables.proofs.entry_of.Statement.{statement}
-use Rattle.tables.proofs.entry_of.Tie as tie
+use Rattle.packing.proofs.entry_of.Statement.{statement}
+use Rattle.packing.proofs.entry_of.Tie as tie
 
 returns : tie.Need-returns
 returns c = sym (entry-in _ _ _)

@@ -2,12 +2,12 @@
 use mathlib.Core.Path.{_≡_, sym, _∙_}
 use mathlib.Core.Bool.{true, _&&_}
 use borrow.Author.Needs.{needs}
-use Rattle.tables.specs.Tables.{placeOf, zeros}
+use Rattle.tables.specs.Inner.Tables.{placeOf, zeros}
 use Rattle.packing.specs.EntryPlace.{entryNumbers}
 use Rattle.machine.specs.Entries.{isEntry}
 use Rattle.packing.proofs.EntryPlace.{entry-tested}
-use Rattle.tables.proofs.entry_place.Statement.{statement}
-use Rattle.tables.proofs.entry_place.Tie as tie
+use Rattle.packing.proofs.entry_place.Statement.{statement}
+use Rattle.packing.proofs.entry_place.Tie as tie
 
 is-in-requires : tie.Need-is-in-requires
 is-in-requires c κs = search needs

@@ -1,7 +1,7 @@
 -- `packing::is_entry_but_time` meets its contract: the parts that two numbers tell are in range. Assumes nothing.
 use borrow.Author.Needs.{needs}
-use Rattle.tables.proofs.is_entry_but_time.Statement.{statement}
-use Rattle.tables.proofs.is_entry_but_time.Tie as tie
+use Rattle.packing.proofs.is_entry_but_time.Statement.{statement}
+use Rattle.packing.proofs.is_entry_but_time.Tie as tie
 
 are-ranged-requires : tie.Need-are-ranged-requires
 are-ranged-requires c κs = search needs

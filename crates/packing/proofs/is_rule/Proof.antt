@@ -2,8 +2,8 @@
 use mathlib.Core.Path.{sym}
 use Rattle.packing.proofs.RuleTests.{rule-place}
 use borrow.Author.Needs.{needs}
-use Rattle.tables.proofs.is_rule.Statement.{statement}
-use Rattle.tables.proofs.is_rule.Tie as tie
+use Rattle.packing.proofs.is_rule.Statement.{statement}
+use Rattle.packing.proofs.is_rule.Tie as tie
 
 is-limit-requires : tie.Need-is-limit-requires
 is-limit-requires c κs = search needs

@@ -1,8 +1,8 @@
 -- `tables::may_hold` meets its contract: a rule's own numbers are tested part by part. Assumes nothing.
 use Rattle.packing.proofs.RuleTests.{rule-valid}
 use borrow.Author.Needs.{needs}
-use Rattle.tables.proofs.may_hold.Statement.{statement}
-use Rattle.tables.proofs.may_hold.Tie as tie
+use Rattle.packing.proofs.may_hold.Statement.{statement}
+use Rattle.packing.proofs.may_hold.Tie as tie
 
 measure-number-requires : tie.Need-measure-number-requires
 measure-number-requires c κs = search needs

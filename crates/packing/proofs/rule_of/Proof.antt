@@ -2,8 +2,8 @@
 use mathlib.Core.Path.{sym}
 use Rattle.packing.proofs.RulePlace.{rule-in}
 use borrow.Author.Needs.{needs}
-use Rattle.tables.proofs.rule_of.Statement.{statement}
-use Rattle.tables.proofs.rule_of.Tie as tie
+use Rattle.packing.proofs.rule_of.Statement.{statement}
+use Rattle.packing.proofs.rule_of.Tie as tie
 
 scope-of-requires : tie.Need-scope-of-requires
 scope-of-requires c κs = search needs

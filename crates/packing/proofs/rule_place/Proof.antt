@@ -2,11 +2,11 @@
 use mathlib.Core.Path.{_≡_, sym, _∙_}
 use mathlib.Core.Bool.{true}
 use borrow.Author.Needs.{needs}
-use Rattle.tables.specs.Tables.{placeOf, zeros}
+use Rattle.tables.specs.Inner.Tables.{placeOf, zeros}
 use Rattle.packing.specs.RulePlace.{ruleNumbers}
 use Rattle.rules.specs.Valid.{isRule}
-use Rattle.tables.proofs.rule_place.Statement.{statement}
-use Rattle.tables.proofs.rule_place.Tie as tie
+use Rattle.packing.proofs.rule_place.Statement.{statement}
+use Rattle.packing.proofs.rule_place.Tie as tie
 
 may-hold-requires : tie.Need-may-hold-requires
 may-hold-requires c κs = search needs

@@ -4,7 +4,7 @@ use borrow.Author.Needs.{needs}
 use borrow.Author.Tests.{leb-true, not-true, not-false}
 use lib.ListN.{length}
 use lib.Dec.{leb}
-use Rattle.laws.specs.Tests.{and-r}
+use Rattle.laws.proofs.Tests.{and-r}
 use Rattle.measures.specs.Ranges.{_to_, isIn}
 use Rattle.profile.proofs.Walk.{start-held, scan-unsized, first-firm, scan-told}
 use Rattle.profile.proofs.read.Statement.{statement}

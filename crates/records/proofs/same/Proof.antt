@@ -4,7 +4,8 @@ use mathlib.Core.Path.{_≡_, refl, sym, _∙_}
 use borrow.Author.Needs.{needs}
 use native.Mathlib.Omega.{arith}
 use lib.ListN.{length, drop}
-use Rattle.laws.specs.Lists.{same, same-short, same-on, same-off, same-end}
+use Rattle.laws.specs.Lists.{same}
+use Rattle.laws.proofs.Lists.{same-short, same-on, same-off, same-end}
 use Rattle.records.proofs.same.Statement.{statement}
 use Rattle.records.proofs.same.Tie as tie
 

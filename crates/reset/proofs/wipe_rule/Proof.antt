@@ -14,7 +14,7 @@ use Rattle.machine.specs.State.{rulesIn}
 use Rattle.machine.specs.Remaining.{ruleNumbered, firstCell}
 use Rattle.machine.specs.Effects.{zeroing}
 use Rattle.state.specs.State.{stored, decode}
-use Rattle.state.specs.Laid.{withAccounts, between}
+use Rattle.state.specs.Inner.Laid.{withAccounts, between}
 use Rattle.machine.specs.Order.{wiped}
 use Rattle.state.proofs.Laid.{laid-few}
 use Rattle.state.proofs.Walked.{place-within, next-place}

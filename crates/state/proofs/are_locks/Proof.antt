@@ -1,5 +1,5 @@
 -- `state::are_locks` meets its contract: each number has its own test. Assumes nothing.
-use Rattle.state.specs.Tests.{locksHold}
+use Rattle.state.specs.Inner.Tests.{locksHold}
 use borrow.Author.Needs.{needs}
 use Rattle.state.proofs.are_locks.Statement.{statement}
 use Rattle.state.proofs.are_locks.Tie as tie

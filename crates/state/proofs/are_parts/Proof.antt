@@ -3,7 +3,7 @@ use mathlib.Core.Path.{_≡_}
 use native.Mathlib.Omega.{arith}
 use Rattle.given.specs.Parts.{totalsSize}
 use Rattle.state.specs.State.{totalsAt, registerAt}
-use Rattle.state.specs.Tests.{partsHold}
+use Rattle.state.specs.Inner.Tests.{partsHold}
 use Rattle.state.proofs.Parts.{part-long}
 use borrow.Author.Needs.{needs}
 use Rattle.state.proofs.are_parts.Statement.{statement}

@@ -1,5 +1,5 @@
 -- `state::is_front` meets its contract: each number has its own test, and the roots theirs. Assumes nothing.
-use Rattle.state.specs.Tests.{frontHolds}
+use Rattle.state.specs.Inner.Tests.{frontHolds}
 use borrow.Author.Needs.{needs}
 use Rattle.state.proofs.is_front.Statement.{statement}
 use Rattle.state.proofs.is_front.Tie as tie

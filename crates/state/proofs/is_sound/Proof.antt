@@ -10,8 +10,8 @@ use borrow.Author.Tests.{not-true, not-false}
 use Rattle.machine.specs.Entries.{areOrdered}
 use Rattle.machine.specs.Refusals.{used}
 use Rattle.state.specs.State.{decode}
-use Rattle.state.specs.Laid.{Laid}
-use Rattle.state.specs.Tests.{useHolds}
+use Rattle.state.specs.Inner.Laid.{Laid}
+use Rattle.state.specs.Inner.Tests.{useHolds}
 use Rattle.state.proofs.Parts.{part-long}
 use Rattle.state.proofs.Laid.{laid-clock-is}
 use Rattle.state.proofs.Uses.{most-below}

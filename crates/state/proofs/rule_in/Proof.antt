@@ -3,7 +3,7 @@ use Prim.Native.Nat.{_+_, _*_}
 use native.Mathlib.Omega.{arith}
 use mathlib.Core.Path.{_∙_}
 use Rattle.packing.proofs.RulePlace.{rule-here}
-use Rattle.state.specs.Tests.{rulesPart}
+use Rattle.state.specs.Inner.Tests.{rulesPart}
 use Rattle.state.proofs.Laid.{laid-rule}
 use borrow.Author.Needs.{needs}
 use Rattle.state.proofs.rule_in.Statement.{statement}

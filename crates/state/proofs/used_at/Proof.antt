@@ -8,8 +8,8 @@ use lib.ListN.{length}
 use Rattle.machine.specs.declared.Entry.{Entry}
 use Rattle.machine.specs.declared.Sent.{Sent}
 use Rattle.machine.specs.Entries.{areOrdered, recent, isRecent}
-use Rattle.log.specs.Log.{entriesIn}
-use Rattle.state.specs.Tests.{logPart}
+use Rattle.log.specs.Inner.Log.{entriesIn}
+use Rattle.state.specs.Inner.Tests.{logPart}
 use Rattle.machine.specs.Register.{keptPlaces}
 use Rattle.machine.proofs.Lists.{keep-le}
 use Rattle.state.specs.State.{decode}

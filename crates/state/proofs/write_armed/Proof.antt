@@ -4,7 +4,7 @@ use mathlib.Core.Path.{_≡_, refl, ap, _∙_}
 use mathlib.Core.List.{List, [], _∷_, _++_}
 use lib.ListN.{length, take, drop}
 use lib.Seq.{length-take-le}
-use Rattle.tables.specs.Tables.{zeros}
+use Rattle.tables.specs.Inner.Tables.{zeros}
 use Rattle.state.proofs.Writes.{writes}
 use borrow.Author.Needs.{needs}
 use Rattle.state.proofs.write_armed.Statement.{statement}

@@ -3,7 +3,8 @@ use Prim.Native.Nat.{_-_}
 use mathlib.Core.Path.{_≡_, refl, sym, _∙_}
 use native.Mathlib.Omega.{arith}
 use lib.ListN.{length, drop}
-use Rattle.laws.specs.Lists.{same, same-short, same-on, same-off, same-end}
+use Rattle.laws.specs.Lists.{same}
+use Rattle.laws.proofs.Lists.{same-short, same-on, same-off, same-end}
 use Rattle.text.proofs.equal.Statement.{statement}
 use Rattle.text.proofs.equal.Tie as tie
 

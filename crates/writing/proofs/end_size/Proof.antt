@@ -5,7 +5,7 @@ use lib.ListN.{length}
 use Prim.Native.Nat.{_<_}
 use native.Mathlib.Nat.{pos-of-ne-zero}
 use Rattle.text.proofs.Decimal.{decimal-few}
-use Rattle.writing.specs.Parts.{lettersText}
+use Rattle.writing.specs.Inner.Parts.{lettersText}
 use Rattle.writing.proofs.Cut.{letters-few, rate-long, end-none, end-more}
 use borrow.Author.Needs.{needs}
 use Rattle.writing.proofs.end_size.Statement.{statement}

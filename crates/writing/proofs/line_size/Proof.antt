@@ -5,7 +5,7 @@ use lib.ListN.{length}
 use Rattle.text.specs.Digits.{decimal}
 use Rattle.text.proofs.Decimal.{decimal-few}
 use Rattle.given.proofs.Names.{name-few}
-use Rattle.writing.specs.Parts.{namesOf}
+use Rattle.writing.specs.Inner.Parts.{namesOf}
 use Rattle.writing.proofs.Cut.{type-few, end-few, line-long}
 use borrow.Author.Needs.{needs}
 use Rattle.writing.proofs.line_size.Statement.{statement}

@@ -3,7 +3,7 @@ use Prim.Native.Nat.{_-_}
 use native.Mathlib.Omega.{arith}
 use borrow.Author.Needs.{needs}
 use Rattle.writing.proofs.Loops.{line-short, Counting, counting-none, counting-on, counting-end, known-here}
-use Rattle.writing.specs.Parts.{namesOf}
+use Rattle.writing.specs.Inner.Parts.{namesOf}
 use Rattle.writing.proofs.lines_size.Statement.{statement}
 use Rattle.writing.proofs.lines_size.Tie as tie
 

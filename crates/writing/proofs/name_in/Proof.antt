@@ -2,7 +2,7 @@
 use Prim.Native.Nat.{_<_}
 use lib.ListN.{length}
 use native.Mathlib.Omega.{arith}
-use Rattle.writing.specs.Parts.{namesOf}
+use Rattle.writing.specs.Inner.Parts.{namesOf}
 use Rattle.writing.proofs.Tables.{names-few, whole-known, unit-known, none-named, whole-named, unit-named}
 use borrow.Author.Needs.{needs}
 use Rattle.writing.proofs.name_in.Statement.{statement}

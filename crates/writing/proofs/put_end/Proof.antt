@@ -7,7 +7,7 @@ use native.Mathlib.Omega.{arith}
 use lib.ListN.{length, length-set}
 use Rattle.text.specs.Digits.{decimal}
 use Rattle.text.proofs.Written.{then-written}
-use Rattle.writing.specs.Parts.{lettersText, endText}
+use Rattle.writing.specs.Inner.Parts.{lettersText, endText}
 use Rattle.writing.proofs.Cut.{as-text, end-rate, rate-long, end-none, end-more}
 use borrow.Author.Needs.{needs}
 use Rattle.writing.proofs.put_end.Statement.{statement}

@@ -5,7 +5,7 @@ use mathlib.Core.List.{[], _∷_}
 use native.Mathlib.Nat.{add-zero}
 use native.Mathlib.Omega.{arith}
 use lib.ListN.{length}
-use Rattle.writing.specs.Parts.{lettersText}
+use Rattle.writing.specs.Inner.Parts.{lettersText}
 use Rattle.writing.proofs.Cut.{as-text, letters-every, letters-whole, letters-unit}
 use borrow.Author.Needs.{needs}
 use Rattle.writing.proofs.put_letters.Statement.{statement}

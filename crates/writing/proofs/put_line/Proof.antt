@@ -7,7 +7,7 @@ use lib.ListN.{length, length-append, length-set}
 use Rattle.text.specs.Digits.{nameBytes, decimal}
 use Rattle.text.proofs.Written.{then-written}
 use Rattle.writing.specs.Writing.{typeName}
-use Rattle.writing.specs.Parts.{namesOf, endText}
+use Rattle.writing.specs.Inner.Parts.{namesOf, endText}
 use Rattle.writing.proofs.Cut.{as-text, line-parts, line-long}
 use borrow.Author.Needs.{needs}
 use Rattle.writing.proofs.put_line.Statement.{statement}

@@ -1,6 +1,6 @@
 -- `output::text_size` meets its contract: the lines of the table's rules are the text. Assumes nothing.
 use Rattle.writing.specs.Writing.{textOf}
-use Rattle.writing.specs.Parts.{profileIn}
+use Rattle.writing.specs.Inner.Parts.{profileIn}
 use borrow.Author.Needs.{needs}
 use Rattle.writing.proofs.text_size.Statement.{statement}
 use Rattle.writing.proofs.text_size.Tie as tie

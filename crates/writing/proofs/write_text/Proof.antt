@@ -2,7 +2,7 @@
 use mathlib.Core.Path.{_∙_}
 use Rattle.text.proofs.Written.{sets-front}
 use Rattle.writing.specs.Writing.{textOf}
-use Rattle.writing.specs.Parts.{profileIn}
+use Rattle.writing.specs.Inner.Parts.{profileIn}
 use borrow.Author.Needs.{needs}
 use Rattle.writing.proofs.write_text.Statement.{statement}
 use Rattle.writing.proofs.write_text.Tie as tie

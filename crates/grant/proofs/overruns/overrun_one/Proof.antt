@@ -7,9 +7,9 @@ use Rattle.rules.specs.declared.Level.the-variants.{Firm, Root}
 use Rattle.rules.specs.declared.Rule.{Rule}
 use Rattle.rules.proofs.Amounts.{of-in}
 use Rattle.state.specs.State.{decode}
-use Rattle.state.specs.Laid.{accountIn}
+use Rattle.state.specs.Inner.Laid.{accountIn}
 use Rattle.state.proofs.Laid.{laid-in-range}
-use Rattle.grant.specs.Grant.{overrunAt}
+use Rattle.grant.specs.Inner.Grant.{overrunAt}
 use Rattle.grant.proofs.Cut.{concerns-firm, concerns-root}
 use Rattle.grant.proofs.Reports.{overrun-off, over-is, counted-in}
 use borrow.Author.Needs.{needs}

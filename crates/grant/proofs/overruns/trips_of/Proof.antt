@@ -9,7 +9,7 @@ use Rattle.machine.specs.Remaining.{firstCell}
 use Rattle.state.specs.State.{decode}
 use Rattle.state.proofs.Laid.{laid-few}
 use Rattle.state.proofs.Walked.{place-within, walked, next-place}
-use Rattle.grant.specs.Grant.{overrunAt}
+use Rattle.grant.specs.Inner.Grant.{overrunAt}
 use Rattle.grant.proofs.Credits.{laid-totals}
 use Rattle.grant.proofs.Tested.{Tested, tested-none, tested-done}
 use Rattle.grant.proofs.Reports.{report-trips}

@@ -1,6 +1,6 @@
 -- `line::LimitType::limit` meets its contract: the arm tells the type, and the function of its measure the limit. Assumes nothing.
 use Rattle.line.specs.Line.{limitsOf, limitOf}
-use Rattle.line.specs.Parts.{limitRead}
+use Rattle.line.specs.Inner.Parts.{limitRead}
 use borrow.Author.Needs.{needs}
 use Rattle.line.proofs.LimitType.limit.Statement.{statement}
 use Rattle.line.proofs.LimitType.limit.Tie as tie

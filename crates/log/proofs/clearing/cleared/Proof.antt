@@ -1,7 +1,7 @@
 -- `log::cleared` meets its contract: the digits of the flags are those of the levels that the reset concerns, test by test. Assumes nothing.
 use lib.Bits.{and-le-l}
 use Rattle.machine.specs.Effects.{zeroing}
-use Rattle.log.specs.Sieve.{flagDigits, withoutFlags}
+use Rattle.log.specs.Inner.Sieve.{flagDigits, withoutFlags}
 use borrow.Author.Needs.{needs}
 use Rattle.log.proofs.clearing.cleared.Statement.{statement}
 use Rattle.log.proofs.clearing.cleared.Tie as tie

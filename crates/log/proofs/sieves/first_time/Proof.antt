@@ -1,6 +1,6 @@
 -- `log::first_time` meets its contract: by the cases of the kind and of how far back the window goes. Assumes nothing.
 use native.Mathlib.Omega.{arith}
-use Rattle.log.specs.Sieve.{firstTime}
+use Rattle.log.specs.Inner.Sieve.{firstTime}
 use borrow.Author.Needs.{needs}
 use Rattle.log.proofs.sieves.first_time.Statement.{statement}
 use Rattle.log.proofs.sieves.first_time.Tie as tie

@@ -16,10 +16,10 @@ use Rattle.packing.specs.EntryPlace.{entryAt}
 use Rattle.rules.specs.Rules.{executions}
 use Rattle.rules.specs.declared.Limit.{Limit}
 use Rattle.log.specs.declared.sieves.Sieve.{Sieve}
-use Rattle.log.specs.Log.{entriesOf}
-use Rattle.log.specs.Memo.{memoFor}
+use Rattle.log.specs.Inner.Log.{entriesOf}
+use Rattle.log.specs.Inner.Memo.{memoFor}
 use Rattle.log.specs.Newest.{isSince, lookedAt}
-use Rattle.log.specs.Sieve.{sifted}
+use Rattle.log.specs.Inner.Sieve.{sifted}
 use Rattle.log.proofs.Newest.{few-looked-at, read-stop, read-less, read-end}
 use Rattle.log.proofs.Sifting.{place-since, place-before}
 use Rattle.log.proofs.Sums.{Summed, summed-none, summed-done}

@@ -1,7 +1,7 @@
 -- `log::sieve_of` meets its contract: the digits by the case of the scope, the first time by the kind. Assumes nothing.
 use Prim.Native.Nat.{_≤_, _<_}
 use native.Mathlib.Omega.{arith}
-use Rattle.log.specs.Sieve.{sieveIn, sieveOf}
+use Rattle.log.specs.Inner.Sieve.{sieveIn, sieveOf}
 use Rattle.log.proofs.Sifting.{scope-ok, whole-below, unit-below}
 use borrow.Author.Needs.{needs}
 use Rattle.log.proofs.sieves.sieve_of.Statement.{statement}

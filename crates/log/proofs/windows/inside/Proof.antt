@@ -4,7 +4,7 @@ use mathlib.Core.Path.{ap, _∙_}
 use native.Mathlib.Omega.{arith}
 use lib.ListN.{length}
 use Rattle.rules.specs.declared.Kind.the-variants.{Rate}
-use Rattle.log.specs.Log.{entriesOf}
+use Rattle.log.specs.Inner.Log.{entriesOf}
 use Rattle.log.specs.Newest.{newest}
 use Rattle.log.proofs.Leaving.{inside-last}
 use Rattle.log.proofs.Sifting.{first-most}

@@ -4,7 +4,7 @@ use mathlib.Core.Path.{sym, ap, _∙_}
 use mathlib.Core.List.{[], _∷_}
 use native.Mathlib.Omega.{arith}
 use lib.ListN.{length-append}
-use Rattle.log.specs.Log.{entriesOf}
+use Rattle.log.specs.Inner.Log.{entriesOf}
 use Rattle.machine.specs.Entries.{recent}
 use Rattle.log.proofs.Turns.{joined-log}
 use borrow.Author.Needs.{needs}

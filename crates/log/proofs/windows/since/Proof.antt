@@ -9,7 +9,7 @@ use lib.ListN.{length, drop}
 use Rattle.laws.specs.Folds.{keep}
 use Rattle.packing.specs.EntryPlace.{entryAt}
 use Rattle.machine.specs.Entries.{areOrdered}
-use Rattle.log.specs.Log.{entriesOf}
+use Rattle.log.specs.Inner.Log.{entriesOf}
 use Rattle.log.specs.Newest.{isSince, newest, lookedAt}
 use Rattle.log.proofs.Newest.{few-looked-at, read-on, read-stop, read-less, read-end}
 use Rattle.log.proofs.Sifting.{place-since, place-before}

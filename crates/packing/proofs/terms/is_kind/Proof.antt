@@ -1,8 +1,8 @@
 -- `tables::is_kind` meets its contract: each kind has its windows. Assumes nothing.
 use Rattle.packing.proofs.RuleTests.{kind-test}
 use borrow.Author.Needs.{needs}
-use Rattle.tables.proofs.terms.is_kind.Statement.{statement}
-use Rattle.tables.proofs.terms.is_kind.Tie as tie
+use Rattle.packing.proofs.terms.is_kind.Statement.{statement}
+use Rattle.packing.proofs.terms.is_kind.Tie as tie
 
 pick-requires : tie.Need-pick-requires
 pick-requires c κs = search needs

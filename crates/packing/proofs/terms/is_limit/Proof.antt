@@ -1,8 +1,8 @@
 -- `tables::is_limit` meets its contract: each measure has its range. Assumes nothing.
 use Rattle.packing.proofs.RuleTests.{limit-test}
 use borrow.Author.Needs.{needs}
-use Rattle.tables.proofs.terms.is_limit.Statement.{statement}
-use Rattle.tables.proofs.terms.is_limit.Tie as tie
+use Rattle.packing.proofs.terms.is_limit.Statement.{statement}
+use Rattle.packing.proofs.terms.is_limit.Tie as tie
 
 pick-requires : tie.Need-pick-requires
 pick-requires c κs = search needs

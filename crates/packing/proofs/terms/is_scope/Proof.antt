@@ -1,8 +1,8 @@
 -- `tables::is_scope` meets its contract: each scope has its roots and units. Assumes nothing.
 use Rattle.packing.proofs.RuleTests.{scope-test}
 use borrow.Author.Needs.{needs}
-use Rattle.tables.proofs.terms.is_scope.Statement.{statement}
-use Rattle.tables.proofs.terms.is_scope.Tie as tie
+use Rattle.packing.proofs.terms.is_scope.Statement.{statement}
+use Rattle.packing.proofs.terms.is_scope.Tie as tie
 
 pick-requires : tie.Need-pick-requires
 pick-requires c κs = search needs

@@ -1,8 +1,8 @@
 -- `tables::kind_of` meets its contract: the number tells the kind. Assumes nothing.
 use borrow.Author.Tests.{eq-eqb, ne-eqb}
 use Rattle.packing.specs.RulePlace.{kindFrom}
-use Rattle.tables.proofs.terms.kind_of.Statement.{statement}
-use Rattle.tables.proofs.terms.kind_of.Tie as tie
+use Rattle.packing.proofs.terms.kind_of.Statement.{statement}
+use Rattle.packing.proofs.terms.kind_of.Tie as tie
 
 returns : tie.Need-returns
 unfolding kindFrom

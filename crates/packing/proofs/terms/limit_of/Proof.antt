@@ -1,8 +1,8 @@
 -- `tables::limit_of` meets its contract: the number tells the measure. Assumes nothing.
 use borrow.Author.Tests.{eq-eqb, ne-eqb}
 use Rattle.packing.specs.RulePlace.{limitFrom}
-use Rattle.tables.proofs.terms.limit_of.Statement.{statement}
-use Rattle.tables.proofs.terms.limit_of.Tie as tie
+use Rattle.packing.proofs.terms.limit_of.Statement.{statement}
+use Rattle.packing.proofs.terms.limit_of.Tie as tie
 
 returns : tie.Need-returns
 unfolding limitFrom

@@ -1,8 +1,8 @@
 -- `tables::scope_of` meets its contract: the number tells the scope. Assumes nothing.
 use borrow.Author.Tests.{eq-eqb, ne-eqb}
 use Rattle.packing.specs.RulePlace.{scopeFrom}
-use Rattle.tables.proofs.terms.scope_of.Statement.{statement}
-use Rattle.tables.proofs.terms.scope_of.Tie as tie
+use Rattle.packing.proofs.terms.scope_of.Statement.{statement}
+use Rattle.packing.proofs.terms.scope_of.Tie as tie
 
 returns : tie.Need-returns
 unfolding scopeFrom

@@ -4,8 +4,8 @@ use native.Mathlib.Omega.{arith}
 use Rattle.bits.specs.Fields.{total, packed, Fit}
 use Rattle.packing.specs.EntryPlace.{amountWidths, amountValues}
 use Rattle.packing.proofs.EntryPlace.{amount-fit}
-use Rattle.tables.proofs.words.amount_word.Statement.{statement}
-use Rattle.tables.proofs.words.amount_word.Tie as tie
+use Rattle.packing.proofs.words.amount_word.Statement.{statement}
+use Rattle.packing.proofs.words.amount_word.Tie as tie
 
 fit : (c : tie.Start) → Fit amountWidths (amountValues (c .args .e))
 fit c = amount-fit 64 (c .args .e) (le-refl 64) (c .pre)

@@ -5,8 +5,8 @@ use Rattle.bits.specs.Fields.{total, packed, Fit}
 use Rattle.packing.specs.EntryPlace.{fillWidths, fillValues}
 use Rattle.packing.proofs.EntryPlace.{fill-fit}
 use borrow.Author.Needs.{needs}
-use Rattle.tables.proofs.words.fill_word.Statement.{statement}
-use Rattle.tables.proofs.words.fill_word.Tie as tie
+use Rattle.packing.proofs.words.fill_word.Statement.{statement}
+use Rattle.packing.proofs.words.fill_word.Tie as tie
 
 fit : (c : tie.Start) → Fit fillWidths (fillValues (c .args .e))
 fit c = fill-fit 64 (c .args .e) (le-refl 64) (c .pre)

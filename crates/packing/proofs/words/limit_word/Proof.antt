@@ -5,8 +5,8 @@ use Rattle.bits.specs.Fields.{total, packed, Fit}
 use Rattle.packing.specs.RulePlace.{limitWidths, limitValues}
 use Rattle.packing.proofs.RulePlace.{limit-fit}
 use borrow.Author.Needs.{needs}
-use Rattle.tables.proofs.words.limit_word.Statement.{statement}
-use Rattle.tables.proofs.words.limit_word.Tie as tie
+use Rattle.packing.proofs.words.limit_word.Statement.{statement}
+use Rattle.packing.proofs.words.limit_word.Tie as tie
 
 fit : (c : tie.Start) → Fit limitWidths (limitValues (c .args .rule))
 fit c = limit-fit 64 (c .args .rule) (le-refl 64) (c .pre)

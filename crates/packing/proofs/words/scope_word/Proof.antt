@@ -5,8 +5,8 @@ use Rattle.bits.specs.Fields.{total, packed, Fit}
 use Rattle.packing.specs.RulePlace.{scopeWidths, scopeValues}
 use Rattle.packing.proofs.RulePlace.{scope-fit}
 use borrow.Author.Needs.{needs}
-use Rattle.tables.proofs.words.scope_word.Statement.{statement}
-use Rattle.tables.proofs.words.scope_word.Tie as tie
+use Rattle.packing.proofs.words.scope_word.Statement.{statement}
+use Rattle.packing.proofs.words.scope_word.Tie as tie
 
 fit : (c : tie.Start) → Fit scopeWidths (scopeValues (c .args .rule))
 fit c = scope-fit 64 (c .args .rule) (le-refl 64) (c .pre)

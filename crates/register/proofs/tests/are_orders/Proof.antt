@@ -5,7 +5,7 @@ use mathlib.Core.Bool.{Bool, _&&_}
 use lib.ListN.{length, take, drop, length-drop}
 use lib.Seq.{take-all, drop-drop}
 use native.Mathlib.Omega.{arith}
-use Rattle.tables.specs.Tables.{allZero, placesPass}
+use Rattle.tables.specs.Inner.Tables.{allZero, placesPass}
 use Rattle.register.specs.SentPlace.{isSentPlace}
 use Rattle.register.proofs.SentPlace.{is-sent-here}
 use Rattle.register.proofs.Registers.{passing-start, passing-on, passing-end}

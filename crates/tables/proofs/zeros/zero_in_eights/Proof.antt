@@ -4,7 +4,7 @@ use mathlib.Core.Path.{_≡_, sym, _∙_}
 use borrow.Author.Needs.{needs}
 use native.Mathlib.Omega.{arith}
 use lib.ListN.{length}
-use Rattle.tables.specs.Tables.{allZero}
+use Rattle.tables.specs.Inner.Tables.{allZero}
 use Rattle.tables.proofs.AllZero.{eightLeft, eight-on, eight-start, eight-end}
 use Rattle.tables.proofs.zeros.zero_in_eights.Statement.{statement}
 use Rattle.tables.proofs.zeros.zero_in_eights.Tie as tie

@@ -6,7 +6,7 @@ use borrow.Author.Needs.{needs}
 use native.Mathlib.Omega.{arith}
 use lib.ListN.{length, drop}
 use lib.Dec.{eqb}
-use Rattle.tables.specs.Tables.{allZero}
+use Rattle.tables.specs.Inner.Tables.{allZero}
 use Rattle.tables.proofs.AllZero.{zero-on, zero-end}
 use Rattle.tables.proofs.zeros.zero_in_ones.Statement.{statement}
 use Rattle.tables.proofs.zeros.zero_in_ones.Tie as tie

@@ -5,7 +5,7 @@ use mathlib.Core.Bool.{Bool, true, false, cond, _&&_}
 use mathlib.Core.List.{List, [], _∷_, _++_, map}
 use native.Mathlib.Nat.{not-suc-le-zero, le-of-suc-le-suc}
 use lib.ListN.{length, getD, take, drop}
-use Rattle.laws.specs.Tests.{and-l, and-r, and-i}
+use Rattle.laws.proofs.Tests.{and-l, and-r, and-i}
 use Rattle.laws.specs.Folds.{every, keep}
 
 module _ {A : Type 0} (ok : A → Bool) where

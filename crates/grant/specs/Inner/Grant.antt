@@ -20,8 +20,8 @@ use Rattle.machine.specs.Entries.{areOrdered, recent}
 use Rattle.machine.specs.State.{State, rulesIn}
 use Rattle.machine.specs.Offers.{counted, coversOffer, sameLevel, grantOf, levelTrips, credited, longest}
 use Rattle.state.specs.State.{stored, decode}
-use Rattle.state.specs.Laid.{Laid, accountIn, withClock, withLocks, withAccounts}
-use Rattle.locks.specs.Locks.{tripping}
+use Rattle.state.specs.Inner.Laid.{Laid, accountIn, withClock, withLocks, withAccounts}
+use Rattle.locks.specs.Inner.Locks.{tripping}
 use Rattle.register.specs.Register.{sentAtPlace}
 use Rattle.machine.specs.declared.Offer.{Offer}
 use Rattle.machine.specs.Deeds.{granted, reported, filling}

@@ -8,7 +8,7 @@ use Rattle.laws.specs.Folds.{every}
 use Rattle.rules.specs.declared.Scope.{Scope}
 use Rattle.rules.specs.declared.Kind.{Kind}
 use Rattle.rules.specs.Valid.{isScope, isRule}
-use Rattle.tables.specs.Tables.{places}
+use Rattle.tables.specs.Inner.Tables.{places}
 use Rattle.packing.specs.RulePlace.{ruleAt}
 use Rattle.machine.specs.State.{Profile}
 use Rattle.given.specs.Parts.{rulesOf}

@@ -11,7 +11,7 @@ use Rattle.laws.specs.Folds.{sumOf}
 use Rattle.log.specs.declared.sieves.Sieve.{Sieve}
 use Rattle.log.specs.declared.Memo.{Memo}
 use Rattle.log.specs.declared.Two.{Two}
-use Rattle.log.specs.Sieve.{sifted}
+use Rattle.log.specs.Inner.Sieve.{sifted}
 
 -- what a memo says in a limit's measure
 abbrev pub memoSum : Limit → Memo → ℕ

@@ -5,7 +5,7 @@ use mathlib.Core.Bool.{Bool, true, _&&_}
 use mathlib.Core.List.{List, [], _∷_, _++_}
 use lib.ListN.{length, getD, take, drop}
 use lib.Dec.{leb}
-use Rattle.tables.specs.Tables.{allZero, places, placesPass}
+use Rattle.tables.specs.Inner.Tables.{allZero, places, placesPass}
 use Rattle.packing.specs.EntryPlace.{entryAt, isEntryPlace, logTable}
 use Rattle.machine.specs.declared.Entry.{Entry}
 use Rattle.machine.specs.Entries.{areOrdered, isFlagged, recent}

@@ -10,8 +10,8 @@ use Rattle.rules.specs.declared.Amount.{Amount}
 use Rattle.rules.specs.declared.Rule.{Rule}
 use Rattle.machine.specs.declared.Entry.{Entry}
 use Rattle.machine.specs.Entries.{entryShare}
-use Rattle.log.specs.Sieve.{sieveOf}
-use Rattle.log.specs.Memo.{recalledOf}
+use Rattle.log.specs.Inner.Sieve.{sieveOf}
+use Rattle.log.specs.Inner.Memo.{recalledOf}
 use Rattle.log.specs.declared.Two.{Two}
 
 -- the rule counts as much with this amount as with what the log counts for it at a time: an absolute rule asks for neither

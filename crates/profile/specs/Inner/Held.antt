@@ -6,13 +6,13 @@ use mathlib.Core.List.{List}
 use lib.ListN.{length}
 use Rattle.rules.specs.declared.Rule.{Rule}
 use Rattle.packing.specs.RulePlace.{rulesTable}
-use Rattle.admission.specs.Counting.{SoFar}
+use Rattle.admission.specs.Inner.Counting.{SoFar}
 use Rattle.admission.specs.declared.Tally.{Tally}
 use Rattle.admission.specs.declared.Admitted.{Admitted}
 use Rattle.admission.specs.declared.Admitted.the-variants.{With, TooMany}
 use Rattle.machine.specs.State.{Profile}
 use Rattle.profile.specs.Profile.{joined, tooMany, Outcome, readingOf, rootsTable}
-use Rattle.profile.specs.Lawful.{Lawful}
+use Rattle.profile.specs.Inner.Lawful.{Lawful}
 use Rattle.profile.specs.declared.Reading.{Reading}
 
 -- the roots and the rules of a profile stand in their places

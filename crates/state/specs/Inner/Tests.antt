@@ -9,7 +9,7 @@ use Rattle.rules.specs.Valid.{hasRate}
 use Rattle.machine.specs.State.{cellsOf}
 use Rattle.given.specs.Names.{isNameNumber}
 use Rattle.given.specs.Parts.{rootsHold, rulesOf, rulesHold, totalsHold, totalsSize}
-use Rattle.log.specs.Log.{logHolds}
+use Rattle.log.specs.Inner.Log.{logHolds}
 use Rattle.state.specs.State.{locksAt, logAt, totalsAt, registerAt, decode}
 use Rattle.register.specs.Register.{registerHolds}
 use Rattle.machine.specs.Refusals.{used}
