@@ -233,7 +233,7 @@ pub fn text_size(firm: u64, roots: &[u64], rules: &[u64]) -> usize
     ensures { λ r. ⌜ r ≡ length (textOf (profileIn firm (now (roots .entry)) (now (rules .entry)))) ⌝ }
 {
     let k = rules[0] as usize;
-    lines_size(firm, roots, &rules[1..made::RULES_SIZE], k)
+    lines_size(firm, roots, &rules[1..given::RULES_SIZE], k)
 }
 
 // Writes the text of such a profile to the front of a room, and answers how many bytes it has.
@@ -244,5 +244,5 @@ pub fn write_text(firm: u64, roots: &[u64], rules: &[u64], room: &mut [u8]) -> u
     ensures { λ r. ⌜ now (room .exit) ≡ textOf (profileIn firm (now (roots .entry)) (now (rules .entry))) ++ drop (length (textOf (profileIn firm (now (roots .entry)) (now (rules .entry))))) (now (room .entry)) ⌝ }
 {
     let k = rules[0] as usize;
-    put_lines(firm, roots, &rules[1..made::RULES_SIZE], k, room)
+    put_lines(firm, roots, &rules[1..given::RULES_SIZE], k, room)
 }
