@@ -1,5 +1,5 @@
-/* Tries every call of mbrumzheg.h but sendings, reports and closings (c/away.c) by the functions that answer a struct, and by its row: ends with 0 if each
- * answer is as it should be, else with 1 and the line that was not. */
+/* Tries every call of mbrumzheg.h but sendings, reports and closings (c/away.c) and records (c/records.c) by the functions that answer a struct, and by its
+ * row: ends with 0 if each answer is as it should be, else with 1 and the line that was not. */
 #include <stdio.h>
 #include <stdlib.h>
 #include <string.h>
@@ -186,28 +186,12 @@ static void words(void) {
     EXPECT(strcmp(mbrumzheg_refusal_text(1000), "this is no refusal of this library") == 0);
 }
 
-static void records(void) {
-    static const uint8_t bytes[MBRUMZHEG_RECORD_BYTES] = {0x40, 0, 0, 0x50, 0, 1, 0x11, 0x70, 0, 0x0C, 0x80, 0};
-    const struct mbrumzheg_event order = {MBRUMZHEG_KIND_ORDER, 30, 0, 0, 0, 0, MBRUMZHEG_RESET_NONE, 0, 0, 0};
-    const struct mbrumzheg_reading reading = mbrumzheg_try_read_record(bytes, sizeof bytes);
-    struct mbrumzheg_event event = reading.event;
-    struct mbrumzheg_record record = mbrumzheg_try_write_record(event);
-    EXPECT(reading.refusal == MBRUMZHEG_ACCEPTED && event.kind == MBRUMZHEG_KIND_OFFER && event.time == 10 && event.contracts == 200);
-    EXPECT(record.refusal == MBRUMZHEG_ACCEPTED && memcmp(record.bytes, bytes, sizeof bytes) == 0);
-    EXPECT(mbrumzheg_try_read_record(bytes, 11).refusal == MBRUMZHEG_FAULTY_RECORD);
-    event.reset = MBRUMZHEG_RESET_SYMBOL;
-    EXPECT(mbrumzheg_try_write_record(event).refusal == MBRUMZHEG_FAULTY_RECORD);
-    event = order;
-    for (event.reset = 0; event.reset < 8; event.reset++)
-        EXPECT(mbrumzheg_try_write_record(event).refusal == (event.reset > MBRUMZHEG_RESET_BOTH ? MBRUMZHEG_FAULTY_RECORD : MBRUMZHEG_ACCEPTED));
-}
-
 /* Each kind of event comes to its call. */
 static void events(void) {
-    struct mbrumzheg_event order = {MBRUMZHEG_KIND_ORDER, 30, 0, 0, 0, 0, MBRUMZHEG_RESET_SYMBOL, 0, 0, 0};
-    struct mbrumzheg_event fill = {MBRUMZHEG_KIND_OFFER, 40, 0, MBRUMZHEG_PUTS_FRONT, 30000, 5, 0, 0, 0, 0};
-    struct mbrumzheg_event lockout = {MBRUMZHEG_KIND_LOCKOUT, 50, 0, 0, 0, 0, 0, MBRUMZHEG_LEVEL_FIRM, 0, 0};
-    struct mbrumzheg_event none = {6, 60, 0, 0, 0, 0, 0, 0, 0, 0};
+    struct mbrumzheg_event order = {MBRUMZHEG_KIND_ORDER, 30, 0, 0, 0, 0, MBRUMZHEG_RESET_SYMBOL, 0, 0, 0, 999};
+    struct mbrumzheg_event fill = {MBRUMZHEG_KIND_OFFER, 40, 0, MBRUMZHEG_PUTS_FRONT, 30000, 5, 0, 0, 0, 0, 0};
+    struct mbrumzheg_event lockout = {MBRUMZHEG_KIND_LOCKOUT, 50, 0, 0, 0, 0, 0, MBRUMZHEG_LEVEL_FIRM, 0, 0, 0};
+    struct mbrumzheg_event none = {6, 60, 0, 0, 0, 0, 0, 0, 0, 0, 0};
     EXPECT(is(mbrumzheg_try_event(memory, MBRUMZHEG_SIZE, order), 0, MBRUMZHEG_FREE, 0, false, false));
     EXPECT(mbrumzheg_passes(mbrumzheg_try_event(memory, MBRUMZHEG_SIZE, order)) && !mbrumzheg_passes(offer(0, 1)));
     EXPECT(is(mbrumzheg_try_event(memory, MBRUMZHEG_SIZE, fill), 0, MBRUMZHEG_FREE, 5, false, false));
@@ -232,7 +216,6 @@ int main(void) {
     arms();
     cuts_and_locks();
     words();
-    records();
     events();
     rows();
     EXPECT(mbrumzheg_try_clear(memory, MBRUMZHEG_SIZE - 1) == MBRUMZHEG_NO_ROOM);

@@ -70,12 +70,12 @@ static void places_are_kept(void) {
     EXPECT(refused(closed(4, 65536), MBRUMZHEG_BAD_TIME) && refused(closed(5, 65536), MBRUMZHEG_UNKNOWN));
 }
 
-/* Each kind of event comes to its call, and none of these has a record of 12 bytes. */
+/* Each kind of event comes to its call, and none of these has a record of the old form. */
 static void events(void) {
-    struct mbrumzheg_event send = {MBRUMZHEG_KIND_SEND, 1, 0, MBRUMZHEG_PUTS_TRAILING, 10000, 20, 0, 0, 5, 1};
-    struct mbrumzheg_event report = {MBRUMZHEG_KIND_REPORT, 2, 0, 0, 0, 20, 0, 0, 5, 0};
-    struct mbrumzheg_event close = {MBRUMZHEG_KIND_CLOSE, 3, 0, 0, 0, 0, 0, 0, 5, 0};
-    struct mbrumzheg_event order = {MBRUMZHEG_KIND_ORDER, 4, 0, 0, 0, 0, 0, 0, 0, 0};
+    struct mbrumzheg_event send = {MBRUMZHEG_KIND_SEND, 1, 0, MBRUMZHEG_PUTS_TRAILING, 10000, 20, 0, 0, 5, 1, 0};
+    struct mbrumzheg_event report = {MBRUMZHEG_KIND_REPORT, 2, 0, 0, 0, 20, 0, 0, 5, 0, 0};
+    struct mbrumzheg_event close = {MBRUMZHEG_KIND_CLOSE, 3, 0, 0, 0, 0, 0, 0, 5, 0, 0};
+    struct mbrumzheg_event order = {MBRUMZHEG_KIND_ORDER, 4, 0, 0, 0, 0, 0, 0, 0, 0, 0};
     arm("ABCD,abs_vol,XYZ,10");
     EXPECT(passes(mbrumzheg_try_event(memory, MBRUMZHEG_SIZE, send)));
     EXPECT(is(mbrumzheg_try_event(memory, MBRUMZHEG_SIZE, report), 0, MBRUMZHEG_FREE, 20, true, false));

@@ -16,19 +16,21 @@
 #define ROOM (1u << 17)
 
 enum call {
-    EMPTY, ARM, CLEAR, ORDER, LOCKOUT, OFFER, SEND, REPORT, CLOSE, REMAINING, STATUS, ROOT_NAMED, ROOT_NAME, RULE, PROFILE, TEXT, READ_RECORD, WRITE_RECORD, CALLS
+    EMPTY, ARM, CLEAR, ORDER, LOCKOUT, OFFER, SEND, REPORT, CLOSE, REMAINING, STATUS, ROOT_NAMED, ROOT_NAME, RULE, PROFILE, TEXT,
+    READ_RECORD16, WRITE_RECORD16, READ_RECORD, WRITE_RECORD, WIDEN, NARROW, CALLS
 };
 static const char *const names[CALLS] = {"empty", "arm", "clear", "order", "lockout", "offer", "send", "report", "close", "remaining", "status",
-                                         "root_named", "root_name", "rule", "profile", "text", "read_record", "write_record"};
+                                         "root_named", "root_name", "rule", "profile", "text", "read_record16", "write_record16",
+                                         "read_record", "write_record", "widen", "narrow"};
 
 /* The call that is measured, with what it is given. */
 static enum call what;
-static uint64_t numbers[8], row[MBRUMZHEG_EVENT_ROW];
+static uint64_t numbers[10], row[MBRUMZHEG_EVENT16_ROW];
 static uint64_t *memory;
 static size_t memory_len;
 static char text[MBRUMZHEG_MOST_PROFILE_BYTES + 1];
 static size_t text_len;
-static uint8_t room[MBRUMZHEG_TEXT_BYTES], profile_room[MBRUMZHEG_PROFILE_MOST];
+static uint8_t room[MBRUMZHEG_TEXT_BYTES], moved[MBRUMZHEG_RECORD16_BYTES], profile_room[MBRUMZHEG_PROFILE_MOST];
 
 static _Alignas(64) unsigned char stack[ROOM];
 static ucontext_t here, there;
@@ -52,6 +54,12 @@ static void run(void) {
     case RULE: mbrumzheg_rule(memory, memory_len, n[0], row); break;
     case PROFILE: mbrumzheg_profile(memory, memory_len, profile_room, n[0], row); break;
     case TEXT: mbrumzheg_text(n[0], room, sizeof room, row); break;
+    case READ_RECORD16: mbrumzheg_read_record16(room, MBRUMZHEG_RECORD16_BYTES, row); break;
+    case WRITE_RECORD16:
+        mbrumzheg_write_record16(n[0], n[1], n[2], n[3], n[4], n[5], n[6], n[7], n[8], n[9], room, sizeof room, row);
+        break;
+    case WIDEN: mbrumzheg_widen(room, MBRUMZHEG_RECORD_BYTES, moved, sizeof moved, row); break;
+    case NARROW: mbrumzheg_narrow(room, MBRUMZHEG_RECORD16_BYTES, moved, sizeof moved, row); break;
     case READ_RECORD: mbrumzheg_read_record(room, MBRUMZHEG_RECORD_BYTES, row); break;
     case WRITE_RECORD: mbrumzheg_write_record(n[0], n[1], n[2], n[3], n[4], n[5], n[6], n[7], room, sizeof room, row); break;
     case EMPTY:
@@ -185,6 +193,21 @@ static bool try_full_log(uint64_t *state) {
     return so & full;
 }
 
+/* Records of each kind in each form, and one kind too many. */
+static void try_records(uint64_t *state) {
+    for (uint64_t n = 0; n < 7; n++) {
+        const bool filled = n == 1 || n == 3;
+        const uint64_t event[10] = {n, 10000, 0, 0, filled ? 70000 : 0, filled || n == 4 ? 200 : 0, n == 0 ? 3 : 0, n == 2, n > 2 ? 7 : 0, n == 3};
+        memcpy(numbers, event, sizeof event);
+        try_call(WRITE_RECORD, state, MBRUMZHEG_SIZE);
+        try_call(READ_RECORD, state, MBRUMZHEG_SIZE);
+        try_call(WIDEN, state, MBRUMZHEG_SIZE);
+        try_call(WRITE_RECORD16, state, MBRUMZHEG_SIZE);
+        try_call(READ_RECORD16, state, MBRUMZHEG_SIZE);
+        try_call(NARROW, state, MBRUMZHEG_SIZE);
+    }
+}
+
 /* Memory that is short, unarmed, unsound; the smallest profile; texts and records. */
 static bool try_small(uint64_t *state) {
     try_call(STATUS, state, 3);
@@ -195,13 +218,8 @@ static bool try_small(uint64_t *state) {
     try_calls(state, 5);
     state[MBRUMZHEG_SIZE - 1] = 600; /* a place that is not used */
     try_calls(state, 5);
-    for (uint64_t n = 0; n < 4; n++) {
-        const uint64_t event[8] = {n, 10, 0, 0, n == 1 ? 70000 : 0, n == 1 ? 200 : 0, n == 0 ? 3 : 0, n == 2};
-        try_numbers(TEXT, state, n, 0, 0, 0, 0);
-        memcpy(numbers, event, sizeof event);
-        try_call(WRITE_RECORD, state, MBRUMZHEG_SIZE);
-        try_call(READ_RECORD, state, MBRUMZHEG_SIZE);
-    }
+    for (uint64_t n = 0; n < 4; n++) try_numbers(TEXT, state, n, 0, 0, 0, 0);
+    try_records(state);
     return so;
 }
 
@@ -211,7 +229,7 @@ int main(void) {
     bool so = try_small(state) & try_long_profiles(state) & try_full_log(state);
     for (int call = EMPTY + 1; call < CALLS; call++) {
         const size_t took = most[call] - most[EMPTY];
-        printf("%-12s %6zu\n", names[call], took);
+        printf("%-14s %6zu\n", names[call], took);
         so &= took <= (call == ARM ? MBRUMZHEG_STACK_BYTES : MBRUMZHEG_CALL_STACK_BYTES);
     }
     return so ? 0 : 1;

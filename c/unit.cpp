@@ -167,6 +167,35 @@ static void events_have_records() {
     EXPECT(read_record(Record{0xFF}).refusal() == Refusal::FaultyRecord);
 }
 
+static void records_carry_microseconds() {
+    const Time time = Time::from_us(34200000250);
+    EXPECT(time.ms == 34200000 && time.micros == 250 && time.us() == 34200000250 && Time{7}.us() == 7000);
+    const Sending sending{time, Root{5}, UnitOfRoot::PutsFront, Premium{70000}, Contracts{20}, Identity{65535}, Reports{16}};
+    for (const Event& one : {Event{Order{time, Root{63}, Reset::TE}}, Event{Offer{time, Root{0}, UnitOfRoot::CallsFront, Premium{1}, Contracts{1}}},
+                             Event{RootLockout{time, Root{63}}}, Event{FirmLockout{time}}, Event{sending}, Event{Report{time, Identity{7}, Contracts{3}}},
+                             Event{Closing{time, Identity{7}}}}) {
+        const auto again = read_record16(*write_record16(one));
+        EXPECT(again.accepted() && again->index() == one.index() && *write_record16(*again) == *write_record16(one));
+        EXPECT(narrow(*write_record16(one)).refusal() == Refusal::Unfit && write_record(one).refusal() == Refusal::FaultyRecord);
+    }
+    const auto sent = read_record16(*write_record16(sending));
+    EXPECT(std::get<Sending>(*sent).time.us() == time.us() && std::get<Sending>(*sent).identity.number == 65535);
+    EXPECT(std::get<Sending>(*sent).reports.count == 16 && std::get<Sending>(*sent).unit == UnitOfRoot::PutsFront);
+    EXPECT(write_record16(Order{Time{86399999, 1000}, Root{0}, Reset::None}).refusal() == Refusal::FaultyRecord);
+    EXPECT(write_record16(Order{Time{86400000}, Root{0}, Reset::None}).refusal() == Refusal::FaultyRecord);
+    EXPECT(read_record16(Record16{0xFF}).refusal() == Refusal::FaultyRecord && narrow(Record16{0xFF}).refusal() == Refusal::FaultyRecord);
+}
+
+static void records_move_between_the_forms() {
+    const Record old{0x40, 0, 0, 0x50, 0, 1, 0x11, 0x70, 0, 0x0C, 0x80, 0};
+    const auto wide = widen(old);
+    EXPECT(std::get<Offer>(*read_record16(*wide)).time.us() == 10000 && *narrow(*wide) == old && widen(Record{0xFF}).refusal() == Refusal::FaultyRecord);
+    auto unit = arm("ABCD,abs_vol,XYZ,1000,0");
+    EXPECT(unit->answer(*read_record16(*wide))->grant == 200 && passes(unit->order({Time{10, 999}, Root{0}, Reset::None})));
+    EXPECT(passes(unit->order({Time{10, 1}, Root{0}, Reset::None})) && unit->order({Time{9, 999}, Root{0}, Reset::None}).refusal() == Refusal::BadTime);
+    EXPECT(std::string_view(sentence(Refusal::Unfit)).substr(0, 36) == "the record does not fit the old form");
+}
+
 int main() {
     cuts_and_locks();
     locks_are_lifted_without_forgetting();
@@ -178,4 +207,6 @@ int main() {
     a_unit_moves();
     a_unit_stands_on_lent_memory();
     events_have_records();
+    records_carry_microseconds();
+    records_move_between_the_forms();
 }

@@ -48,9 +48,10 @@ extern "C" {
 #define MBRUMZHEG_VERSION_MINOR 2
 #define MBRUMZHEG_VERSION_PATCH 0
 
-/* How many 64-bit numbers the state takes, how many bytes a record has, the room for a text and for a root's name that is asked for, and the most
- * bytes that a profile written back has. */
+/* How many 64-bit numbers the state takes, how many bytes a record has and one of the old form, the room for a text and for a root's name that is asked
+ * for, and the most bytes that a profile written back has. */
 #define MBRUMZHEG_SIZE 2763
+#define MBRUMZHEG_RECORD16_BYTES 16
 #define MBRUMZHEG_RECORD_BYTES 12
 #define MBRUMZHEG_TEXT_BYTES 20
 #define MBRUMZHEG_NAME_BYTES 6
@@ -60,9 +61,10 @@ extern "C" {
 #define MBRUMZHEG_STACK_BYTES 16384
 #define MBRUMZHEG_CALL_STACK_BYTES 4096
 
-/* Ranges: the last millisecond of the day, ten-thousandths of a dollar, contracts, a profile's bytes, rules and roots, places of the log, the last
+/* Ranges: the last millisecond and microsecond of the day, ten-thousandths of a dollar, contracts, a profile's bytes, rules and roots, places of the log, the last
  * identity of an order sent away, reports that it may have, places of the register. */
 #define MBRUMZHEG_LAST_TIME 86399999
+#define MBRUMZHEG_LAST_STAMP 86399999999
 #define MBRUMZHEG_MOST_PREMIUM 100000000
 #define MBRUMZHEG_MOST_CONTRACTS 1000000
 #define MBRUMZHEG_MOST_PROFILE_BYTES 65536
@@ -158,14 +160,35 @@ MBRUMZHEG_NOT_NULL void mbrumzheg_profile(const uint64_t *memory, size_t memory_
  * Row: refusal, how many bytes were written: 20 or 19. */
 MBRUMZHEG_NOT_NULL void mbrumzheg_text(uint64_t verdict, uint8_t *room, size_t room_len, uint64_t row[MBRUMZHEG_AT_LEAST(5)]);
 
-/* Reads an event record of just 12 bytes. Row, of NINE numbers: refusal, kind, time, root, unit, premium, contracts, reset, level. */
+/* Reads an event record of just 16 bytes, whose time is in microseconds: the other calls take its whole milliseconds. Row, of THIRTEEN numbers: refusal,
+ * kind, time, root, unit, premium, contracts, reset, level, identity, reports, and two that are 0. */
+MBRUMZHEG_NOT_NULL void mbrumzheg_read_record16(const uint8_t *bytes, size_t bytes_len, uint64_t row[MBRUMZHEG_AT_LEAST(13)]);
+
+/* Writes an event's record to the first 16 bytes of a room, its time in microseconds, 0 to 86,399,999,999; a number that its kind does not use is 0 [16].
+ * Row: refusal. */
+MBRUMZHEG_NOT_NULL void mbrumzheg_write_record16(uint64_t kind, uint64_t time, uint64_t root, uint64_t unit, uint64_t premium,
+                                                 uint64_t contracts, uint64_t reset, uint64_t level, uint64_t identity, uint64_t reports,
+                                                 uint8_t *room, size_t room_len, uint64_t row[MBRUMZHEG_AT_LEAST(5)]);
+
+/* Reads an event record of the old form, of just 12 bytes, its time in milliseconds. Row, of NINE numbers: refusal, kind, time, root, unit, premium,
+ * contracts, reset, level. */
 MBRUMZHEG_NOT_NULL void mbrumzheg_read_record(const uint8_t *bytes, size_t bytes_len, uint64_t row[MBRUMZHEG_AT_LEAST(9)]);
 
-/* Writes an event's record to the first 12 bytes of a room; a number that its kind does not use is 0, and a reset above 3 has no such record [16].
+/* Writes an event's record of the old form to the first 12 bytes of a room; a number that its kind does not use is 0, and kinds above 2 and resets
+ * above 3 have no such record [16].
  * Row: refusal. */
 MBRUMZHEG_NOT_NULL void mbrumzheg_write_record(uint64_t kind, uint64_t time, uint64_t root, uint64_t unit, uint64_t premium,
                                                uint64_t contracts, uint64_t reset, uint64_t level, uint8_t *room, size_t room_len,
                                                uint64_t row[MBRUMZHEG_AT_LEAST(5)]);
+
+/* Moves a record of the old form, of just 12 bytes [16], to the first 16 bytes of a room as one with microseconds. Row: refusal. */
+MBRUMZHEG_NOT_NULL void mbrumzheg_widen(const uint8_t *bytes, size_t bytes_len, uint8_t *room, size_t room_len,
+                                        uint64_t row[MBRUMZHEG_AT_LEAST(5)]);
+
+/* Moves a record of just 16 bytes [16] to the first 12 bytes of a room as one of the old form, which has kinds up to 2, whole milliseconds and resets up to
+ * 3 alone [20]. Row: refusal. */
+MBRUMZHEG_NOT_NULL void mbrumzheg_narrow(const uint8_t *bytes, size_t bytes_len, uint8_t *room, size_t room_len,
+                                         uint64_t row[MBRUMZHEG_AT_LEAST(5)]);
 
 #ifdef __cplusplus
 }

@@ -4,7 +4,7 @@
 #ifndef MBRUMZHEG_EVENTS_H
 #define MBRUMZHEG_EVENTS_H
 
-/* The call of an event's kind; a kind that is none of the six is refused with 16, as its record would be. */
+/* The call of an event's kind, at its milliseconds; a kind that is none of the six is refused with 16, as its record would be. */
 static inline struct mbrumzheg_judged mbrumzheg_try_event(uint64_t *memory, size_t memory_len, struct mbrumzheg_event event) {
     uint64_t refused[MBRUMZHEG_ROW] = {MBRUMZHEG_FAULTY_RECORD, 0, 0, 0, 0};
     switch (event.kind) {
@@ -21,11 +21,9 @@ static inline struct mbrumzheg_judged mbrumzheg_try_event(uint64_t *memory, size
     }
 }
 
-/* mbrumzheg_read_record */
-static inline struct mbrumzheg_reading mbrumzheg_try_read_record(const uint8_t *bytes, size_t bytes_len) {
-    uint64_t row[MBRUMZHEG_EVENT_ROW];
+/* The row of a record of either form, its time in milliseconds and the microseconds beyond them. */
+static inline struct mbrumzheg_reading mbrumzheg_reading_in(const uint64_t *row) {
     struct mbrumzheg_reading reading;
-    mbrumzheg_read_record(bytes, bytes_len, row);
     reading.refusal = mbrumzheg_refusal_in(row);
     reading.event.kind = row[MBRUMZHEG_ROW_KIND];
     reading.event.time = row[MBRUMZHEG_ROW_TIME];
@@ -37,16 +35,66 @@ static inline struct mbrumzheg_reading mbrumzheg_try_read_record(const uint8_t *
     reading.event.level = row[MBRUMZHEG_ROW_LEVEL];
     reading.event.identity = 0;
     reading.event.reports = 0;
+    reading.event.micros = 0;
     return reading;
 }
 
-/* mbrumzheg_write_record, into the answer itself; 12 bytes have no place for an identity or reports [16] */
+/* mbrumzheg_read_record16 */
+static inline struct mbrumzheg_reading mbrumzheg_try_read_record16(const uint8_t *bytes, size_t bytes_len) {
+    uint64_t row[MBRUMZHEG_EVENT16_ROW];
+    struct mbrumzheg_reading reading;
+    mbrumzheg_read_record16(bytes, bytes_len, row);
+    reading = mbrumzheg_reading_in(row);
+    reading.event.time = row[MBRUMZHEG_ROW_TIME] / 1000;
+    reading.event.identity = row[MBRUMZHEG_ROW_IDENTITY];
+    reading.event.reports = row[MBRUMZHEG_ROW_REPORTS];
+    reading.event.micros = row[MBRUMZHEG_ROW_TIME] % 1000;
+    return reading;
+}
+
+/* mbrumzheg_read_record */
+static inline struct mbrumzheg_reading mbrumzheg_try_read_record(const uint8_t *bytes, size_t bytes_len) {
+    uint64_t row[MBRUMZHEG_EVENT_ROW];
+    mbrumzheg_read_record(bytes, bytes_len, row);
+    return mbrumzheg_reading_in(row);
+}
+
+/* mbrumzheg_write_record16, into the answer itself; a time or microseconds out of their range have no record [16] */
+static inline struct mbrumzheg_record16 mbrumzheg_try_write_record16(struct mbrumzheg_event event) {
+    uint64_t row[MBRUMZHEG_ROW];
+    struct mbrumzheg_record16 record = {MBRUMZHEG_FAULTY_RECORD, {0}};
+    if (event.time > MBRUMZHEG_LAST_TIME || event.micros > 999) return record;
+    mbrumzheg_write_record16(event.kind, event.time * 1000 + event.micros, event.root, event.unit, event.premium, event.contracts, event.reset,
+                             event.level, event.identity, event.reports, record.bytes, sizeof record.bytes, row);
+    record.refusal = mbrumzheg_refusal_in(row);
+    return record;
+}
+
+/* mbrumzheg_write_record, into the answer itself; 12 bytes have no place for an identity, reports or microseconds [16] */
 static inline struct mbrumzheg_record mbrumzheg_try_write_record(struct mbrumzheg_event event) {
     uint64_t row[MBRUMZHEG_ROW];
     struct mbrumzheg_record record = {MBRUMZHEG_FAULTY_RECORD, {0}};
-    if ((event.identity | event.reports) != 0) return record;
+    if ((event.identity | event.reports | event.micros) != 0) return record;
     mbrumzheg_write_record(event.kind, event.time, event.root, event.unit, event.premium, event.contracts, event.reset, event.level,
                            record.bytes, sizeof record.bytes, row);
+    record.refusal = mbrumzheg_refusal_in(row);
+    return record;
+}
+
+/* mbrumzheg_widen, into the answer itself */
+static inline struct mbrumzheg_record16 mbrumzheg_try_widen(const uint8_t *bytes, size_t bytes_len) {
+    uint64_t row[MBRUMZHEG_ROW];
+    struct mbrumzheg_record16 record = {MBRUMZHEG_FAULTY_RECORD, {0}};
+    mbrumzheg_widen(bytes, bytes_len, record.bytes, sizeof record.bytes, row);
+    record.refusal = mbrumzheg_refusal_in(row);
+    return record;
+}
+
+/* mbrumzheg_narrow, into the answer itself */
+static inline struct mbrumzheg_record mbrumzheg_try_narrow(const uint8_t *bytes, size_t bytes_len) {
+    uint64_t row[MBRUMZHEG_ROW];
+    struct mbrumzheg_record record = {MBRUMZHEG_FAULTY_RECORD, {0}};
+    mbrumzheg_narrow(bytes, bytes_len, record.bytes, sizeof record.bytes, row);
     record.refusal = mbrumzheg_refusal_in(row);
     return record;
 }

@@ -23,7 +23,8 @@ enum mbrumzheg_refusal {
     MBRUMZHEG_FAULTY_RECORD = 16,  /* no record of a valid event, or no valid event */
     MBRUMZHEG_REGISTER_FULL = 17,  /* 64 orders sent away are open */
     MBRUMZHEG_IDENTITY_CLASH = 18, /* an order of that identity is open already or, for a report or a closing, is not open */
-    MBRUMZHEG_OVER_REPORTED = 19   /* more contracts than are open, or no report left */
+    MBRUMZHEG_OVER_REPORTED = 19,  /* more contracts than are open, or no report left */
+    MBRUMZHEG_UNFIT = 20           /* a record that does not fit the old form */
 };
 
 /* Verdicts: not locked, the firm is locked, the root is locked. */
@@ -51,7 +52,7 @@ enum mbrumzheg_unit {
     MBRUMZHEG_PUTS_TRAILING = 3
 };
 
-/* The kinds of events; a record of 12 bytes has the first three alone. */
+/* The kinds of events; a record of the old form has the first three alone. */
 enum mbrumzheg_kind {
     MBRUMZHEG_KIND_ORDER = 0,
     MBRUMZHEG_KIND_OFFER = 1,
@@ -74,11 +75,11 @@ enum mbrumzheg_rule_type {
 /* Status' lowest locked root where none is locked, and a firm rule's root; the unit of a rule that covers all four. */
 enum { MBRUMZHEG_NO_ROOT = 64, MBRUMZHEG_ALL_UNITS = 4 };
 
-/* How long a row is, that of a rule, and that of a record that was read. */
-enum { MBRUMZHEG_ROW = 5, MBRUMZHEG_RULE_ROW = 6, MBRUMZHEG_EVENT_ROW = 9 };
+/* How long a row is, that of a rule, that of a record that was read, and of one of the old form. */
+enum { MBRUMZHEG_ROW = 5, MBRUMZHEG_RULE_ROW = 6, MBRUMZHEG_EVENT16_ROW = 13, MBRUMZHEG_EVENT_ROW = 9 };
 
 /* The places in a row: of every call, of Arm, of events (Order, Lockout, Offer, Send, Report, Close), of Remaining, of Status, of Text, a root's name and
- * a profile, of a root by its name, of a rule, of a record that was read. */
+ * a profile, of a root by its name, of a rule, of a record that was read (one of the old form has no identity and no reports). */
 enum mbrumzheg_place {
     MBRUMZHEG_ROW_REFUSAL = 0,
 
@@ -116,7 +117,9 @@ enum mbrumzheg_place {
     MBRUMZHEG_ROW_PREMIUM = 5,
     MBRUMZHEG_ROW_CONTRACTS = 6,
     MBRUMZHEG_ROW_RESET = 7,
-    MBRUMZHEG_ROW_LEVEL = 8
+    MBRUMZHEG_ROW_LEVEL = 8,
+    MBRUMZHEG_ROW_IDENTITY = 9,
+    MBRUMZHEG_ROW_REPORTS = 10
 };
 
 #endif

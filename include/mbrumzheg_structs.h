@@ -74,7 +74,8 @@ struct mbrumzheg_wording {
     char text[MBRUMZHEG_TEXT_BYTES + 1];
 };
 
-/* An event by its numbers; one that its kind does not use is 0. */
+/* An event by its numbers; one that its kind does not use is 0. Its time is in milliseconds, as the calls take it; the microseconds beyond them, 0 to 999,
+ * stand in its record alone. */
 struct mbrumzheg_event {
     uint64_t kind;
     uint64_t time;
@@ -86,6 +87,7 @@ struct mbrumzheg_event {
     uint64_t level;
     uint64_t identity;
     uint64_t reports;
+    uint64_t micros;
 };
 
 /* What a record was read as. */
@@ -95,6 +97,12 @@ struct mbrumzheg_reading {
 };
 
 /* The record of an event. */
+struct mbrumzheg_record16 {
+    enum mbrumzheg_refusal refusal;
+    uint8_t bytes[MBRUMZHEG_RECORD16_BYTES];
+};
+
+/* The record of an event in the old form. */
 struct mbrumzheg_record {
     enum mbrumzheg_refusal refusal;
     uint8_t bytes[MBRUMZHEG_RECORD_BYTES];

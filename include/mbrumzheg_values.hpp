@@ -34,6 +34,7 @@ enum class Refusal : std::uint64_t {
     RegisterFull = MBRUMZHEG_REGISTER_FULL,
     IdentityClash = MBRUMZHEG_IDENTITY_CLASH,
     OverReported = MBRUMZHEG_OVER_REPORTED,
+    Unfit = MBRUMZHEG_UNFIT,
 };
 
 // What a refusal means: a sentence without its first capital and full stop.
@@ -59,8 +60,16 @@ enum class UnitOfRoot : std::uint64_t {
     PutsTrailing = MBRUMZHEG_PUTS_TRAILING,
 };
 
+// A time of the day in milliseconds, as calls take it; the microseconds beyond them, 0 to 999, stand in records alone.
+struct Time {
+    std::uint64_t ms;
+    std::uint64_t micros = 0;
+    // The time of so many microseconds of the day, and how many it has.
+    static constexpr Time from_us(std::uint64_t us) noexcept { return {us / 1000, us % 1000}; }
+    constexpr std::uint64_t us() const noexcept { return ms * 1000 + micros; }
+};
+
 // Numbers by what they are; each is judged by the call, and mbrumzheg.h has the ranges.
-struct Time { std::uint64_t ms; };
 struct Root { std::uint64_t number; };
 struct Premium { std::uint64_t ten_thousandths; };
 struct Contracts { std::uint64_t count; };

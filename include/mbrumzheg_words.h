@@ -23,10 +23,11 @@ static inline const char *mbrumzheg_refusal_text(uint64_t refusal) {
     case MBRUMZHEG_UNKNOWN: return "the root, unit, rule, level, reset, verdict or identity is not known here";
     case MBRUMZHEG_BAD_AMOUNT: return "the premium is not within $0.0001 to $10,000, the contracts not within 1 to 1,000,000, or the reports not within 1 to 16";
     case MBRUMZHEG_LOG_FULL: return "fills inside the longest window and places kept for reports leave too few of the log's 512 places";
-    case MBRUMZHEG_FAULTY_RECORD: return "the event record is not 12 bytes, or a field in it is out of range or not 0 where it must be";
+    case MBRUMZHEG_FAULTY_RECORD: return "the event record is not 16 bytes (12 in the old form), or a field in it is out of range or not 0 where it must be";
     case MBRUMZHEG_REGISTER_FULL: return "64 orders sent away are open, so the register has no place for another";
     case MBRUMZHEG_IDENTITY_CLASH: return "an order of this identity is open already or, for a report or a closing, none is";
     case MBRUMZHEG_OVER_REPORTED: return "the report has more contracts than are open, or the order has no report left";
+    case MBRUMZHEG_UNFIT: return "the record does not fit the old form: its kind is above 2, its time not in whole milliseconds, or its reset above 3";
     default: return "this is no refusal of this library";
     }
 }

@@ -1,7 +1,7 @@
 //! Writes a profile and a day of records, drawn from a seed: `big_day SEED RECORDS RULES FOLDER [TIGHT]`. Limits are divided by TIGHT, so that rules trip
 //! all day. For trying pages and their speed on days of any size.
 
-use mbrumzheg::{Contracts, Event, Level, Offer, Premium, RecordWriter, Reset, Root, Time, UnitOfRoot};
+use mbrumzheg::{Contracts, Event, Level, Offer, Premium, Record16Writer, Reset, Root, Time, UnitOfRoot};
 use std::fs::File;
 use std::io::{self, BufWriter, Write};
 use std::path::Path;
@@ -58,7 +58,7 @@ fn event(dice: &mut Dice, ms: u64, roots: u64) -> Event {
 pub fn write(seed: u64, records: u64, (rules, tight): (u64, u64), folder: &Path) -> io::Result<()> {
     let mut dice = Dice(seed.wrapping_mul(0x9E37_79B9_7F4A_7C15) | 1);
     std::fs::write(folder.join("profile"), profile(rules, tight))?;
-    let mut writer = RecordWriter::new(BufWriter::new(File::create(folder.join("records"))?));
+    let mut writer = Record16Writer::new(BufWriter::new(File::create(folder.join("records"))?));
     // from 09:30 to 16:00
     let (open, close) = (34_200_000, 57_600_000);
     for place in 0..records {

@@ -1,6 +1,7 @@
 //! A typed line as a command, or as a sentence that says what to type.
 
 use crate::explain::nearest;
+use crate::form::Form;
 use crate::topics::COMMANDS;
 
 /// A file to write.
@@ -10,6 +11,33 @@ pub struct Kept {
     pub file: String,
     /// Whether one that is there already may be written over.
     pub over: bool,
+}
+
+/// How a file of records is moved.
+#[derive(Clone, Copy, Debug, PartialEq, Eq)]
+pub enum Move {
+    /// From the old form of 12 bytes to 16.
+    Widen,
+    /// From 16 bytes to the old form.
+    Narrow,
+}
+
+impl Move {
+    /// The word that asks for it.
+    pub const fn name(self) -> &'static str {
+        match self {
+            Move::Widen => "widen",
+            Move::Narrow => "narrow",
+        }
+    }
+
+    /// The form that a file is moved to.
+    pub const fn to(self) -> Form {
+        match self {
+            Move::Widen => Form::New,
+            Move::Narrow => Form::Old,
+        }
+    }
 }
 
 /// What the desk can be asked to do. Words that need the profile or the clock are kept as words.
@@ -52,8 +80,19 @@ pub enum Command {
     Replay {
         /// The file of records.
         file: String,
+        /// The form of its records.
+        form: Form,
         /// Whether plain passes are left out.
         quiet: bool,
+    },
+    /// Move the records of a file to another form in another file.
+    Move {
+        /// From which form to which.
+        which: Move,
+        /// The file of records.
+        from: String,
+        /// The file to write.
+        kept: Kept,
     },
     /// Write a page on the day, or on a stretch of it, to a file.
     Report {
@@ -93,6 +132,8 @@ pub fn read(line: &str) -> Result<Command, String> {
         "clear" => alone(rest, "clear", Command::Clear),
         "save" => save(rest),
         "replay" => replay(rest),
+        "widen" => moved(rest, Move::Widen),
+        "narrow" => moved(rest, Move::Narrow),
         "report" => report(rest),
         "help" | "?" => Ok(Command::Help(Some(rest.to_string()).filter(|name| !name.is_empty()))),
         "quit" | "exit" => alone(rest, "quit", Command::Quit),
@@ -115,9 +156,18 @@ fn alone(rest: &str, name: &str, command: Command) -> Result<Command, String> {
 }
 
 fn replay(rest: &str) -> Result<Command, String> {
-    let (name, quiet) = with_last(rest, "quiet");
-    let file = file(name, "replay FILE, or replay FILE quiet")?;
-    Ok(Command::Replay { file, quiet })
+    let (rest, quiet) = with_last(rest, "quiet");
+    let (name, old) = with_last(rest, "old");
+    let file = file(name, "replay FILE [old] [quiet]")?;
+    Ok(Command::Replay { file, form: Form::asked(old), quiet })
+}
+
+/// A file and the one to move its records to, then `over` where it is asked for.
+fn moved(rest: &str, which: Move) -> Result<Command, String> {
+    let (names, over) = with_last(rest, "over");
+    let (from, to) = names.split_once(char::is_whitespace).map_or(("", ""), |(from, to)| (from, to.trim()));
+    let file = file(to, &format!("{0} FILE TO, or {0} FILE TO over to write over a file that is there", which.name()))?;
+    Ok(Command::Move { which, from: from.to_string(), kept: Kept { file, over } })
 }
 
 /// A file to save to, then `words` and `over` where they are asked for.

@@ -24,7 +24,10 @@ pub fn candidates(before: &str, known: &Known) -> (usize, Vec<String>) {
         return (start, beginning(COMMANDS.iter().map(|topic| topic.name.to_string()), typed));
     };
     let command = command.to_ascii_lowercase();
-    if let ("arm" | "check" | "profile" | "save" | "replay" | "report", []) = (command.as_str(), words) {
+    if let ("widen" | "narrow", [_]) = (command.as_str(), words) {
+        return (start, files(typed));
+    }
+    if let ("arm" | "check" | "profile" | "save" | "replay" | "report" | "widen" | "narrow", []) = (command.as_str(), words) {
         return (start, files(typed));
     }
     (start, beginning(following(&command, words, known).into_iter(), typed))
@@ -51,7 +54,9 @@ fn following(command: &str, words: &[&str], Known { roots, open }: &Known) -> Ve
             [time, limit @ ..] if looks_like_time(time) => all(on_unit(limit)),
             limit => all(on_unit(limit)),
         },
-        ("replay", 1) => all(&["quiet"]),
+        ("replay", 1) => all(&["old", "quiet"]),
+        ("replay", 2) if words[1] == "old" => all(&["quiet"]),
+        ("widen" | "narrow", 2) => all(&["over"]),
         ("save", 1) => all(&["words", "over"]),
         ("save", 2) if words[1] == "words" => all(&["over"]),
         ("profile", 1) => all(&["over"]),
@@ -131,6 +136,10 @@ mod tests {
         assert_eq!(offered("help ref"), ["refusals"]);
         assert_eq!(offered("help res"), ["resets"]);
         assert_eq!(offered("replay day.records q"), ["quiet"]);
+        assert_eq!(offered("replay day.records "), ["old", "quiet"]);
+        assert_eq!(offered("replay day.records old "), ["quiet"]);
+        assert_eq!(offered("wid"), ["widen"]);
+        assert_eq!(offered("narrow day.records old.records "), ["over"]);
         assert_eq!(offered("save day.records "), ["words", "over"]);
         assert_eq!(offered("save day.txt words "), ["over"]);
         assert_eq!(offered("save day.txt over "), [""; 0]);
@@ -155,6 +164,7 @@ mod tests {
         assert_eq!(offered(&format!("arm {here}/tests/scr")), [format!("{here}/tests/scripts.rs"), format!("{here}/tests/scripts/")]);
         assert_eq!(offered(&format!("check {here}/tests/scripts/faulty")), [format!("{here}/tests/scripts/faulty-profile")]);
         assert_eq!(offered(&format!("profile {here}/tests/scripts/empty")), [format!("{here}/tests/scripts/empty-profile")]);
+        assert_eq!(offered(&format!("widen old {here}/tests/scripts/empty")), [format!("{here}/tests/scripts/empty-profile")]);
         assert_eq!(offered("save no/such/folder/"), [""; 0]);
     }
 }

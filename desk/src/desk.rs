@@ -8,6 +8,7 @@ use crate::complete::Known;
 use crate::files;
 use crate::help;
 use crate::keeping::Caution;
+use crate::moving;
 use crate::sitting::Sitting;
 use crate::table;
 use mbrumzheg::Unit;
@@ -62,7 +63,7 @@ impl Desk {
                 None => return Ok(After::End),
                 Some(question) => Err(question),
             },
-            Ok(Command::Replay { file, quiet }) => self.replay(&file, quiet, out)?,
+            Ok(Command::Replay { file, form, quiet }) => self.replay(&file, form, quiet, out)?,
             Ok(command) => self.carry_out(command),
             Err(advice) => Err(advice),
         };
@@ -86,6 +87,7 @@ impl Desk {
             Command::Clear => self.clear(),
             Command::Save { kept, in_words } => self.save(&kept, in_words),
             Command::Report { file, stretch } => self.report(&file, stretch),
+            Command::Move { which, from, kept } => moving::file(which, &from, &kept),
             Command::Help(None) => Ok(help::list()),
             Command::Help(Some(name)) => help::on(&name).ok_or_else(|| no_help(&name)),
             Command::Nothing | Command::Quit | Command::Replay { .. } => Ok(String::new()),

@@ -52,6 +52,16 @@ pub fn write_profile(name: &str, text: &str, over: bool) -> Result<(), String> {
     whole(name, |to| to.write_all(text.as_bytes())).map_err(|error| cannot_write(name, &error))
 }
 
+/// Writes records that are moved; a file that is there already stays as it is, unless `over` says that it may be written over.
+pub fn write_moved(name: &str, command: &str, over: bool, write: impl Fn(&mut dyn Write) -> io::Result<()>) -> Result<(), String> {
+    may_keep(name, command, over)?;
+    whole(name, write).map_err(|error| match error.kind() {
+        // what its own words say
+        io::ErrorKind::Other => error.to_string(),
+        _ => cannot_write(name, &error),
+    })
+}
+
 /// Whether a command may write to a file of this name.
 fn may_keep(name: &str, command: &str, over: bool) -> Result<(), String> {
     let there = std::fs::symlink_metadata(name);
@@ -59,7 +69,9 @@ fn may_keep(name: &str, command: &str, over: bool) -> Result<(), String> {
         return Err(cannot_write(name, &io::ErrorKind::IsADirectory.into()));
     }
     if !over && there.is_ok() {
-        return Err(format!("'{name}' is there already and is left alone; type {command} {name} over to write over it, or another name"));
+        let again =
+            if ["widen", "narrow"].contains(&command) { format!("{command} FILE {name} over") } else { format!("{command} {name} over") };
+        return Err(format!("'{name}' is there already and is left alone; type {again} to write over it, or another name"));
     }
     Ok(())
 }

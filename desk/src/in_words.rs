@@ -1,15 +1,15 @@
-//! A day in words, for events that no record holds: after a line that says so each event as it would be typed, and the bytes of records that hold none.
+//! A day in words, for people: after a line that says so each event as it would be typed, and the bytes of records that hold none.
 
 use crate::answer;
 use crate::asked::Names;
 use crate::command::{self, Command};
-use crate::piece::{Piece, Record};
+use crate::piece::Piece;
 use crate::profile::Profile;
 use crate::source::Source;
-use mbrumzheg::{Event, Time, RECORD_SIZE};
+use mbrumzheg::{Event, Time, RECORD16_SIZE};
 use std::io::{self, BufRead, Read, Write};
 
-/// The first line of a day in words. No record's bytes begin so: as an order's they would have contracts.
+/// The first line of a day in words. No record's bytes begin so: as a lockout's they would have a premium or, in the old form, as an order's contracts.
 pub const HEAD: &str = "# a day at the desk, in words\n";
 
 /// A longer line is no event.
@@ -27,14 +27,9 @@ pub fn write(profile: &Profile, day: &mut dyn Source, to: &mut dyn Write) -> io:
 /// A piece as a line. A record whose event cannot be typed, since it holds none or the profile does not name its root, is written by its bytes.
 fn line(profile: &Profile, piece: &Piece) -> String {
     let is_named = |event: &Event| event.root().is_none_or(|root| (root.number() as usize) < profile.roots.len());
-    match (piece.event().filter(is_named), piece) {
-        (Some(event), _) => answer::typed(profile, &event),
-        (None, Piece::Record(record)) => {
-            let digits: String = record.bytes().iter().map(|byte| format!("{byte:02x}")).collect();
-            format!("record {digits}")
-        }
-        // such an event was typed, and with a name
-        (None, Piece::Apart(event)) => answer::typed(profile, event),
+    match piece.event().filter(is_named) {
+        Some(event) => answer::typed(profile, &event),
+        None => format!("record {}", piece.bytes().iter().map(|byte| format!("{byte:02x}")).collect::<String>()),
     }
 }
 
@@ -80,7 +75,7 @@ impl<R: BufRead> Source for InWords<'_, R> {
 /// The piece of a line; none of an empty line or a comment.
 fn piece(names: Names, line: &str) -> Result<Option<Piece>, String> {
     if let Some(digits) = line.strip_prefix("record ") {
-        return record(digits).map(|record| Some(Piece::Record(record))).ok_or_else(|| format!("'{digits}' are not the bytes of a record"));
+        return record(digits).map(Some).ok_or_else(|| format!("'{digits}' are not the bytes of a record"));
     }
     match command::read(line)? {
         Command::Nothing => Ok(None),
@@ -91,11 +86,11 @@ fn piece(names: Names, line: &str) -> Result<Option<Piece>, String> {
     }
 }
 
-/// The bytes of digits in base 16, two a byte, of one to twelve bytes.
-fn record(digits: &str) -> Option<Record> {
+/// The bytes of digits in base 16, two a byte, of one to sixteen bytes.
+fn record(digits: &str) -> Option<Piece> {
     let is_whole =
-        digits.len() % 2 == 0 && (1..=RECORD_SIZE).contains(&(digits.len() / 2)) && digits.bytes().all(|digit| digit.is_ascii_hexdigit());
+        digits.len() % 2 == 0 && (1..=RECORD16_SIZE).contains(&(digits.len() / 2)) && digits.bytes().all(|digit| digit.is_ascii_hexdigit());
     let byte = |at: usize| digits.get(2 * at..2 * at + 2).and_then(|two| u8::from_str_radix(two, 16).ok());
     let bytes: Option<Vec<u8>> = if is_whole { (0..digits.len() / 2).map(byte).collect() } else { None };
-    bytes.map(|bytes| Record::of(&bytes))
+    bytes.map(|bytes| Piece::of_bytes(&bytes))
 }

@@ -6,14 +6,14 @@ use crate::command::Kept;
 use crate::day::Day;
 use crate::desk::Desk;
 use crate::files;
+use crate::form::Form;
 use crate::progress::Progress;
 use crate::report;
 use crate::sitting::Sitting;
-use crate::source;
+use crate::source::{self, Opened};
 use crate::sums::Sums;
 use crate::table::counted;
 use crate::words;
-use mbrumzheg::RECORD_SIZE;
 use std::io::{self, Write};
 
 /// Whether the desk asks before typed events are lost, and whether it just did.
@@ -68,9 +68,6 @@ impl Desk {
             files::write_words(file, sitting, *over)?;
             format!("saved {} in words to {file}", counted(pieces, "event"))
         } else {
-            sitting
-                .may_be_records()
-                .map_err(|why| format!("{why}; type save {file} words to keep the day in words, which replay and report take"))?;
             files::write_records(file, &sitting.day, *over)?;
             format!("saved {} to {file}", counted(pieces, "record"))
         };
@@ -106,14 +103,24 @@ impl Desk {
         files::may_report(file)?;
         let mut progress = Progress::of(Some(sitting.day.records()));
         let day = Day::replayed(&sitting.profile, &mut sitting.day.pieces()?, stretch, &mut progress)?;
-        let made = report::Made::at_the_desk(sitting)?;
+        let made = report::Made::at_the_desk(sitting);
         files::write_report(file, &report::of_name(file, &sitting.profile, &day, &made))?;
         Ok(format!("wrote {} on {} to {file}", report::kind(file), counted(sitting.place, "record")))
     }
 
-    pub(crate) fn replay(&mut self, file: &str, quiet: bool, out: &mut dyn Write) -> io::Result<Result<String, String>> {
-        match self.sitting().and_then(|sitting| files::records(file).map(|opened| (sitting, opened))) {
-            Ok((sitting, (from, bytes))) => replay(sitting, file, from, bytes, quiet, out),
+    pub(crate) fn replay(&mut self, file: &str, form: Form, quiet: bool, out: &mut dyn Write) -> io::Result<Result<String, String>> {
+        let sitting = match self.sitting() {
+            Ok(sitting) => sitting,
+            Err(advice) => return Ok(Err(advice)),
+        };
+        let profile = sitting.profile.clone();
+        let opened = files::records(file).and_then(|(from, bytes)| {
+            let opened = source::of_file(from, bytes, form, &profile).map_err(|why| format!("'{file}' is left alone, since {why}"))?;
+            let records = bytes.filter(|_| !opened.are_words).map(|bytes| bytes.div_ceil(form.size() as u64));
+            Ok((opened, Progress::of(records)))
+        });
+        match opened {
+            Ok((opened, progress)) => replay(sitting, file, opened, progress, quiet, out),
             Err(advice) => Ok(Err(advice)),
         }
     }
@@ -123,19 +130,13 @@ impl Desk {
 fn replay(
     sitting: &mut Sitting,
     file: &str,
-    from: Box<dyn io::Read>,
-    bytes: Option<u64>,
+    Opened { mut pieces, remark, .. }: Opened<'_>,
+    mut progress: Progress,
     quiet: bool,
     out: &mut dyn Write,
 ) -> io::Result<Result<String, String>> {
     let clock = sitting.unit.clock();
     let (mut sums, mut late) = (Sums::default(), false);
-    let profile = sitting.profile.clone();
-    let (mut pieces, are_words) = match source::of_file(from, &profile) {
-        Ok(opened) => opened,
-        Err(error) => return Ok(Err(format!("'{file}' cannot be read: {error}"))),
-    };
-    let mut progress = Progress::of(bytes.filter(|_| !are_words).map(|bytes| bytes.div_ceil(RECORD_SIZE as u64)));
     sitting.sources.replayed.push(file.to_string());
     loop {
         let piece = match pieces.next(sitting.unit.clock()) {
@@ -155,10 +156,9 @@ fn replay(
             writeln!(out, "{}", answer::replayed(sitting, &passed))?;
         }
     }
-    let advice = if late {
-        format!("; that day begins before the unit's clock, {}: type clear and arm FILE to replay it from its start", words::time(clock))
-    } else {
-        String::new()
-    };
-    Ok(Ok(format!("replayed {}{advice}", sums.words())))
+    let late = late.then(|| {
+        format!("that day begins before the unit's clock, {}: type clear and arm FILE to replay it from its start", words::time(clock))
+    });
+    let remarks: String = late.into_iter().chain(remark).map(|remark| format!("; {remark}")).collect();
+    Ok(Ok(format!("replayed {}{remarks}", sums.words())))
 }

@@ -1,67 +1,52 @@
-//! What a day has at one place: the bytes of a record, or an event that no record holds.
+//! What a day has at one place: the bytes of a record.
 
-use mbrumzheg::{Event, RECORD_SIZE};
+use mbrumzheg::{Event, RECORD16_SIZE};
 
-/// The bytes of a record, fewer than twelve of one that came short.
+/// The bytes of a record, whether or not it holds an event; fewer than sixteen of one that came short.
 #[derive(Clone, Copy, Debug, PartialEq, Eq)]
-pub struct Record {
-    bytes: [u8; RECORD_SIZE],
+pub struct Piece {
+    bytes: [u8; RECORD16_SIZE],
     length: usize,
 }
 
-impl Record {
-    /// From at most twelve bytes; more are left out.
-    pub fn of(bytes: &[u8]) -> Record {
-        let length = bytes.len().min(RECORD_SIZE);
-        let mut record = Record { bytes: [0; RECORD_SIZE], length };
-        record.bytes[..length].copy_from_slice(&bytes[..length]);
-        record
+impl Piece {
+    /// From at most sixteen bytes; more are left out.
+    pub fn of_bytes(bytes: &[u8]) -> Piece {
+        let length = bytes.len().min(RECORD16_SIZE);
+        let mut piece = Piece { bytes: [0; RECORD16_SIZE], length };
+        piece.bytes[..length].copy_from_slice(&bytes[..length]);
+        piece
+    }
+
+    /// The record of an event.
+    pub fn of(event: Event) -> Piece {
+        Piece::of_bytes(&event.to_record16().expect("every event has a record"))
     }
 
     /// The bytes.
     pub fn bytes(&self) -> &[u8] {
         &self.bytes[..self.length]
     }
-}
-
-/// What a day has at one place.
-#[derive(Clone, Copy, Debug, PartialEq, Eq)]
-pub enum Piece {
-    /// A record, whether or not it holds an event.
-    Record(Record),
-    /// An event that twelve bytes have no room for.
-    Apart(Event),
-}
-
-impl Piece {
-    /// The piece of an event: its record, if it has one.
-    pub fn of(event: Event) -> Piece {
-        event.to_record().map_or(Piece::Apart(event), |bytes| Piece::Record(Record::of(&bytes)))
-    }
 
     /// The event, if there is one.
     pub fn event(&self) -> Option<Event> {
-        match self {
-            Piece::Record(record) => Event::from_record(record.bytes()).ok(),
-            Piece::Apart(event) => Some(*event),
-        }
+        Event::from_record16(self.bytes()).ok()
     }
 }
 
 #[cfg(test)]
 mod tests {
-    use super::{Piece, Record};
-    use mbrumzheg::{Event, Reset, Root, Time};
+    use super::Piece;
+    use mbrumzheg::{Closing, Event, Identity, Reset, Root, Time};
 
     #[test]
-    fn an_event_is_kept_as_its_record_or_apart() {
-        let order = |reset| Event::Order { time: Time::START, root: Root::new(3).expect("a root"), reset };
-        for reset in Reset::ALL {
-            let piece = Piece::of(order(reset));
-            assert_eq!(piece.event(), Some(order(reset)));
-            assert_eq!(matches!(piece, Piece::Record(_)), reset <= Reset::Both, "{reset}");
+    fn every_event_is_kept_as_its_record() {
+        let order = |reset| Event::Order { time: Time::LAST, root: Root::new(3).expect("a root"), reset };
+        let close = Event::Close(Closing { time: Time::START, identity: Identity::new(65_535).expect("an identity") });
+        for event in Reset::ALL.map(order).into_iter().chain([close]) {
+            assert_eq!(Piece::of(event).event(), Some(event));
         }
-        assert_eq!(Piece::Record(Record::of(&[0xFF; 12])).event(), None);
-        assert_eq!((Record::of(&[7; 5]).bytes(), Record::of(&[7; 15]).bytes().len()), (&[7; 5][..], 12));
+        assert_eq!(Piece::of_bytes(&[0xFF; 16]).event(), None);
+        assert_eq!((Piece::of_bytes(&[7; 5]).bytes(), Piece::of_bytes(&[7; 20]).bytes().len()), (&[7; 5][..], 16));
     }
 }

@@ -2,9 +2,12 @@
 
 use crate::asked::Names;
 use crate::check;
+use crate::command::{Kept, Move};
+use crate::form::Form;
 use crate::given;
 use crate::help;
 use crate::lines::{run, Ended, Manner};
+use crate::moving;
 use crate::paint;
 use crate::profile::Profile;
 use crate::report;
@@ -19,9 +22,12 @@ pub const USAGE: &str = "\
 usage: desk                    lines from the terminal or a pipe
        desk SCRIPT             lines from a file; - is the standard input
        desk check PROFILE      what a profile means, or what is wrong with it
-       desk report PROFILE RECORDS PAGE [from TIME to TIME]
+       desk report [--old] PROFILE RECORDS PAGE [from TIME to TIME]
                                a page (HTML) on a recorded day or a part of it;
-                               if PAGE ends in .csv or .json, its figures
+                               if PAGE ends in .csv or .json, its figures;
+                               --old reads records of the old form, of 12 bytes
+       desk widen OLD NEW      old records of 12 bytes as records of 16
+       desk narrow NEW OLD     and back; nothing is written if one does not fit
        desk serve [PROFILE]    the desk as a page in the browser of this machine
        desk help [COMMAND]     what can be typed
        desk --version
@@ -71,12 +77,13 @@ fn call(words: &[&str], dialogue: Dialogue) -> io::Result<End> {
         },
         ["-"] => run(&mut io::stdin().lock(), out, Manner::Shown).map(end),
         ["check", name] => checked(name, out),
-        ["report", "-", "-", ..] => wrong("profile and records cannot both be the standard input"),
-        ["report", profile, records, page] => report(profile, records, page, None, out),
-        ["report", profile, records, page, "from", from, "to", to] => report(profile, records, page, Some((from, to)), out),
+        ["report", "--old", words @ ..] => reported(words, Form::Old, out),
+        ["report", words @ ..] => reported(words, Form::New, out),
+        ["widen", from, to] => moved(Move::Widen, from, to, out),
+        ["narrow", from, to] => moved(Move::Narrow, from, to, out),
         ["serve"] => served(None, out),
         ["serve", profile] => served(Some(profile), out),
-        [name @ ("check" | "report" | "serve"), ..] => wrong(&format!("{name} takes other words after it")),
+        [name @ ("check" | "widen" | "narrow" | "serve"), ..] => wrong(&format!("{name} takes other words after it")),
         [option, ..] if option.starts_with('-') => wrong(&format!("'{option}' is no option")),
         [script] => from_file(script, out),
         _ => wrong("too many words"),
@@ -133,7 +140,24 @@ fn served(profile: Option<&str>, out: &mut dyn Write) -> io::Result<End> {
     }
 }
 
-fn report(profile: &str, records: &str, page: &str, stretch: Option<(&str, &str)>, out: &mut dyn Write) -> io::Result<End> {
+/// Moves a file of records to the other form.
+fn moved(which: Move, from: &str, to: &str, out: &mut dyn Write) -> io::Result<End> {
+    match moving::file(which, from, &Kept { file: to.to_string(), over: false }) {
+        Ok(words) => writeln!(out, "{words}").map(|()| End::Done),
+        Err(advice) => writeln!(io::stderr(), "desk: {advice}").map(|()| End::NotDone),
+    }
+}
+
+fn reported(words: &[&str], form: Form, out: &mut dyn Write) -> io::Result<End> {
+    match words {
+        ["-", "-", ..] => wrong("profile and records cannot both be the standard input"),
+        [profile, records, page] => report(profile, (records, form), page, None, out),
+        [profile, records, page, "from", from, "to", to] => report(profile, (records, form), page, Some((from, to)), out),
+        _ => wrong("report takes other words after it"),
+    }
+}
+
+fn report(profile: &str, records: (&str, Form), page: &str, stretch: Option<(&str, &str)>, out: &mut dyn Write) -> io::Result<End> {
     let names = Names { profile: &Profile::default(), clock: Time::START };
     let done = stretch.map(|(from, to)| names.stretch(from, to)).transpose();
     match done.and_then(|stretch| report::of_files(profile, records, page, stretch)) {

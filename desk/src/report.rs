@@ -3,6 +3,7 @@
 use crate::day::Day;
 use crate::export;
 use crate::files;
+use crate::form::Form;
 use crate::given;
 use crate::page;
 use crate::profile::Profile;
@@ -11,7 +12,7 @@ use crate::sha256::{self, Sha256};
 use crate::sitting::Sitting;
 use crate::source;
 use crate::table::counted;
-use mbrumzheg::{Unit, RECORD_SIZE};
+use mbrumzheg::Unit;
 use std::io::{self, Read};
 
 /// The version of the desk and of the library that it stands on.
@@ -36,7 +37,7 @@ pub struct Made {
     pub records: Vec<String>,
     /// How many events were typed.
     pub typed: usize,
-    /// The sum of the whole day, as a file that holds it has it.
+    /// The sum of the file of records or words that was read; of a day at the desk, of its records as save writes them.
     pub records_sum: String,
     /// The version.
     pub version: &'static str,
@@ -46,17 +47,17 @@ pub struct Made {
 
 impl Made {
     /// From a day at the desk.
-    pub fn at_the_desk(sitting: &Sitting) -> Result<Made, String> {
+    pub fn at_the_desk(sitting: &Sitting) -> Made {
         let sources = &sitting.sources;
-        Ok(Made {
+        Made {
             profile: sources.profile.clone(),
             profile_sum: sha256::hex(&sitting.profile.text),
             records: sources.replayed.clone(),
             typed: sources.typed,
-            records_sum: sitting.file_sum()?,
+            records_sum: sitting.day.sum(),
             version: VERSION,
             kit: KIT,
-        })
+        }
     }
 }
 
@@ -79,7 +80,7 @@ pub fn of_name(file: &str, profile: &Profile, day: &Day, made: &Made) -> String 
 }
 
 /// Reports a day of files, reading each record once; answers what to say of it.
-pub fn of_files(profile_file: &str, records_file: &str, to: &str, stretch: Option<(u64, u64)>) -> Result<String, String> {
+pub fn of_files(profile_file: &str, (records_file, form): (&str, Form), to: &str, stretch: Option<(u64, u64)>) -> Result<String, String> {
     let text = given::profile(profile_file)?;
     let unit = Unit::new().arm(&text);
     unit.map_err(|refused| format!("'{profile_file}' is refused: {}; desk check {profile_file} says more", refused.why))?;
@@ -87,11 +88,12 @@ pub fn of_files(profile_file: &str, records_file: &str, to: &str, stretch: Optio
     let (from, bytes) = given::records(records_file)?;
     let mut summed = Summed { from, sum: Sha256::default() };
     let profile = Profile::of_accepted(&text);
-    let day = {
-        let opened = source::of_file(&mut summed, &profile);
-        let (mut pieces, are_words) = opened.map_err(|error| format!("'{records_file}' cannot be read: {error}"))?;
-        let mut progress = Progress::of(bytes.filter(|_| !are_words).map(|bytes| bytes.div_ceil(RECORD_SIZE as u64)));
-        Day::replayed(&profile, &mut *pieces, stretch, &mut progress).map_err(|why| format!("'{records_file}': {why}"))?
+    let (day, remark) = {
+        let opened = source::of_file(&mut summed, bytes, form, &profile);
+        let mut opened = opened.map_err(|why| format!("'{records_file}' is left alone, since {why}"))?;
+        let mut progress = Progress::of(bytes.filter(|_| !opened.are_words).map(|bytes| bytes.div_ceil(form.size() as u64)));
+        let day = Day::replayed(&profile, &mut *opened.pieces, stretch, &mut progress).map_err(|why| format!("'{records_file}': {why}"))?;
+        (day, opened.remark)
     };
     if day.sums.records == 0 {
         return Err(format!("'{records_file}' holds no records, so there is nothing to report"));
@@ -107,7 +109,8 @@ pub fn of_files(profile_file: &str, records_file: &str, to: &str, stretch: Optio
     };
     files::write_report(to, &of_name(to, &profile, &day, &made))?;
     let all = counted(day.sums.records as usize, "record");
-    Ok(format!("wrote {} on {all} to {to}; {}", kind(to), day.sums.words()))
+    let remark = remark.map_or_else(String::new, |remark| format!("; {remark}"));
+    Ok(format!("wrote {} on {all} to {to}; {}{remark}", kind(to), day.sums.words()))
 }
 
 /// Bytes that are summed as they are read.

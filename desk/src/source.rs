@@ -1,9 +1,10 @@
 //! Where the pieces of a day come from, one after the other: a file of records, a day in words, or a day that was kept.
 
+use crate::form::Form;
 use crate::in_words::{self, InWords};
-use crate::piece::{Piece, Record};
+use crate::piece::Piece;
 use crate::profile::Profile;
-use mbrumzheg::{Event, Time, RECORD_SIZE};
+use mbrumzheg::Time;
 use std::io::{self, BufReader, Read};
 
 /// What gives pieces.
@@ -12,64 +13,64 @@ pub trait Source {
     fn next(&mut self, clock: Time) -> Result<Option<Piece>, String>;
 }
 
-/// The records of some bytes, one after the other, of any number; the last may be short. Events that stand apart take the place of what the bytes have.
-pub struct Records<'a, R> {
+/// The records of some bytes, one after the other, of any number; the last may be short.
+pub struct Records<R> {
     from: R,
+    form: Form,
     bytes: Vec<u8>,
     at: usize,
-    place: u64,
-    apart: &'a [(u64, Event)],
 }
 
 /// So many records are read at a time.
-const AT_A_TIME: usize = 4_096 * RECORD_SIZE;
+const AT_A_TIME: usize = 4_096;
 
-impl<'a, R: Read> Records<'a, R> {
-    /// Reads from this.
-    pub fn new(from: R) -> Records<'a, R> {
-        Records::beside(from, &[])
-    }
-
-    /// The same with events apart, by their places from 1.
-    pub fn beside(from: R, apart: &'a [(u64, Event)]) -> Records<'a, R> {
-        Records { from, bytes: Vec::new(), at: 0, place: 0, apart }
+impl<R: Read> Records<R> {
+    /// Reads records of a form from this.
+    pub fn new(from: R, form: Form) -> Records<R> {
+        Records { from, form, bytes: Vec::new(), at: 0 }
     }
 
     /// The next record's bytes; none at the end.
-    fn record(&mut self) -> io::Result<Option<Record>> {
+    pub fn record(&mut self) -> io::Result<Option<&[u8]>> {
         if self.at >= self.bytes.len() {
             self.at = 0;
             self.bytes.clear();
-            self.from.by_ref().take(AT_A_TIME as u64).read_to_end(&mut self.bytes)?;
+            self.from.by_ref().take((AT_A_TIME * self.form.size()) as u64).read_to_end(&mut self.bytes)?;
         }
-        let rest = &self.bytes[self.at..];
-        let record = Record::of(rest);
-        self.at += record.bytes().len();
-        Ok((!rest.is_empty()).then_some(record))
+        let record = &self.bytes[self.at..self.bytes.len().min(self.at + self.form.size())];
+        self.at += record.len();
+        Ok((!record.is_empty()).then_some(record))
     }
 }
 
-impl<R: Read> Source for Records<'_, R> {
+impl<R: Read> Source for Records<R> {
     fn next(&mut self, _: Time) -> Result<Option<Piece>, String> {
+        let form = self.form;
         let record = self.record().map_err(|error| format!("the records cannot be read to their end: {error}"))?;
-        self.place += 1;
-        match self.apart.first() {
-            Some((place, event)) if *place == self.place && record.is_some() => {
-                self.apart = &self.apart[1..];
-                Ok(Some(Piece::Apart(*event)))
-            }
-            _ => Ok(record.map(Piece::Record)),
-        }
+        Ok(record.map(|bytes| form.piece(bytes)))
     }
 }
 
-/// The pieces of a file, and whether they are in words: their first line says so.
-pub fn of_file<'a>(mut from: impl Read + 'a, profile: &'a Profile) -> io::Result<(Box<dyn Source + 'a>, bool)> {
+/// A file that was opened.
+pub struct Opened<'a> {
+    /// Its pieces.
+    pub pieces: Box<dyn Source + 'a>,
+    /// Whether they are in words.
+    pub are_words: bool,
+    /// What its length says of the last record, if that is short.
+    pub remark: Option<String>,
+}
+
+/// The pieces of a file: in words if its first line says so, else records of a form, whose number of bytes, where it is known, must not be that of the other.
+pub fn of_file<'a>(mut from: impl Read + 'a, bytes: Option<u64>, form: Form, profile: &'a Profile) -> Result<Opened<'a>, String> {
     let mut beginning = Vec::new();
-    from.by_ref().take(in_words::HEAD.len() as u64).read_to_end(&mut beginning)?;
+    let read = from.by_ref().take(in_words::HEAD.len() as u64).read_to_end(&mut beginning);
+    read.map_err(|error| format!("it cannot be read: {error}"))?;
     let are_words = beginning == in_words::HEAD.as_bytes();
     let whole = io::Cursor::new(beginning).chain(from);
-    let source: Box<dyn Source + 'a> =
-        if are_words { Box::new(InWords::new(BufReader::new(whole), profile)) } else { Box::new(Records::new(whole)) };
-    Ok((source, are_words))
+    if are_words {
+        return Ok(Opened { pieces: Box::new(InWords::new(BufReader::new(whole), profile)), are_words, remark: None });
+    }
+    let remark = bytes.map_or(Ok(None), |bytes| form.fits(bytes))?;
+    Ok(Opened { pieces: Box::new(Records::new(whole, form)), are_words, remark })
 }

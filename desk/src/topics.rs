@@ -30,7 +30,7 @@ pub const LOCK_FORM: &str = "lock [TIME] ROOT|firm";
 pub const REMAINING_FORM: &str = "remaining [TIME] [firm|ROOT|rule NUMBER] [call|put front|trailing]";
 
 /// The commands, in the order of the list.
-pub const COMMANDS: [Topic; 17] = [
+pub const COMMANDS: [Topic; 19] = [
     Topic {
         name: "arm",
         form: "arm FILE",
@@ -128,20 +128,36 @@ pub const COMMANDS: [Topic; 17] = [
     Topic {
         name: "save",
         form: "save FILE [words] [over]",
-        short: "write the day's events as 12-byte records, or in words",
+        short: "write the day's events as 16-byte records, or in words",
         long: "Writes every record of the day, refused and faulty ones too, byte for byte and in their places, so that the program and replay \
-               print the same lines. A 12-byte record has no room for resets t, e and te and for orders sent away; a day with such is kept in \
-               words, each event as it would be typed, which replay and desk report take and the program does not. A file that is there already is left alone, \
-               unless over is typed last.",
+               print the same lines. In words each event stands as it would be typed; replay and desk report take that, and the program does \
+               not. A file that is there already is left alone, unless over is typed last.",
         examples: &["save day.records", "save day.records over", "save day.txt words"],
     },
     Topic {
         name: "replay",
-        form: "replay FILE [quiet]",
+        form: "replay FILE [old] [quiet]",
         short: "pass the day in FILE; quiet shows no plain pass",
-        long: "Passes every record of a file, or every event of a day that was saved in words, each with its answer. With quiet only cuts, \
-               trips, rejections, resets and refusals are shown.",
-        examples: &["replay day.records", "replay day.records quiet"],
+        long: "Passes every record of a file, or every event of a day that was saved in words, each with its answer. With old its records are \
+               read in the old form, of 12 bytes. With quiet only cuts, trips, rejections, resets and refusals are shown.",
+        examples: &["replay day.records", "replay day.records quiet", "replay last-year.records old"],
+    },
+    Topic {
+        name: "widen",
+        form: "widen FILE TO [over]",
+        short: "move old 12-byte records in FILE to 16 bytes in TO",
+        long: "Writes the records of FILE, of the old form, to TO as records of 16 bytes, their times as microseconds. Nothing is written if one \
+               of them is faulty (16). A file that is there already is left alone, unless over is typed last.",
+        examples: &["widen last-year.records day.records"],
+    },
+    Topic {
+        name: "narrow",
+        form: "narrow FILE TO [over]",
+        short: "and back, where every record fits the old form",
+        long: "Writes the records of FILE, of 16 bytes, to TO in the old form of 12. That form has no orders sent away, no microseconds beyond \
+               the millisecond and no resets t, e and te: a record with one of these does not fit (20), its place and the reason are said, and \
+               nothing is written. A file that is there already is left alone, unless over is typed last.",
+        examples: &["narrow day.records old.records"],
     },
     Topic {
         name: "report",
@@ -174,9 +190,10 @@ pub const OTHERS: [Topic; 3] = [
         name: "time",
         form: "TIME",
         short: "",
-        long: "A time of the day: from midnight (10ms, 2.5s, 3min, 1h), of the clock's face (09:30, 09:30:15, 09:30:15.250), the unit's clock \
-               (now), or after it (+10ms). An event may not be earlier than the clock, which stands at the last event that was not refused.",
-        examples: &["order 09:30:00.250 XYZ", "order +10ms XYZ"],
+        long: "A time of the day: from midnight (250us, 10ms, 2.5s, 3min, 1h), of the clock's face (09:30, 09:30:15, 09:30:15.250, \
+               09:30:15.250125), the unit's clock (now), or after it (+10ms). Records keep microseconds; the unit counts in whole milliseconds. \
+               An event may not be earlier than the clock, which stands at the millisecond of the last event that was not refused.",
+        examples: &["order 09:30:00.250 XYZ", "order 09:30:00.250125 XYZ", "order +10ms XYZ"],
     },
     Topic {
         name: "numbers",

@@ -66,14 +66,13 @@ pub fn span(ms: u64) -> String {
     }
 }
 
-/// A time of the day: milliseconds below ten seconds, as at a bench, and the clock's face from there on.
+/// A time of the day: milliseconds below ten seconds, as at a bench, and the clock's face from there on; microseconds where there are such.
 pub fn time(time: Time) -> String {
-    let ms = time.ms();
-    if ms < 10_000 {
-        return format!("{ms}ms");
+    match (time.ms(), time.micros()) {
+        (ms @ 0..10_000, 0) => format!("{ms}ms"),
+        (ms @ 0..10_000, micros) => format!("{ms}.{micros:03}ms"),
+        _ => time.to_string(),
     }
-    let (hours, minutes, seconds) = (ms / 3_600_000, ms / 60_000 % 60, ms / 1_000 % 60);
-    format!("{hours:02}:{minutes:02}:{seconds:02}.{:03}", ms % 1_000)
 }
 
 /// A unit in the words that the desk takes.
@@ -95,18 +94,18 @@ pub fn reset(reset: Reset) -> String {
 }
 
 /// How a time may be typed, for error messages.
-pub const TIME_FORMS: &str = "a time like 10ms, 2.5s, 09:30, 09:30:00.250, now, or +10ms for 10 ms after the clock";
+pub const TIME_FORMS: &str = "a time like 10ms, 250us, 2.5s, 09:30, 09:30:00.250, now, or +10ms for 10 ms after the clock";
 
 /// Reads a time: from midnight, of the clock's face, or from the unit's clock.
 pub fn read_time(word: &str, clock: Time) -> Result<Time, String> {
     let wrong = || format!("'{word}' is no time; type {TIME_FORMS}");
-    let ms = match word.strip_prefix('+') {
-        Some(after) => clock.ms().checked_add(read_span(after).ok_or_else(wrong)?).ok_or_else(wrong)?,
-        None if word.eq_ignore_ascii_case("now") => clock.ms(),
+    let us = match word.strip_prefix('+') {
+        Some(after) => clock.us().checked_add(read_span(after).ok_or_else(wrong)?).ok_or_else(wrong)?,
+        None if word.eq_ignore_ascii_case("now") => clock.us(),
         None if word.contains(':') => read_face(word).ok_or_else(wrong)?,
         None => read_span(word).ok_or_else(wrong)?,
     };
-    Time::from_ms(ms).map_err(|_| format!("'{word}' is past the end of the day; the last time is 23:59:59.999"))
+    Time::from_us(us).map_err(|_| format!("'{word}' is past the end of the day; the last time is 23:59:59.999999"))
 }
 
 /// Whether a word is meant as a time: no name of a root has a small letter, a colon or a plus.
@@ -117,32 +116,33 @@ pub fn looks_like_time(word: &str) -> bool {
         || (word.starts_with(|c: char| c.is_ascii_digit()) && word.ends_with(|c: char| c.is_ascii_lowercase()))
 }
 
-/// `10ms`, `2.5s`, `3min`, `1h` as milliseconds.
+/// `250us`, `10ms`, `2.5s`, `3min`, `1h` as microseconds.
 fn read_span(word: &str) -> Option<u64> {
     let end = word.find(|c: char| c.is_ascii_alphabetic())?;
     let (number, unit) = word.split_at(end);
-    let thousandths = read_decimal(number, 3)?;
+    let millionths = read_decimal(number, 6)?;
     let scale: u64 = match unit {
-        "ms" => 1,
-        "s" => 1_000,
-        "min" => 60_000,
-        "h" => 3_600_000,
+        "us" => 1,
+        "ms" => 1_000,
+        "s" => 1_000_000,
+        "min" => 60_000_000,
+        "h" => 3_600_000_000,
         _ => return None,
     };
-    let all = thousandths.checked_mul(scale)?;
-    (all % 1_000 == 0).then_some(all / 1_000)
+    let all = u128::from(millionths) * u128::from(scale);
+    u64::try_from(all / 1_000_000).ok().filter(|_| all % 1_000_000 == 0)
 }
 
-/// `09:30`, `09:30:15` or `09:30:15.250` as milliseconds.
+/// `09:30`, `09:30:15`, `09:30:15.250` or `09:30:15.250125` as microseconds.
 fn read_face(word: &str) -> Option<u64> {
     let mut parts = word.split(':');
     let hours = read_below(parts.next()?, 24)?;
     let minutes = read_below(parts.next()?, 60)?;
-    let ms = match parts.next() {
-        Some(seconds) => read_decimal(seconds, 3).filter(|ms| *ms < 60_000)?,
+    let us = match parts.next() {
+        Some(seconds) => read_decimal(seconds, 6).filter(|us| *us < 60_000_000)?,
         None => 0,
     };
-    parts.next().is_none().then_some(hours * 3_600_000 + minutes * 60_000 + ms)
+    parts.next().is_none().then_some(hours * 3_600_000_000 + minutes * 60_000_000 + us)
 }
 
 fn read_below(word: &str, end: u64) -> Option<u64> {

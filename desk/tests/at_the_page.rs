@@ -28,11 +28,11 @@ fn what_a_person_does_at_the_page() {
     lines(&browser, 2);
     cleared_and_brought_back(&browser);
     // a file of records goes on where the day stands
-    fs::write(place.join("day"), [0xFF; 12]).expect("written");
+    fs::write(place.join("day"), [0xFF; 16]).expect("written");
     browser.keys("#day", &place.join("day").to_string_lossy());
     lines(&browser, 3);
     assert!(browser.text("#lines tr").contains("refused with 16"), "{}", browser.text("#lines tr"));
-    unlocked_by_keys_and_saved_in_words(&browser);
+    unlocked_by_keys_and_saved(&browser);
     let complaints = browser.complaints();
     let wrong = |part: &str| complaints.iter().filter(|one| one.contains(part) && one.contains("422")).count();
     assert_eq!((wrong("/arm"), wrong("/line"), complaints.len()), (1, 1, 2), "only of the wrong profile and offer: {complaints:?}");
@@ -95,10 +95,10 @@ fn at_another_time_and_as_a_line(browser: &Browser) {
     browser.wait_text("#words", "root XYZ reset; the order on XYZ may pass");
 }
 
-/// The keys of T, E and TE unlock and leave what was counted; records cannot hold that, so the day is saved in words.
-fn unlocked_by_keys_and_saved_in_words(browser: &Browser) {
-    let href = |browser: &Browser| browser.script("return document.querySelector('#save').getAttribute('href')").text().to_string();
-    assert_eq!(href(browser), "day.records");
+/// The keys of T, E and TE unlock and leave what was counted; the day can be saved as records and in words.
+fn unlocked_by_keys_and_saved(browser: &Browser) {
+    let href = |of: &str| browser.script(&format!("return document.querySelector('{of}').getAttribute('href')")).text().to_string();
+    assert_eq!((href("#save"), href("#save-words")), ("day.records".to_string(), "day.txt".to_string()));
     for (key, words) in [
         ("4", "root XYZ unlocked, its counts stay; the order on XYZ may pass"),
         ("5", "firm ABCD unlocked, its counts stay; the order on XYZ may pass"),
@@ -108,7 +108,6 @@ fn unlocked_by_keys_and_saved_in_words(browser: &Browser) {
         browser.wait_text("#words", words);
     }
     lines(browser, 6);
-    assert_eq!(href(browser), "day.txt");
     browser.click("#what-resets-do summary");
     browser.wait("document.querySelector('#resets').checkVisibility()");
     assert!(browser.text("#resets").contains("te\tnothing\tthe root and the firm"), "{}", browser.text("#resets"));

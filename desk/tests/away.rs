@@ -156,7 +156,7 @@ fn a_total_is_held_where_the_library_holds_it() {
     assert_eq!(sitting.differences(), []);
     // the page's numbers are as large
     let day = day(&sitting, None);
-    let json = desk::export::json(&sitting.profile, &day, &desk::report::Made::at_the_desk(&sitting).expect("a sum"));
+    let json = desk::export::json(&sitting.profile, &day, &desk::report::Made::at_the_desk(&sitting));
     assert!(json.contains("\"most_used\":1000000000000000000,") && json.contains("\"most_past_limit\":999000000000000000"), "{json}");
 }
 

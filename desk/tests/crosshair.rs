@@ -47,8 +47,7 @@ fn the_crosshair_says_what_the_desk_knows() {
         let mut pieces = sitting.day.pieces().expect("a reader");
         let day = Day::replayed(&sitting.profile, &mut pieces, None, &mut Progress::of(None)).expect("a day");
         let page = place.join("page.html");
-        fs::write(&page, report::of_name("page.html", &sitting.profile, &day, &Made::at_the_desk(&sitting).expect("a sum")))
-            .expect("written");
+        fs::write(&page, report::of_name("page.html", &sitting.profile, &day, &Made::at_the_desk(&sitting))).expect("written");
         browser.open(&format!("file://{}", page.display()));
         let count = day.curves.scale.zip(day.times).map_or(0, |(scale, (_, last))| scale.count(last));
         for (rule, own) in sitting.profile.each_count() {

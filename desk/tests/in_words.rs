@@ -4,17 +4,18 @@ mod common;
 mod days;
 use common::{event, profile, Dice};
 use days::sitting;
+use desk::form::Form;
 use desk::in_words::{self, HEAD};
 use desk::lines::{run, Manner};
-use desk::piece::{Piece, Record};
+use desk::piece::Piece;
 use desk::profile::Profile;
-use desk::source::{self, Source};
+use desk::source::{self, Opened, Source};
 use mbrumzheg::{Event, Time};
 use std::fs;
 
 /// The pieces of some bytes, or why they cannot be read to their end.
 fn read(bytes: &[u8], profile: &Profile) -> Result<(Vec<Piece>, bool), String> {
-    let (mut from, are_words) = source::of_file(bytes, profile).expect("memory is read");
+    let Opened { pieces: mut from, are_words, .. } = source::of_file(bytes, None, Form::New, profile)?;
     let mut pieces = Vec::new();
     while let Some(piece) = from.next(Time::from_ms(7).expect("a time"))? {
         pieces.push(piece);
@@ -24,23 +25,19 @@ fn read(bytes: &[u8], profile: &Profile) -> Result<(Vec<Piece>, bool), String> {
 
 #[test]
 fn a_day_in_words_is_the_day_again() {
-    let (mut apart, mut faulty) = (0, 0);
+    let (mut sent, mut faulty) = (0, 0);
     for seed in 0..200 {
         let mut dice = Dice::new(seed);
         let text = profile(&mut dice);
         let (mut first, mut second) = (sitting(&text), sitting(&text));
         for _ in 0..60 {
             let next = match dice.below(12) {
-                0 => Piece::Record(Record::of(&(0..12).map(|_| dice.below(256) as u8).collect::<Vec<u8>>())),
+                0 => Piece::of_bytes(&(0..16).map(|_| dice.below(256) as u8).collect::<Vec<u8>>()),
                 _ => Piece::of(event(&mut dice, first.unit.clock().ms(), first.unit.root_count())),
             };
             faulty += usize::from(next.event().is_none());
-            // an event that no record holds is typed, and so on a root that the profile names
-            let is_typed = matches!(next, Piece::Record(_))
-                || next.event().and_then(|event| event.root()).is_some_and(|root| root.number() < first.unit.root_count());
-            if is_typed {
-                first.pass_piece(&next);
-            }
+            sent += usize::from(matches!(next.event(), Some(Event::Send(_))));
+            first.pass_piece(&next);
         }
         let words = first.words().expect("words");
         let (pieces, are_words) = read(&words, &first.profile).expect("every line is an event");
@@ -48,23 +45,19 @@ fn a_day_in_words_is_the_day_again() {
         let mut kept = first.day.pieces().expect("a reader");
         assert_eq!(pieces, std::iter::from_fn(|| kept.next(Time::START).expect("read")).collect::<Vec<_>>(), "seed {seed}");
         pieces.iter().for_each(|piece| drop(second.pass_piece(piece)));
-        assert_eq!((first.unit.memory(), first.file_sum()), (second.unit.memory(), second.file_sum()));
+        assert_eq!((first.unit.memory(), first.day.sum()), (second.unit.memory(), second.day.sum()));
         assert_eq!(second.words(), Ok(words.clone()), "written again they are the same bytes");
-        assert_eq!(first.may_be_records().is_ok(), first.day.apart().is_empty());
-        let sum = if first.day.apart().is_empty() { first.day.sum() } else { desk::sha256::hex(&words) };
-        assert_eq!(first.file_sum(), Ok(sum));
-        apart += first.day.apart().len();
     }
-    assert!(apart > 200 && faulty > 500, "{apart} events apart, {faulty} faulty records");
+    assert!(sent > 500 && faulty > 500, "{sent} orders sent away, {faulty} faulty records");
 }
 
 #[test]
 fn no_record_begins_as_words_do() {
-    assert_eq!(Event::from_record(&HEAD.as_bytes()[..12]).ok(), None);
+    assert_eq!((Event::from_record16(&HEAD.as_bytes()[..16]).ok(), Event::from_record(&HEAD.as_bytes()[..12]).ok()), (None, None));
     let profile = Profile::of_accepted(b"ABCD,abs_vol,XYZ,5");
     for length in 0..HEAD.len() {
         let (pieces, are_words) = read(&HEAD.as_bytes()[..length], &profile).expect("records");
-        assert_eq!((pieces.len(), are_words), (length.div_ceil(12), false), "a part of the line is records");
+        assert_eq!((pieces.len(), are_words), (length.div_ceil(16), false), "a part of the line is records");
     }
     assert_eq!(read(HEAD.as_bytes(), &profile), Ok((vec![], true)));
 }
@@ -77,7 +70,7 @@ fn lines_are_read_as_they_would_be_typed() {
     for (line, ms) in [("order 10ms xyz reset t", 10), ("LOCK now firm", 7), ("offer +3ms XYZ put front 1 5", 10), ("lock XYZ", 7)] {
         assert_eq!(of(line).map(|pieces| pieces[0].event().map(|event| event.time())), Ok(Some(time(ms))), "{line}");
     }
-    assert_eq!(of("record ff00"), Ok(vec![Piece::Record(Record::of(&[0xFF, 0]))]));
+    assert_eq!(of("record ff00"), Ok(vec![Piece::of_bytes(&[0xFF, 0])]));
     for (line, why) in [
         ("order 10ms SPY", "line 4: the profile has no root 'SPY'"),
         ("status", "line 4: that is no event"),
@@ -86,7 +79,7 @@ fn lines_are_read_as_they_would_be_typed() {
         ("record", "line 4: 'record' is no command"),
         ("record 0", "line 4: '0' are not the bytes of a record"),
         ("record 0g", "line 4: '0g' are not the bytes of a record"),
-        ("record 00112233445566778899aabbcc", "line 4: '00112233445566778899aabbcc' are not the bytes of a record"),
+        ("record 00112233445566778899aabbccddeeff00", "line 4: '00112233445566778899aabbccddeeff00' are not the bytes of a record"),
         (&"x".repeat(2_000), "line 4 is longer than any event"),
     ] {
         let said = of(line).expect_err(line);
@@ -105,9 +98,6 @@ fn the_desk_keeps_and_takes_a_day_in_words() {
         (String::from_utf8(out).expect("text").replace(&at, "@"), ended)
     };
     let typed = "arm @profile\noffer 0ms XYZ call front 1.00 120\norder 1ms XYZ reset t\norder 2ms XYZ reset te\n";
-    let (said, ended) = spoken(&format!("{typed}save @day\nsave @day over\n"));
-    let why = "event 2, order 1ms XYZ reset t, has no 12-byte record (nor has one after it), so the program cannot take this day; type save @day words";
-    assert_eq!((said.matches(why).count(), ended.not_done, ended.unsaved, place.join("day").exists()), (2, 2, 3, false), "{said}");
     let (said, ended) = spoken(&format!("{typed}save @day words\nsave @day words\nsave @day words over\nreport @typed.json\n"));
     assert_eq!((said.matches("saved 3 events in words to @day").count(), ended.not_done, ended.unsaved), (2, 1, 0), "{said}");
     let words = fs::read_to_string(place.join("day")).expect("saved");
@@ -115,9 +105,10 @@ fn the_desk_keeps_and_takes_a_day_in_words() {
     let (said, _) = spoken("arm @profile\nreplay @day\nsave @again words\nreport @replayed.json\n");
     assert!(said.contains("order 1ms XYZ reset t: root XYZ unlocked, its counts stay; the order on XYZ may pass  [2 0 0 0 0 0]"), "{said}");
     assert_eq!(fs::read_to_string(place.join("again")).expect("saved"), words);
-    // the figures are the same, and so is the sum, which is the file's
+    // the figures are the same, and so is the sum, which is that of the day's records
     let figures = |name: &str| fs::read_to_string(place.join(name)).expect("figures");
-    let sum = format!("\"sha256\":\"{}\"", desk::sha256::hex(words.as_bytes()));
+    spoken("arm @profile\nreplay @day quiet\nsave @records\n");
+    let sum = format!("\"sha256\":\"{}\"", desk::sha256::hex(&fs::read(place.join("records")).expect("saved")));
     assert!(figures("typed.json").contains(&sum) && figures("replayed.json").contains(&sum));
     let rest = |name: &str| figures(name).split_once("\"times\"").expect("times").1.to_string();
     assert_eq!(rest("typed.json"), rest("replayed.json"));
@@ -136,8 +127,8 @@ fn the_desk_keeps_and_takes_a_day_in_words() {
 fn what_is_written_is_what_is_typed() {
     let profile = Profile::of_accepted(b"ABCD,abs_vol,XYZ,5");
     let mut out = Vec::new();
-    let bytes = [[0xFF; 12].as_slice(), &[1, 2]].concat();
-    let (mut from, _) = source::of_file(&bytes[..], &profile).expect("memory is read");
-    in_words::write(&profile, &mut *from, &mut out).expect("memory takes every byte");
-    assert_eq!(String::from_utf8_lossy(&out), format!("{HEAD}record {}\nrecord 0102\n", "ff".repeat(12)));
+    let bytes = [[0xFF; 16].as_slice(), &[1, 2]].concat();
+    let mut opened = source::of_file(&bytes[..], None, Form::New, &profile).expect("memory is read");
+    in_words::write(&profile, &mut *opened.pieces, &mut out).expect("memory takes every byte");
+    assert_eq!(String::from_utf8_lossy(&out), format!("{HEAD}record {}\nrecord 0102\n", "ff".repeat(16)));
 }

@@ -1,6 +1,7 @@
 //! What the desk keeps: a saved day is never written over by a slip, every record keeps its bytes and its place, and nothing typed is lost without a word.
 mod common;
 use common::{profile, recorded, Dice};
+use desk::form::Form;
 use desk::lines::{run, Ended, Manner};
 use mbrumzheg::Event;
 use std::fs;
@@ -63,7 +64,7 @@ fn a_file_that_is_there_is_written_over_only_if_that_is_said() {
     assert_eq!((fs::read(place.path("day")).expect("there"), ended.unsaved, ended.not_done), (before, 2, 1));
     let (said, ended) = place.run(&format!("{typed}lock 1ms XYZ\nsave @day over\n"), Manner::Shown);
     assert!(said.contains("saved 2 records to @day"), "{said}");
-    assert_eq!((fs::read(place.path("day")).expect("there").len(), ended.unsaved), (24, 0));
+    assert_eq!((fs::read(place.path("day")).expect("there").len(), ended.unsaved), (32, 0));
     // nothing but the three files is left behind
     let mut names: Vec<_> = fs::read_dir(&place.0).expect("a folder").map(|entry| entry.expect("a file").file_name()).collect();
     names.sort();
@@ -92,7 +93,11 @@ fn every_record_keeps_its_bytes_and_its_place() {
                 *byte ^= 1 << dice.below(8);
             }
         }
-        bytes.truncate(bytes.len().saturating_sub(dice.below(12) as usize));
+        bytes.truncate(bytes.len().saturating_sub(dice.below(16) as usize));
+        // as many bytes as old records have are taken for such
+        while Form::New.fits(bytes.len() as u64).is_err() {
+            bytes.pop();
+        }
         fs::write(place.path("first"), &bytes).expect("written");
         let (said, ended) = place.run("arm @profile\nreplay @first\nsave @second over\n", Manner::Shown);
         assert_eq!(fs::read(place.path("second")).expect("saved"), bytes, "seed {seed}");
@@ -105,7 +110,7 @@ fn every_record_keeps_its_bytes_and_its_place() {
         };
         assert_eq!(numbers(&first), numbers(&again), "seed {seed}");
         let third = fs::read(place.path("third")).expect("saved");
-        assert!(third.starts_with(&bytes) && third.len() == bytes.len().div_ceil(12) * 12 + 12);
+        assert!(third.starts_with(&bytes) && third.len() == bytes.len().div_ceil(16) * 16 + 16);
     }
 }
 
@@ -145,5 +150,5 @@ fn a_script_that_saves_nothing_is_warned_on_standard_error() {
         assert!(output.status.success());
     }
     let day = fs::read(place.path("day")).expect("saved");
-    assert_eq!(Event::from_record(&day).expect("an event").to_record().as_ref().map(|record| &record[..]), Ok(&day[..]));
+    assert_eq!(Event::from_record16(&day).expect("an event").to_record16().as_ref().map(|record| &record[..]), Ok(&day[..]));
 }

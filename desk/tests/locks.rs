@@ -5,7 +5,7 @@ mod days;
 use common::{event, profile, Dice};
 use days::{day, sitting};
 use desk::marks::Kind;
-use desk::piece::{Piece, Record};
+use desk::piece::Piece;
 use mbrumzheg::{Event, Level, Reset, Time, Verdict};
 
 #[test]
@@ -77,7 +77,7 @@ fn locks_have_their_begin_their_cause_and_their_rejections() {
 fn the_times_of_a_page_are_those_of_events_that_were_not_refused() {
     let mut made = sitting("ABCD,abs_vol,XYZ,1000");
     let order = |ms: u64| Event::Lockout { time: Time::from_ms(ms).expect("a time"), level: Level::Firm };
-    made.pass_piece(&Piece::Record(Record::of(&[0xFF; 12])));
+    made.pass_piece(&Piece::of_bytes(&[0xFF; 16]));
     made.pass(order(34_200_000));
     // earlier than the clock, and refused
     made.pass(order(5));

@@ -6,7 +6,7 @@ mod json;
 use common::{event, profile, Dice};
 use desk::counts::Count;
 use desk::day::Day;
-use desk::piece::{Piece, Record};
+use desk::piece::Piece;
 use desk::progress::Progress;
 use desk::report::{self, Made};
 use desk::sitting::Sitting;
@@ -16,7 +16,7 @@ use mbrumzheg::{Event, Level, Time, Unit};
 fn written(sitting: &Sitting, name: &str, stretch: Option<(u64, u64)>) -> String {
     let mut pieces = sitting.day.pieces().expect("a reader");
     let day = Day::replayed(&sitting.profile, &mut pieces, stretch, &mut Progress::of(None)).expect("a day");
-    report::of_name(name, &sitting.profile, &day, &Made::at_the_desk(sitting).expect("a sum"))
+    report::of_name(name, &sitting.profile, &day, &Made::at_the_desk(sitting))
 }
 
 fn armed(text: &str) -> Sitting {
@@ -110,9 +110,9 @@ fn pages_are_well_formed_and_fetch_nothing() {
 fn a_page_names_what_it_was_made_from() {
     let mut sitting = armed("ABCD,abs_vol,XYZ,1000");
     sitting.pass(Event::Lockout { time: Time::START, level: Level::Firm });
-    sitting.pass_piece(&Piece::Record(Record::of(&[0xFF; 5])));
+    sitting.pass_piece(&Piece::of_bytes(&[0xFF; 5]));
     let page = written(&sitting, "page.html", None);
-    let record = Event::Lockout { time: Time::START, level: Level::Firm }.to_record().expect("a record");
+    let record = Event::Lockout { time: Time::START, level: Level::Firm }.to_record16().expect("a record");
     let sums = [desk::sha256::hex(b"ABCD,abs_vol,XYZ,1000"), desk::sha256::hex(&[&record[..], &[0xFF; 5]].concat())];
     let footer = between(&page, "<footer>", "</footer>");
     for wanted in [sums[0].as_str(), sums[1].as_str(), report::VERSION, report::KIT, "profile", "1 typed at the desk"] {
@@ -174,7 +174,7 @@ fn json_and_csv_have_the_figures_of_the_page() {
 #[test]
 fn a_day_of_faulty_records_alone_has_a_page() {
     let mut sitting = armed("ABCD,abs_vol,XYZ,1000");
-    sitting.pass_piece(&Piece::Record(Record::of(&[0xFF; 12])));
+    sitting.pass_piece(&Piece::of_bytes(&[0xFF; 16]));
     let page = written(&sitting, "page.html", None);
     tags(&page);
     assert!(page.contains("No record of this day holds an event that was not refused."));

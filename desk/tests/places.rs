@@ -35,7 +35,11 @@ fn records(dice: &mut Dice) -> Vec<u8> {
         let at = dice.below(bytes.len() as u64) as usize;
         bytes[at] ^= 1 << dice.below(8);
     }
-    bytes.truncate(bytes.len() - dice.below(12) as usize);
+    bytes.truncate(bytes.len() - dice.below(16) as usize);
+    // a length that only the old form has is left alone by the desk, with advice
+    if bytes.len() % 16 != 0 && bytes.len() % 12 == 0 {
+        bytes.pop();
+    }
     bytes
 }
 
@@ -63,7 +67,8 @@ fn check_page(page: &str, json: &str, lines: &[&str]) -> usize {
     assert_eq!(figure(json, "refused"), count(|n| n[1] != 0 && n[1] != 16));
     assert_eq!(figure(json, "rejected"), count(|n| n[2] != 0));
     assert_eq!(figure(json, "trips"), all.iter().map(|n| n[4] + n[5]).sum::<u64>());
-    assert_eq!(figure(json, "contracts_granted"), all.iter().map(|n| n[3]).sum::<u64>());
+    // a report's line has its contracts as grant; the page tells them apart
+    assert_eq!(figure(json, "contracts_granted") + figure(json, "contracts_come_back"), all.iter().map(|n| n[3]).sum::<u64>());
     let (_, counts) = json.split_once("\"counts\":").expect("counts");
     assert_eq!(figure(counts, "records"), lines.len() as u64);
     rows.len()

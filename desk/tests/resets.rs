@@ -7,7 +7,7 @@ use days::{day, sitting};
 use desk::marks::Kind;
 use desk::resets::{lifts, zeroes};
 use desk::sitting::Sitting;
-use mbrumzheg::{Event, Reset, Root, Time};
+use mbrumzheg::{Event, Reset, Time};
 
 /// What is left in each count at a time, and each level's marks.
 fn standing(sitting: &Sitting, time: Time) -> (Vec<u64>, Vec<(bool, bool)>) {
@@ -56,7 +56,6 @@ fn the_library_zeroes_and_lifts_what_the_desk_says() {
 #[test]
 fn what_was_only_unlocked_trips_again() {
     let mut sitting = sitting("ABCD,abs_vol,XYZ,100\nABCD,abs_vol,,150,,T");
-    let root = Root::new(0).expect("a root");
     let mut line = |line: &str| {
         let names = desk::asked::Names { profile: &sitting.profile, clock: sitting.unit.clock() };
         let event = names.event(&desk::command::read(line).expect("a command")).expect("an event").expect("its words");
@@ -83,5 +82,4 @@ fn what_was_only_unlocked_trips_again() {
     let day = day(&sitting, None);
     let marks = |level: usize| [Kind::Reset, Kind::Unlock].map(|kind| day.lanes[level].marks.count(kind));
     assert_eq!((marks(0), marks(1)), ([0, 2], [1, 3]));
-    assert_eq!(sitting.day.apart().len(), 4, "{root}: t, te, t and e have no record");
 }

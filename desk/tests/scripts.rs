@@ -44,10 +44,10 @@ fn compare(name: &str) -> Output {
 
 #[test]
 fn scripts_print_what_is_expected() {
-    for name in ["example", "cuts", "units", "trips", "locks", "replay", "active", "help"] {
+    for name in ["example", "cuts", "units", "trips", "locks", "replay", "active", "help", "unlock", "away"] {
         assert!(compare(name).status.success(), "{name}: every line was carried out");
     }
-    for name in ["firm", "unlock", "away", "errors"] {
+    for name in ["firm", "errors"] {
         assert!(!compare(name).status.success(), "{name}: some lines were not carried out");
     }
 }
@@ -75,8 +75,8 @@ fn saved_records_are_the_scope_papers() {
     let place = workplace("saved");
     desk(&place).arg("example.desk").output().expect("the desk runs");
     let bytes = fs::read(place.join("example.records")).expect("records");
-    assert_eq!(bytes.len(), 36);
-    assert_eq!(bytes[12..24], [0x40, 0, 0, 0x50, 0, 0x01, 0x11, 0x70, 0, 0x0C, 0x80, 0]);
+    assert_eq!(bytes.len(), 48);
+    assert_eq!(mbrumzheg::narrow(&bytes[16..32]), Ok([0x40, 0, 0, 0x50, 0, 0x01, 0x11, 0x70, 0, 0x0C, 0x80, 0]));
     fs::remove_dir_all(place).expect("removed");
 }
 

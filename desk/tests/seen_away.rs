@@ -158,7 +158,7 @@ fn orders_are_sent_away_by_keys_and_clicks() {
     browser.press("x");
     browser.wait_text("#words", "order 5 closed, 40 of 100 had come back, 2 log places free again");
     browser.wait("document.querySelector('#open-orders').hidden");
-    assert_eq!(browser.script("return document.querySelector('#save').getAttribute('href')").text(), "day.txt");
+    assert_eq!(browser.script("return document.querySelector('#save').getAttribute('href')").text(), "day.records");
     // undone, the order is open again
     browser.press("u");
     browser.wait("!document.querySelector('#open-orders').hidden");

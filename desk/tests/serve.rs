@@ -113,12 +113,12 @@ fn bad_input_gets_an_error_and_nothing_is_lost() {
     }
     advice(post(&serving, "arm", PROFILE.as_bytes()));
     advice(post(&serving, "back", b""));
-    advice(post(&serving, "replay", &vec![0; 12 * 99_999]));
+    advice(post(&serving, "replay", &vec![0; 16 * 99_999]));
     assert_eq!(get(&serving, "state?at=1ms").0, 422, "before the clock");
     assert_eq!((get(&serving, "nothing").0, post(&serving, "nothing", b"").0), (404, 404));
     assert_eq!((get(&serving, "../../etc/passwd").0, get(&serving, "page/page.html").0), (404, 404));
     assert_eq!(request(&serving, "PUT", "state", "", b"").0, 405);
-    assert_eq!(request(&serving, "POST", "replay", "", &vec![0; 1_200_001]).0, 413);
+    assert_eq!(request(&serving, "POST", "replay", "", &vec![0; 1_600_001]).0, 413);
     assert_eq!(request(&serving, "POST", "line", "Transfer-Encoding: chunked\r\n", b"").0, 411);
     assert_eq!(raw(serving.port, &[b'A'; 40_000]).0, 431);
     assert_eq!(raw(serving.port, b"hello\r\n\r\n").0, 400);
@@ -163,7 +163,7 @@ fn a_long_log_comes_in_pieces() {
     let place = workplace("log");
     let serving = Serving::begin(&place, &[]);
     assert_eq!(post(&serving, "arm", PROFILE.as_bytes()).0, 200);
-    assert_eq!(post(&serving, "replay?name=faulty", &[0xFF; 12 * 450]).0, 200);
+    assert_eq!(post(&serving, "replay?name=faulty", &[0xFF; 16 * 450]).0, 200);
     let places = |log: &Json| (log.list().first().map(|entry| entry.get("place").number()), log.list().len());
     assert_eq!(places(state(&serving).get("log")), (Some(251), 200));
     let before = |to: usize| Json::of(&String::from_utf8(get(&serving, &format!("log?to={to}")).1).expect("text"));

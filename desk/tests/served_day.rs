@@ -2,21 +2,12 @@
 mod common;
 use common::{event, profile, Dice};
 use desk::answer;
+use desk::form::Form;
 use desk::serve::{Bench, Said};
 use desk::sitting::Sitting;
 use mbrumzheg::Unit;
 
 const PROFILE: &str = "ABCD,rate_vol,XYZ,500,1000\nABCD,abs_vol,QQQ,5\n";
-
-/// The day as a file: its records, or the day in words where an event has none, and then no records.
-fn saved(bench: &mut Bench) -> Vec<u8> {
-    if !bench.is_words_alone() {
-        return bench.save().expect("saved");
-    }
-    let why = bench.save().expect_err("records cannot hold it");
-    assert!(why.contains("has no 12-byte record") && why.ends_with("so the program cannot take this day"), "{why}");
-    bench.save_words().expect("saved")
-}
 
 /// The day on the page is the desk's: the same words and numbers, the same memory, and undoing is a replay of what is left.
 #[test]
@@ -44,7 +35,7 @@ fn the_pages_day_is_the_desks_own() {
             continue;
         }
         let last = lines.len();
-        let saved = saved(&mut bench);
+        let saved = bench.save().expect("saved");
         for _ in 0..6 {
             let place = dice.below(last as u64 + 1) as usize;
             bench.go(place).expect("there is such a place");
@@ -54,14 +45,14 @@ fn the_pages_day_is_the_desks_own() {
             assert_eq!(bench.is_unsaved(), place > 0 && place < last);
         }
         bench.go(last).expect("forth again");
-        assert_eq!(self::saved(&mut bench), saved);
+        assert_eq!(bench.save().expect("saved"), saved);
         bench.clear().expect("cleared");
         bench.bring_back().expect("brought back");
         assert_eq!(bench.sitting.as_ref().expect("armed").unit.memory(), &memories[last][..]);
         // a file's records give the same day
         let mut again = Bench::default();
         again.arm("profile", text.as_bytes()).expect("armed");
-        again.replay("day.records", &saved).expect("replayed");
+        again.replay("day.records", &saved, Form::New).expect("replayed");
         assert_eq!((again.log, again.sitting.expect("armed").sources.replayed), (lines, vec!["day.records".to_string()]));
     }
 }
@@ -73,10 +64,10 @@ fn faulty_records_keep_their_places() {
     bench.arm("profile", PROFILE.as_bytes()).expect("armed");
     let Ok(Said::Event(_)) = bench.line("offer 0ms XYZ call front 7.00 1") else { panic!("an event") };
     let bytes = bench.save().expect("saved");
-    let day = [&bytes[..], &[0xFF; 12], &bytes[..], &[1, 2, 3]].concat();
+    let day = [&bytes[..], &[0xFF; 16], &bytes[..], &[1, 2, 3]].concat();
     bench.clear().expect("cleared");
     bench.arm("profile", PROFILE.as_bytes()).expect("armed");
-    bench.replay("day", &day).expect("replayed");
+    bench.replay("day", &day, Form::New).expect("replayed");
     let refusals = |bench: &Bench| bench.log.iter().map(|entry| entry.numbers.clone()).collect::<Vec<_>>();
     let all = ["1 0 0 1 0 0", "2 16 0 0 0 0", "3 0 0 1 0 0", "4 16 0 0 0 0"];
     assert_eq!(refusals(&bench), all);
@@ -94,7 +85,7 @@ fn what_was_replaced_is_no_source() {
     let mut bench = Bench::default();
     bench.arm("profile", PROFILE.as_bytes()).expect("armed");
     bench.line("order 0ms XYZ").expect("an event");
-    bench.replay("faulty", &[0xFF; 24]).expect("replayed");
+    bench.replay("faulty", &[0xFF; 32], Form::New).expect("replayed");
     let sources = |bench: &Bench| bench.sitting.as_ref().map(|sitting| (sitting.sources.replayed.clone(), sitting.sources.typed));
     assert_eq!(sources(&bench), Some((vec!["faulty".to_string()], 1)));
     bench.go(1).expect("undone");
@@ -118,11 +109,11 @@ fn a_bad_line_changes_nothing() {
     }
     bench.go(2).expect("undone");
     let words = String::from_utf8(bench.save_words().expect("saved")).expect("text");
-    let why = bench.replay("day.txt", format!("{words}lock +5ms firm\norder 9ms SPY\n").as_bytes()).expect_err("a bad line");
-    assert!(why.starts_with("line 5: the profile has no root 'SPY'"), "{why}");
+    let why = bench.replay("day.txt", format!("{words}lock +5ms firm\norder 9ms SPY\n").as_bytes(), Form::New).expect_err("a bad line");
+    assert!(why.starts_with("day.txt is left alone, since line 5: the profile has no root 'SPY'"), "{why}");
     assert_eq!((bench.place(), bench.undone.len(), bench.is_unsaved()), (2, 1, false));
     // good lines go on where the clock stands, each at the clock that those before it leave
-    bench.replay("day.txt", format!("{words}lock +5ms firm\norder +1ms XYZ reset e\n").as_bytes()).expect("replayed");
+    bench.replay("day.txt", format!("{words}lock +5ms firm\norder +1ms XYZ reset e\n").as_bytes(), Form::New).expect("replayed");
     let asked: Vec<&str> = bench.log.iter().map(|entry| entry.asked.as_str()).collect();
     assert_eq!(asked[4..], ["lock 6ms firm", "order 7ms XYZ reset e"]);
     assert!(bench.undone.is_empty() && bench.is_unsaved());

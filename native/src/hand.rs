@@ -7,6 +7,7 @@ mod map;
 mod profile;
 mod profile_out;
 mod records;
+mod records16;
 mod register;
 mod reset;
 mod sound;
@@ -14,6 +15,7 @@ mod sound;
 pub use away::{close, report, send};
 pub use profile_out::profile;
 pub use records::{read_record, write_record};
+pub use records16::{narrow, read_record16, widen, write_record16};
 
 use counted::{counted_by, Covering, Cuts, Offer};
 use map::*;

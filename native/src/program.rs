@@ -1,5 +1,7 @@
 //! The program over the hand-written calls: file `profile`, then records from standard input, one line each.
 
+pub mod seen;
+
 use std::fs::File;
 use std::io::{self, Read, Write};
 
@@ -7,9 +9,11 @@ use crate::{hand, Row, SIZE};
 
 /// The longest profile, and the bytes of a record.
 const MOST_BYTES: u64 = 65_536;
-const BYTES: usize = 12;
+pub const BYTES: usize = 16;
 /// How much is read at once.
-const BLOCK: usize = 12 * 4_096;
+const BLOCK: usize = 16 * 4_096;
+/// The microseconds of a millisecond.
+const MICROSECONDS: u64 = 1_000;
 
 /// Arms, then answers each record with a line.
 pub fn run(input: impl Read, mut output: impl Write) -> io::Result<()> {
@@ -52,13 +56,17 @@ fn answer_all(m: &mut [u64], mut input: impl Read, mut output: impl Write) -> io
     }
 }
 
-/// The row of one record.
+/// The row of one record, whose time counts in whole milliseconds.
 fn answer(m: &mut [u64], record: &[u8]) -> Row {
-    let [refusal, kind, time, root, unit, premium, contracts, reset, level] = hand::read_record(record);
+    let [refusal, kind, time, root, unit, premium, contracts, reset, level, identity, reports, ..] = hand::read_record16(record);
+    let time = time / MICROSECONDS;
     match (refusal, kind) {
         (0, 0) => hand::order(m, time, root, reset),
         (0, 1) => hand::offer(m, time, root, unit, premium, contracts),
-        (0, _) => hand::lockout(m, time, level, root),
+        (0, 2) => hand::lockout(m, time, level, root),
+        (0, 3) => hand::send(m, time, root, unit, premium, contracts, identity, reports),
+        (0, 4) => hand::report(m, time, identity, contracts),
+        (0, _) => hand::close(m, time, identity),
         _ => [refusal, 0, 0, 0, 0],
     }
 }

@@ -1,72 +1,10 @@
-//! Records read and written, and the records a second of whole programs.
+//! The records a second of whole programs.
 
 use std::fs::{self, File};
-use std::hint::black_box;
 use std::path::{Path, PathBuf};
 use std::process::Command;
-use std::time::Instant;
 
-use second::gen::Random;
-use second::records::{self, Record, BYTES, OFFER, ORDER};
-
-use crate::hand;
-use crate::records::valid_numbers;
-
-/// A reader and a writer of records: refusal and eight numbers, and the refusal of writing eight numbers.
-pub type Reader = fn(&[u8]) -> [u64; 9];
-pub type Writer = fn([u64; 8], &mut [u8]) -> u64;
-
-fn library_writer(numbers: [u64; 8], room: &mut [u8]) -> u64 {
-    crate::write_record(numbers, room)[0]
-}
-
-/// How many records are read or written in a round, and how many rounds there are.
-const RECORDS: usize = 1_000;
-const ROUNDS: usize = 500;
-
-fn second_reader(bytes: &[u8]) -> [u64; 9] {
-    records::read(bytes).numbers()
-}
-
-fn second_writer([kind, time, root, unit, premium, contracts, reset, level]: [u64; 8], room: &mut [u8]) -> u64 {
-    records::write(&Record { kind, time, root, unit, premium, contracts, reset, level }, room).refusal
-}
-
-/// The least nanoseconds a record of the library, of the second program and by hand: reading, then writing.
-pub fn record_times() -> [[f64; 3]; 2] {
-    let mut random = Random::new(1);
-    let events: Vec<[u64; 8]> = (0..RECORDS).map(|_| valid_numbers(&mut random)).collect();
-    let mut rooms = vec![[0; BYTES]; RECORDS];
-    events.iter().zip(&mut rooms).for_each(|(event, room)| assert_eq!(hand::write_record(*event, room), 0));
-    let all =
-        [(crate::read_record as Reader, library_writer as Writer), (second_reader, second_writer), (hand::read_record, hand::write_record)];
-    let mut times = [[f64::MAX; 3]; 2];
-    for _ in 0..ROUNDS {
-        for (who, (reader, writer)) in all.iter().enumerate() {
-            let read = timed(|| {
-                rooms.iter().for_each(|room| {
-                    black_box(reader(black_box(room)));
-                })
-            });
-            let written = timed(|| {
-                events.iter().zip(&mut rooms).for_each(|(event, room)| {
-                    black_box(writer(black_box(*event), room));
-                })
-            });
-            for (least, time) in times.iter_mut().zip([read, written]) {
-                least[who] = least[who].min(time);
-            }
-        }
-    }
-    times
-}
-
-/// The nanoseconds a record of a round.
-fn timed(round: impl FnOnce()) -> f64 {
-    let start = Instant::now();
-    round();
-    start.elapsed().as_nanos() as f64 / RECORDS as f64
-}
+use second::records16::{self, Record16, BYTES, OFFER, ORDER};
 
 /// How many records the programs are given, and how many runs each has.
 const GIVEN: u64 = 100_000;
@@ -75,12 +13,12 @@ const RUNS: usize = 15;
 /// Orders and offers in turn, 600 ms apart: with windows of a minute the log holds 50 entries.
 fn given() -> Vec<u8> {
     let event = |n: u64| match n % 2 {
-        0 => Record { kind: ORDER, time: 600 * n, ..Record::default() },
-        _ => Record { kind: OFFER, time: 600 * n, unit: n / 2 % 4, premium: 70_000, contracts: 5, ..Record::default() },
+        0 => Record16 { kind: ORDER, time: 600_000 * n, ..Record16::default() },
+        _ => Record16 { kind: OFFER, time: 600_000 * n + 999, unit: n / 2 % 4, premium: 70_000, contracts: 5, ..Record16::default() },
     };
     let mut bytes = vec![0; BYTES * GIVEN as usize];
     let rooms = bytes.chunks_mut(BYTES);
-    (0..GIVEN).zip(rooms).for_each(|(n, room)| assert_eq!(records::write(&event(n), room).refusal, 0));
+    (0..GIVEN).zip(rooms).for_each(|(n, room)| assert_eq!(records16::write(&event(n), room).refusal, 0));
     bytes
 }
 

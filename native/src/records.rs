@@ -1,92 +1,186 @@
-//! Event records: any reader and writer of them against the second program's, on valid, damaged and arbitrary bytes and numbers.
+//! Event records of both lengths: any calls on them against any others, on valid, faulty, damaged and arbitrary bytes and numbers.
+
+mod calls;
+mod draws;
+pub mod forms;
+pub mod seen;
+pub mod times;
 
 use second::gen::Random;
-use second::records::{self, Record, BYTES, LOCKOUT, OFFER, ORDER};
 
-/// A reader: refusal, kind, time, root, unit, premium, contracts, reset and level of so many bytes.
-pub type Reader<'a> = &'a dyn Fn(&[u8]) -> [u64; 9];
-/// A writer: the refusal of writing these eight numbers into a room.
-pub type Writer<'a> = &'a dyn Fn([u64; 8], &mut [u8]) -> u64;
+pub use self::calls::{Calls, BY_HAND, LIBRARY, SECOND};
+use self::draws::{some_bytes, some_event, Drawn};
+use self::forms::{Event, Form, KIND, NEW, OLD, RESET, TIME};
+use self::seen::{Call, Seen, Unfit, What, LONGEST};
+use crate::Row;
 
-/// How many records were read and written, and how many of them refused.
-#[derive(Debug, Default, PartialEq, Eq)]
-pub struct Records {
-    pub read: u64,
-    pub read_refused: u64,
-    pub written: u64,
-    pub write_refused: u64,
+/// A comparison: what is tried, what it is compared with, and what came up.
+pub struct Comparison<'a> {
+    tried: Calls<'a>,
+    other: Calls<'a>,
+    random: Random,
+    pub seen: Seen,
 }
 
-/// Compares so many readings and writings; gives the first difference in words.
-pub fn compare(count: u64, seed: u64, reader: Reader, writer: Writer) -> Result<Records, String> {
-    let mut random = Random::new(seed);
-    let mut seen = Records::default();
-    for _ in 0..count {
-        let bytes = some_bytes(&mut random);
-        let (other, own) = (reader(&bytes), records::read(&bytes).numbers());
-        if other != own {
-            return Err(format!("read {bytes:02x?}: {other:?}, the second program {own:?}"));
+/// A room of so many bytes, no two neighbours alike.
+fn room(length: usize) -> Vec<u8> {
+    (0..length).map(|place| place as u8 ^ 0xA5).collect()
+}
+
+/// Compares so many rounds of each call; gives what came up, or the first difference in words.
+pub fn compare(rounds: u64, seed: u64, tried: Calls, other: Calls) -> Result<Seen, String> {
+    let mut comparison = Comparison { tried, other, random: Random::new(seed), seen: Seen::default() };
+    for _ in 0..rounds {
+        for form in [&OLD, &NEW] {
+            let (bytes, drawn) = some_bytes(&mut comparison.random, form);
+            comparison.read(form, &bytes, drawn)?;
+            comparison.moved(form, &bytes, drawn)?;
+            let (event, drawn) = some_event(&mut comparison.random, form);
+            comparison.write(form, event, drawn)?;
         }
-        seen.read += 1;
-        seen.read_refused += u64::from(own[0] != 0);
+    }
+    Ok(comparison.seen)
+}
 
-        let numbers = some_numbers(&mut random);
-        let [mut other_room, mut own_room] = [vec![0xA5; random.pick(&[0, 11, 12, 12, 12, 13, 20])], Vec::new()];
-        own_room.clone_from(&other_room);
-        let other = writer(numbers, &mut other_room);
-        let own = records::write(&record(numbers), &mut own_room).refusal;
-        if (other, &other_room) != (own, &own_room) {
-            return Err(format!("write {numbers:?}: {other} {other_room:02x?}, the second program {own} {own_room:02x?}"));
+/// Compares all calls that take bytes of a form on these; gives the first difference in words.
+pub fn compare_bytes(bytes: &[u8], form: &Form, tried: Calls, other: Calls) -> Result<u64, String> {
+    let mut comparison = Comparison { tried, other, random: Random::new(1), seen: Seen::default() };
+    comparison.moved(form, bytes, Drawn::Flipped)?;
+    comparison.read(form, bytes, Drawn::Flipped)
+}
+
+impl Comparison<'_> {
+    /// Reads bytes on both; gives the refusal.
+    fn read(&mut self, form: &Form, bytes: &[u8], drawn: Drawn) -> Result<u64, String> {
+        let call = if form.bytes == NEW.bytes { Call::Read16 } else { Call::Read };
+        let (tried, other) = (self.tried.read(form, bytes), self.other.read(form, bytes));
+        self.seen.calls += 1;
+        if tried != other {
+            return Err(format!("{call:?} {bytes:02x?}: {tried:?}, and by the other {other:?}"));
         }
-        seen.written += 1;
-        seen.write_refused += u64::from(own != 0);
+        let [refusal, event @ .., _, _] = tried;
+        self.judge(call, drawn, refusal, bytes.len(), || format!("{bytes:02x?}"))?;
+        if refusal == 0 {
+            self.seen.see_done(call, form, &event);
+            let mut again = room(form.bytes);
+            let row = self.tried.write(form, event, &mut again);
+            self.seen.calls += 1;
+            if row != [0; 5] || again != bytes {
+                return Err(format!("{call:?} {bytes:02x?}: written again {row:?} {again:02x?}"));
+            }
+            self.seen.see(call, What::Back);
+        }
+        Ok(refusal)
     }
-    Ok(seen)
-}
 
-/// The record of eight numbers.
-fn record([kind, time, root, unit, premium, contracts, reset, level]: [u64; 8]) -> Record {
-    Record { kind, time, root, unit, premium, contracts, reset, level }
-}
+    /// Is the refusal what this way of drawing asks for? Counts it.
+    fn judge(&mut self, call: Call, drawn: Drawn, refusal: u64, length: usize, words: impl Fn() -> String) -> Result<(), String> {
+        let is_wrong = match drawn {
+            Drawn::Valid => refusal == 16,
+            Drawn::Faulty(_) | Drawn::OtherLength => refusal != 16,
+            Drawn::Flipped => false,
+        };
+        if is_wrong {
+            return Err(format!("{call:?} {}: both answer {refusal}", words()));
+        }
+        match drawn {
+            Drawn::Faulty(fault) => self.seen.see(call, What::Faulty(fault)),
+            Drawn::OtherLength if length <= LONGEST => self.seen.see(call, What::Length(length)),
+            Drawn::Flipped if refusal == 16 => self.seen.see(call, What::Flipped),
+            _ => {}
+        }
+        Ok(())
+    }
 
-/// The numbers of a valid event, at the ends of their ranges at times.
-pub fn valid_numbers(random: &mut Random) -> [u64; 8] {
-    let mut upto = |least: u64, most: u64| {
-        let any = random.between(least, most);
-        random.pick(&[any, any, least, most])
-    };
-    let [time, root] = [upto(0, 86_399_999), upto(0, 63)];
-    match upto(ORDER, LOCKOUT) {
-        OFFER => [OFFER, time, root, upto(0, 3), upto(1, 100_000_000), upto(1, 1_000_000), 0, 0],
-        LOCKOUT if upto(0, 1) == 1 => [LOCKOUT, time, 0, 0, 0, 0, 0, 1],
-        LOCKOUT => [LOCKOUT, time, root, 0, 0, 0, 0, 0],
-        _ => [ORDER, time, root, 0, 0, 0, upto(0, 3), 0],
+    /// Writes an event on both.
+    fn write(&mut self, form: &Form, event: Event, drawn: Drawn) -> Result<(), String> {
+        let call = if form.bytes == NEW.bytes { Call::Write16 } else { Call::Write };
+        let (tried, other) = (self.tried, self.other);
+        let (row, written) = self.in_rooms(call, &|room| tried.write(form, event, room), &|room| other.write(form, event, room))?;
+        self.judge(call, drawn, row[0], form.bytes, || format!("{event:?}"))?;
+        if row[0] == 0 {
+            self.seen.see_done(call, form, &event);
+            let again = tried.read(form, &written);
+            self.seen.calls += 1;
+            if again[0] != 0 || again[1..11] != event {
+                return Err(format!("{call:?} {event:?}: read again {again:?}"));
+            }
+            self.seen.see(call, What::Back);
+        }
+        Ok(())
     }
-}
 
-/// Valid numbers, at times with others in some places: any, one past a range, or one too wide for its field.
-fn some_numbers(random: &mut Random) -> [u64; 8] {
-    let mut numbers = valid_numbers(random);
-    for _ in 0..random.pick(&[0, 0, 1, 1, 2]) {
-        let any = random.number() >> random.below(64);
-        let place = random.below(8) as usize;
-        numbers[place] = random.pick(&[0, 1, 3, 4, 64, 86_400_000, 100_000_001, 1_000_001, 1 << 20, 1 << 27, any, any]);
+    /// Moves bytes on both into the other form.
+    fn moved(&mut self, form: &Form, bytes: &[u8], drawn: Drawn) -> Result<(), String> {
+        let (call, to) = if form.bytes == NEW.bytes { (Call::Narrow, &OLD) } else { (Call::Widen, &NEW) };
+        let (tried, other) = (self.tried, self.other);
+        let (row, written) = self.in_rooms(call, &|room| tried.moved(form, bytes, room), &|room| other.moved(form, bytes, room))?;
+        self.judge(call, drawn, row[0], bytes.len(), || format!("{bytes:02x?}"))?;
+        match row[0] {
+            20 => {
+                let read = self.other.read(form, bytes);
+                self.see_unfit(read[1 + KIND], read[1 + TIME], read[1 + RESET])?;
+            }
+            0 => {
+                let [_, event @ .., _, _] = tried.read(&OLD, if call == Call::Narrow { &written } else { bytes });
+                self.seen.see_done(call, &OLD, &event);
+                let mut back = room(form.bytes);
+                let row = tried.moved(to, &written, &mut back);
+                self.seen.calls += 2;
+                if row != [0; 5] || back != bytes {
+                    return Err(format!("{call:?} {bytes:02x?}: moved back {row:?} {back:02x?}"));
+                }
+                self.seen.see(call, What::Back);
+            }
+            _ => {}
+        }
+        Ok(())
     }
-    numbers
-}
 
-/// The record of a valid event, often with damaged bits, at times of another length or any bytes at all.
-fn some_bytes(random: &mut Random) -> Vec<u8> {
-    let mut bytes = vec![0; BYTES];
-    records::write(&record(valid_numbers(random)), &mut bytes);
-    for _ in 0..random.pick(&[0, 0, 1, 1, 2, 6]) {
-        bytes[random.below(BYTES as u64) as usize] ^= 1 << random.below(8);
+    /// Counts why a record does not fit the old form.
+    fn see_unfit(&mut self, kind: u64, time: u64, reset: u64) -> Result<(), String> {
+        let reasons = [(Unfit::Kind, kind > 2), (Unfit::Time, time % 1_000 != 0), (Unfit::Reset, reset > 3)];
+        let found: Vec<Unfit> = reasons.into_iter().filter(|(_, holds)| *holds).map(|(reason, _)| reason).collect();
+        let what = match found[..] {
+            [] => return Err(format!("both answer 20 for kind {kind}, time {time}, reset {reset}")),
+            [reason] => What::Unfit(reason),
+            _ => What::UnfitInMore,
+        };
+        self.seen.see(Call::Narrow, what);
+        Ok(())
     }
-    if random.once_in(20) {
-        bytes.iter_mut().for_each(|byte| *byte = random.number() as u8);
+
+    /// Runs a writer on two equal rooms, of any length up to the longest, and gives its row and what it wrote.
+    fn in_rooms(
+        &mut self,
+        call: Call,
+        tried: &dyn Fn(&mut [u8]) -> Row,
+        other: &dyn Fn(&mut [u8]) -> Row,
+    ) -> Result<(Row, Vec<u8>), String> {
+        let bytes = call.written().unwrap_or(0);
+        let any = self.random.below(LONGEST as u64 + 1) as usize;
+        let length = self.random.pick(&[any, bytes, bytes + 1]);
+        let before = room(length);
+        let (mut tried_room, mut other_room) = (before.clone(), before.clone());
+        let (row, other_row) = (tried(&mut tried_room), other(&mut other_room));
+        self.seen.calls += 1;
+        if (row, &tried_room) != (other_row, &other_room) {
+            return Err(format!("{call:?} in {length} bytes: {row:?} {tried_room:02x?}, and by the other {other_row:?} {other_room:02x?}"));
+        }
+        let written = if row[0] == 0 { bytes } else { 0 };
+        if tried_room.get(written..) != before.get(written..) || row[0] == 0 && length < bytes || row[0] == 1 && length >= bytes {
+            return Err(format!("{call:?} in {length} bytes: {row:?} {tried_room:02x?}"));
+        }
+        match row[0] {
+            0 | 1 => self.seen.see(call, What::Room(length)),
+            16 if length < bytes => self.seen.see(call, What::FaultyAndShort),
+            20 if length < bytes => self.seen.see(call, What::UnfitAndShort),
+            _ => {}
+        }
+        if row[0] == 0 && length > bytes {
+            self.seen.see(call, What::Past);
+        }
+        tried_room.truncate(written);
+        Ok((row, tried_room))
     }
-    if random.once_in(20) {
-        bytes.resize(random.below(25) as usize, 0);
-    }
-    bytes
 }

@@ -2,7 +2,6 @@
 
 use native::beside::{days, no_slip, Slip};
 use native::profiles::clashing;
-use native::records::{compare, Records};
 use native::scripts::Kind;
 use native::{arm, hand, offer, order, profile, report, send, status, SIZE};
 use second::gen::{self, Random};
@@ -115,12 +114,4 @@ fn profiles_are_read_alike_by_hand() {
     }
     println!("{seen:?}");
     assert!([0, 6, 7, 8, 9, 10, 11].iter().all(|refusal| seen[*refusal] > 1_000) && seen[5] > 50, "{seen:?}");
-}
-
-#[test]
-fn records_are_read_and_written_alike_by_hand() {
-    let seen = compare(200_000, 5, &hand::read_record, &hand::write_record);
-    let Ok(Records { read, read_refused, written, write_refused }) = seen else { panic!("{seen:?}") };
-    assert!(read_refused > 10_000 && read - read_refused > 10_000, "{read_refused} of {read} refused");
-    assert!(write_refused > 10_000 && written - write_refused > 10_000, "{write_refused} of {written} refused");
 }

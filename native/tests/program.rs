@@ -9,7 +9,9 @@ use std::process::{Child, Command, Output, Stdio};
 use std::time::Duration;
 
 use native::profiles::clashing;
-use second::gen::{profile, records, valid_profile, Random};
+use native::program::seen::Seen;
+use native::program::BYTES;
+use second::gen::{profile, records16, valid_profile, Random};
 
 /// A command that was started in a folder, all its files pipes.
 fn started(command: &[String], folder: &Path) -> Child {
@@ -63,7 +65,7 @@ fn print_alike(seed: u64, text: Option<&[u8]>, input: &[u8]) -> Vec<u8> {
 
 #[test]
 fn days_of_records_print_alike() {
-    let (mut armed, mut lines) = (0, 0);
+    let (mut armed, mut lines, mut seen) = (0, 0, Seen::default());
     for seed in 0..60 {
         let mut random = Random::new(seed);
         let text = match seed % 3 {
@@ -71,18 +73,23 @@ fn days_of_records_print_alike() {
             1 => profile(seed),
             _ => clashing(&mut random),
         };
-        let mut input = records(seed, random.between(0, 9_000) as usize, &text);
+        let mut input = records16(seed, random.between(0, 9_000) as usize, &text);
         for _ in 0..random.below(20) {
             if let Some(place) = (!input.is_empty()).then(|| random.below(input.len() as u64) as usize) {
                 input[place] ^= 1 << random.below(8);
             }
         }
-        input.truncate(input.len() - random.below(12).min(input.len() as u64) as usize);
+        input.truncate(input.len() - random.below(BYTES as u64).min(input.len() as u64) as usize);
         let printed = print_alike(seed, Some(&text), &input);
-        armed += usize::from(printed.starts_with(b"armed "));
+        if printed.starts_with(b"armed ") {
+            armed += 1;
+            seen.look(&input, &printed);
+        }
         lines += printed.iter().filter(|&&byte| byte == b'\n').count();
     }
     assert!((15..60).contains(&armed) && 50_000 < lines, "{armed} days were armed, {lines} lines printed");
+    println!("{seen:?}");
+    assert!(seen.is_enough(), "something never came up: {seen:?}");
 }
 
 #[test]
@@ -93,37 +100,69 @@ fn a_missing_an_empty_and_a_too_long_profile_are_refused_alike() {
     }
 }
 
-/// The bytes of an event's record.
-fn bytes(numbers: [u64; 8]) -> [u8; 12] {
-    let mut room = [0; 12];
-    assert_eq!(native::write_record(numbers, &mut room)[0], 0, "the event is valid: {numbers:?}");
+/// The bytes of an event's record: kind, time in microseconds, root, unit, premium, contracts, reset, level, identity and reports.
+fn bytes(numbers: [u64; 10]) -> [u8; BYTES] {
+    let mut room = [0; BYTES];
+    assert_eq!(native::write_record16(numbers, &mut room)[0], 0, "the event is valid: {numbers:?}");
     room
 }
 
-/// An offer of one contract at $1 to unit 0 of root 0.
-fn offer(time: u64) -> [u8; 12] {
-    bytes([1, time, 0, 0, 10_000, 1, 0, 0])
+/// An offer of one contract at $1 to unit 0 of root 0, some microseconds after a millisecond.
+fn offer(time: u64) -> [u8; BYTES] {
+    bytes([1, 1_000 * time + 7 * time % 1_000, 0, 0, 10_000, 1, 0, 0, 0, 0])
 }
 
 #[test]
 fn each_refusal_that_a_record_can_meet_is_printed() {
-    // 512 fills within the window fill the log; the next finds it full, and an order still passes
+    // 512 fills within the window fill the log; the next finds it full, a sending too, and an order still passes
     let mut input: Vec<u8> = (0..513).flat_map(offer).collect();
-    input.extend(bytes([0, 600, 0, 0, 0, 0, 0, 0]));
+    input.extend(bytes([3, 600_000, 0, 0, 1, 1, 0, 0, 9, 1]));
+    input.extend(bytes([0, 600_000, 0, 0, 0, 0, 0, 0, 0, 0]));
     // an earlier time, an unknown root, an unknown root in a lockout, a faulty record, and a last one that is cut off
     input.extend(offer(599));
-    input.extend(bytes([0, 600, 7, 0, 0, 0, 0, 0]));
-    input.extend(bytes([2, 600, 63, 0, 0, 0, 0, 0]));
-    input.extend([0xFF; 12]);
-    input.extend(&offer(601)[..11]);
+    input.extend(bytes([0, 600_000, 7, 0, 0, 0, 0, 0, 0, 0]));
+    input.extend(bytes([2, 600_000, 63, 0, 0, 0, 0, 0, 0, 0]));
+    input.extend([0xFF; BYTES]);
+    input.extend(&offer(601)[..BYTES - 1]);
     let mut lines: Vec<String> = vec!["armed A 1 1".into()];
     lines.extend((1..=512).map(|place| format!("{place} 0 0 1 0 0")));
-    lines.extend(
-        ["513 15 0 0 0 0", "514 0 0 0 0 0", "515 12 0 0 0 0", "516 13 0 0 0 0", "517 13 0 0 0 0", "518 16 0 0 0 0", "519 16 0 0 0 0"]
-            .map(String::from),
-    );
+    let refusals = [15, 15, 0, 12, 13, 13, 16, 16];
+    lines.extend(refusals.iter().zip(513..).map(|(refusal, place)| format!("{place} {refusal} 0 0 0 0")));
     let printed = print_alike(2000, Some(b"A,rate_vol,Q,1000000000,86400000"), &input);
     assert_eq!(String::from_utf8_lossy(&printed), lines.join("\n") + "\n");
+}
+
+#[test]
+fn orders_sent_away_are_printed_in_the_same_six_fields() {
+    let send = |identity| bytes([3, 1_999, 0, 3, 70_000, 20, 0, 0, identity, 1]);
+    let report = |identity, contracts| bytes([4, 1_001, 0, 0, 0, contracts, 0, 0, identity, 0]);
+    let close = |identity| bytes([5, 1_001, 0, 0, 0, 0, 0, 0, identity, 0]);
+    let order = |time, reset| bytes([0, time, 0, 0, 0, 0, reset, 0, 0, 0]);
+    // each event and what is printed after its place; the time goes back within its millisecond, which is not refused
+    let mut steps: Vec<([u8; BYTES], &str)> = (0..64).map(|identity| (send(identity), "0 0 0 0 0")).collect();
+    steps.extend([
+        (send(64), "17 0 0 0 0"),
+        (report(0, 9), "0 0 9 0 0"),
+        (report(0, 1), "19 0 0 0 0"),
+        (report(1, 21), "19 0 0 0 0"),
+        (report(1, 1), "0 0 1 1 0"),
+        (report(64, 1), "18 0 0 0 0"),
+        (close(0), "0 0 0 0 0"),
+        (close(0), "18 0 0 0 0"),
+        (send(1), "18 0 0 0 0"),
+        (send(0), "0 2 0 0 0"),
+        (order(1_500, 0), "0 2 0 0 0"),
+        (order(1_000, 4), "0 0 0 0 0"),
+        (order(1_000, 6), "0 0 0 0 0"),
+        (order(999, 0), "12 0 0 0 0"),
+        (order(2_000, 5), "0 0 0 0 0"),
+        (bytes([2, 86_399_999_999, 0, 0, 0, 0, 0, 1, 0, 0]), "0 0 0 0 0"),
+        (order(86_399_999_000, 4), "0 1 0 0 0"),
+    ]);
+    let input: Vec<u8> = steps.iter().flat_map(|(record, _)| *record).collect();
+    let lines: String = steps.iter().zip(1..).map(|((_, words), place)| format!("{place} {words}\n")).collect();
+    let printed = print_alike(2001, Some(b"A,abs_vol,Q,10"), &input);
+    assert_eq!(String::from_utf8_lossy(&printed), format!("armed A 1 1\n{lines}"));
 }
 
 #[test]

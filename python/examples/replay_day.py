@@ -2,7 +2,7 @@
 
     python3 examples/replay_day.py [PROFILE RECORDS]
 
-RECORDS is a file of 12-byte records, or of their digits to base 16 with comments, as sample-data/records.hex. Without words it replays the sample that
+RECORDS is a file of 16-byte records, or of their digits to base 16 with comments, as sample-data/records.hex. Without words it replays the sample that
 ships in the repository. The cells are those of a notebook: `# %%` begins one.
 """
 
@@ -13,7 +13,7 @@ import sys
 from pathlib import Path
 from typing import NamedTuple, Optional, Union
 
-from mbrumzheg import Answer, Event, Lockout, Offer, Order, Refusal, Refused, Report, Root, Sending, Unit, records
+from mbrumzheg import Answer, Event, Lockout, Offer, Order, Refusal, Refused, Report, Root, Sending, Unit, records16
 
 # %% The day: a profile and its records
 
@@ -37,7 +37,7 @@ class Passed(NamedTuple):
 def replay(unit: Unit, stretch: bytes) -> list[Passed]:
     """Every record of a day on a unit; a refused one changes nothing, and the day goes on."""
     day = []
-    for place, read in enumerate(records(stretch), 1):
+    for place, read in enumerate(records16(stretch), 1):
         if isinstance(read, Refusal):
             day.append(Passed(place, None, read))
             continue
@@ -107,7 +107,7 @@ def least_left(profile: str, stretch: bytes) -> list[int]:
     """Of each rule, the least that was left after any event of the day."""
     unit = Unit().arm(profile)
     least = left_now(unit)
-    for read in records(stretch):
+    for read in records16(stretch):
         if not isinstance(read, Refusal):
             try:
                 unit.answer(read)

@@ -12,8 +12,9 @@ free
 """
 
 from . import raw
-from .event import RECORD_SIZE, Answer, Closing, Event, Lockout, Offer, Order, Report, Sending, from_record, records
+from .event import Answer, Closing, Event, Lockout, Offer, Order, Report, Sending
 from .raw import PROFILE_MOST, SIZE
+from .record import RECORD16_SIZE, RECORD_SIZE, from_record, from_record16, narrow, records, records16, widen
 from .refusal import Refusal, Refused
 from .rule import Measure, Rule, Scope
 from .unit import Status, Unit
@@ -24,6 +25,7 @@ __version__ = "0.2.0"
 
 __all__ = [
     "PROFILE_MOST",
+    "RECORD16_SIZE",
     "RECORD_SIZE",
     "SIZE",
     "Answer",
@@ -54,6 +56,10 @@ __all__ = [
     "UnitOfRoot",
     "Verdict",
     "from_record",
+    "from_record16",
+    "narrow",
     "raw",
     "records",
+    "records16",
+    "widen",
 ]

@@ -36,8 +36,12 @@ _FUNCTIONS = {
     "mbrumzheg_rule": [Numbers, Length, Number, Numbers],
     "mbrumzheg_profile": [Numbers, Length, Room, Length, Numbers],
     "mbrumzheg_text": [Number, Room, Length, Numbers],
+    "mbrumzheg_read_record16": [Bytes, Length, Numbers],
+    "mbrumzheg_write_record16": [Number] * 10 + [Room, Length, Numbers],
     "mbrumzheg_read_record": [Bytes, Length, Numbers],
     "mbrumzheg_write_record": [Number] * 8 + [Room, Length, Numbers],
+    "mbrumzheg_widen": [Bytes, Length, Room, Length, Numbers],
+    "mbrumzheg_narrow": [Bytes, Length, Room, Length, Numbers],
 }
 
 

@@ -1,36 +1,57 @@
-"""What happens to a unit, what it answers, and the 12-byte records of events."""
+"""What happens to a unit, what it answers, and the records of events."""
 
 from __future__ import annotations
 
 from dataclasses import dataclass
-from typing import Iterator, Union
+from typing import Union
 
 from . import raw
 from .refusal import Refusal, Refused
 from .values import Contracts, Identity, Level, Premium, Reports, Reset, Root, Time, UnitOfRoot, Verdict
 
-RECORD_SIZE = raw.RECORD_SIZE
+
+class _Recorded:
+    """An event with its records."""
+
+    def numbers(self) -> raw.Event16Numbers:
+        """The event's numbers, as the library takes them."""
+        raise NotImplementedError
+
+    def to_record16(self) -> bytes:
+        """The event's record, of 16 bytes."""
+        room = raw.room(raw.RECORD16_SIZE)
+        refusal = raw.write_record16(self.numbers(), room)[0]
+        if refusal:
+            raise Refused(Refusal(refusal))
+        return bytes(room)
+
+    def to_record(self) -> bytes:
+        """The event's record in the old form; refused with FAULTY_RECORD for what 12 bytes have no place for: a time that is not in whole milliseconds, a reset
+        above BOTH, and orders sent away, their reports and their closings."""
+        kind, us, root, unit, premium, contracts, reset, level, identity, reports = self.numbers()
+        room = raw.room(raw.RECORD_SIZE)
+        refusal: int = Refusal.FAULTY_RECORD
+        if us % 1_000 == identity == reports == 0:
+            refusal = raw.write_record((kind, us // 1_000, root, unit, premium, contracts, reset, level), room)[0]
+        if refusal:
+            raise Refused(Refusal(refusal))
+        return bytes(room)
 
 
 @dataclass(frozen=True)
-class Order:
+class Order(_Recorded):
     """An order, with the reset that it asks for."""
 
     time: Time
     root: Root
     reset: Reset = Reset.NONE
 
-    def numbers(self) -> raw.EventNumbers:
-        """The event's numbers, as the library takes them."""
-        return (0, self.time, self.root, 0, 0, 0, self.reset, 0)
-
-    def to_record(self) -> bytes:
-        """The event's record; refused with FAULTY_RECORD for a reset above BOTH, which 12 bytes have no place for."""
-        return _record(self.numbers())
+    def numbers(self) -> raw.Event16Numbers:
+        return (0, self.time.us, self.root, 0, 0, 0, self.reset, 0, 0, 0)
 
 
 @dataclass(frozen=True)
-class Offer:
+class Offer(_Recorded):
     """An offered fill."""
 
     time: Time
@@ -39,42 +60,24 @@ class Offer:
     premium: Premium
     contracts: Contracts
 
-    def numbers(self) -> raw.EventNumbers:
-        """The event's numbers, as the library takes them."""
-        return (1, self.time, self.root, self.unit, self.premium, self.contracts, 0, 0)
-
-    def to_record(self) -> bytes:
-        """The event's record."""
-        return _record(self.numbers())
+    def numbers(self) -> raw.Event16Numbers:
+        return (1, self.time.us, self.root, self.unit, self.premium, self.contracts, 0, 0, 0, 0)
 
 
 @dataclass(frozen=True)
-class Lockout:
+class Lockout(_Recorded):
     """A lockout by the user."""
 
     time: Time
     level: Level
 
-    def numbers(self) -> raw.EventNumbers:
-        """The event's numbers, as the library takes them."""
+    def numbers(self) -> raw.Event16Numbers:
         level, root = self.level.numbers()
-        return (2, self.time, root, 0, 0, 0, 0, level)
-
-    def to_record(self) -> bytes:
-        """The event's record."""
-        return _record(self.numbers())
-
-
-class _Unrecorded:
-    """An event that 12 bytes have no place for."""
-
-    def to_record(self) -> bytes:
-        """Refused with FAULTY_RECORD: there is no such record."""
-        raise Refused(Refusal.FAULTY_RECORD)
+        return (2, self.time.us, root, 0, 0, 0, 0, level, 0, 0)
 
 
 @dataclass(frozen=True)
-class Sending(_Unrecorded):
+class Sending(_Recorded):
     """An order that is sent to an away market; its fills are counted at its premium."""
 
     time: Time
@@ -85,22 +88,31 @@ class Sending(_Unrecorded):
     identity: Identity
     reports: Reports
 
+    def numbers(self) -> raw.Event16Numbers:
+        return (3, self.time.us, self.root, self.unit, self.premium, self.contracts, 0, 0, self.identity, self.reports)
+
 
 @dataclass(frozen=True)
-class Report(_Unrecorded):
+class Report(_Recorded):
     """A fill that an away market reports."""
 
     time: Time
     identity: Identity
     contracts: Contracts
 
+    def numbers(self) -> raw.Event16Numbers:
+        return (4, self.time.us, 0, 0, 0, self.contracts, 0, 0, self.identity, 0)
+
 
 @dataclass(frozen=True)
-class Closing(_Unrecorded):
+class Closing(_Recorded):
     """The closing of an order sent away."""
 
     time: Time
     identity: Identity
+
+    def numbers(self) -> raw.Event16Numbers:
+        return (5, self.time.us, 0, 0, 0, 0, 0, 0, self.identity, 0)
 
 
 Event = Union[Order, Offer, Lockout, Sending, Report, Closing]
@@ -119,32 +131,3 @@ class Answer:
     def cuts(self, offered: Contracts) -> bool:
         """Whether an offer of so many contracts was cut: it passed, and less was granted."""
         return self.verdict.passes and self.grant < offered
-
-
-def _record(numbers: raw.EventNumbers) -> bytes:
-    room = raw.room(RECORD_SIZE)
-    refusal = raw.write_record(numbers, room)[0]
-    if refusal:
-        raise Refused(Refusal(refusal))
-    return bytes(room)
-
-
-def from_record(record: bytes) -> Event:
-    """The event of a record; refused with FAULTY_RECORD for any bytes that no event has."""
-    refusal, (kind, time, root, unit, premium, contracts, reset, level) = raw.read_record(record)
-    if refusal:
-        raise Refused(Refusal(refusal))
-    if kind == 0:
-        return Order(Time(time), Root(root), Reset(reset))
-    if kind == 1:
-        return Offer(Time(time), Root(root), UnitOfRoot(unit), Premium(premium), Contracts(contracts))
-    return Lockout(Time(time), Level() if level else Level(Root(root)))
-
-
-def records(stretch: bytes) -> Iterator[Union[Event, Refusal]]:
-    """The records in a stretch of bytes, one after the other: the event of each, or its refusal, as a short last one has."""
-    for start in range(0, len(stretch), RECORD_SIZE):
-        try:
-            yield from_record(stretch[start : start + RECORD_SIZE])
-        except Refused as refused:
-            yield refused.refusal

@@ -7,21 +7,59 @@ whoever has numbers, as a comparison with another program does.
 from __future__ import annotations
 
 import ctypes
-from operator import index
 from typing import TYPE_CHECKING, Tuple
 
 from . import _place
-from ._library import load
+from ._raw_records import RECORD16_SIZE, RECORD_SIZE, Event16Numbers, Event16Row, EventNumbers
+from ._raw_records import narrow, read_record, read_record16, widen, write_record, write_record16
+from ._rows import NewRow as _Row
+from ._rows import Row, memory, room
+from ._rows import library as _library
+from ._rows import numbers as _numbers
+from ._rows import u64 as _u64
 
 if TYPE_CHECKING:
-    # numbers of 64 bits that are lent to a call, and bytes to write to
-    Memory = ctypes.Array[ctypes.c_uint64]
-    Room = ctypes.Array[ctypes.c_uint8]
+    from ._rows import Memory, Room
+
+__all__ = [
+    "PROFILE_MOST",
+    "RECORD16_SIZE",
+    "RECORD_SIZE",
+    "SIZE",
+    "Event16Numbers",
+    "Event16Row",
+    "EventNumbers",
+    "NAME_SIZE",
+    "TEXT_SIZE",
+    "Row",
+    "RuleRow",
+    "arm",
+    "clear",
+    "close",
+    "lockout",
+    "memory",
+    "narrow",
+    "offer",
+    "order",
+    "profile",
+    "read_record",
+    "read_record16",
+    "remaining",
+    "report",
+    "room",
+    "root_name",
+    "root_named",
+    "rule",
+    "send",
+    "status",
+    "text",
+    "widen",
+    "write_record",
+    "write_record16",
+]
 
 SIZE = _place.SIZE
 """How many 64-bit numbers the state takes. More may be lent; the rest is neither read nor written."""
-RECORD_SIZE = 12
-"""How many bytes a record has."""
 TEXT_SIZE = 20
 """How many bytes of room Text asks for."""
 NAME_SIZE = 6
@@ -29,40 +67,10 @@ NAME_SIZE = 6
 PROFILE_MOST = 12_544
 """The most bytes that a profile written back has."""
 
-Row = Tuple[int, int, int, int, int]
-"""An answer: five numbers, the refusal first (0 if the call was not refused)."""
 RuleRow = Tuple[int, int, int, int, int, int]
 """A rule: refusal, type, limit, window, root, unit."""
-EventNumbers = Tuple[int, int, int, int, int, int, int, int]
-"""An event's numbers: kind, time, root, unit, premium, contracts, reset, level. One that its kind does not use is 0."""
 
-_library = load()
-_Row = ctypes.c_uint64 * 5
 _RuleRow = ctypes.c_uint64 * 6
-_EventRow = ctypes.c_uint64 * 9
-
-
-def memory(length: int = SIZE) -> Memory:
-    """Memory of so many numbers, all 0."""
-    return (ctypes.c_uint64 * length)()
-
-
-def room(length: int) -> Room:
-    """Room for so many bytes, all 0."""
-    return (ctypes.c_uint8 * length)()
-
-
-def _u64(number: int) -> int:
-    """A number that a call can take; ctypes itself would drop what does not fit."""
-    number = index(number)
-    if not 0 <= number < 1 << 64:
-        raise OverflowError(f"{number} is no number of 64 bits without a sign")
-    return number
-
-
-def _numbers(row: ctypes.Array[ctypes.c_uint64]) -> Row:
-    first, second, third, fourth, fifth = row
-    return first, second, third, fourth, fifth
 
 
 def arm(lent: Memory, profile: bytes) -> Row:
@@ -170,21 +178,6 @@ def text(verdict: int, into: Room) -> Row:
     """Writes the text for verdict 1 or 2 into the room: refusal, how many bytes."""
     row = _Row()
     _library.mbrumzheg_text(_u64(verdict), into, len(into), row)
-    return _numbers(row)
-
-
-def read_record(record: bytes) -> tuple[int, EventNumbers]:
-    """Reads an event record: refusal, and the event's numbers (zeros if refused)."""
-    row = _EventRow()
-    _library.mbrumzheg_read_record(record, len(record), row)
-    refusal, kind, time, root, unit, premium, contracts, reset, level = row
-    return refusal, (kind, time, root, unit, premium, contracts, reset, level)
-
-
-def write_record(event: EventNumbers, into: Room) -> Row:
-    """Writes an event's record to the first 12 bytes of the room: refusal."""
-    row = _Row()
-    _library.mbrumzheg_write_record(*map(_u64, event), into, len(into), row)
     return _numbers(row)
 
 

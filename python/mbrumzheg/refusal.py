@@ -7,7 +7,7 @@ from typing import Optional
 
 
 class Refusal(IntEnum):
-    """A refusal: its number from 1 to 19. A refused call changes nothing."""
+    """A refusal: its number from 1 to 20. A refused call changes nothing."""
 
     NO_ROOM = 1
     UNSOUND = 2
@@ -28,6 +28,7 @@ class Refusal(IntEnum):
     REGISTER_FULL = 17
     IDENTITY_CLASH = 18
     OVER_REPORTED = 19
+    UNFIT = 20
 
     @property
     def sentence(self) -> str:
@@ -57,10 +58,11 @@ _SENTENCES = {
     Refusal.UNKNOWN: "the root, unit, rule, level, reset, verdict or identity is not known here",
     Refusal.BAD_AMOUNT: "the premium is not within $0.0001 to $10,000, the contracts not within 1 to 1,000,000, or the reports not within 1 to 16",
     Refusal.LOG_FULL: "fills inside the longest window and places kept for reports leave too few of the log's 512 places",
-    Refusal.FAULTY_RECORD: "the event record is not 12 bytes, or a field in it is out of range or not 0 where it must be",
+    Refusal.FAULTY_RECORD: "the event record is not 16 bytes (12 in the old form), or a field in it is out of range or not 0 where it must be",
     Refusal.REGISTER_FULL: "64 orders sent away are open, so the register has no place for another",
     Refusal.IDENTITY_CLASH: "an order of this identity is open already or, for a report or a closing, none is",
     Refusal.OVER_REPORTED: "the report has more contracts than are open, or the order has no report left",
+    Refusal.UNFIT: "the record does not fit the old form: its kind is above 2, its time not in whole milliseconds, or its reset above 3",
 }
 
 

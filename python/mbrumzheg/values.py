@@ -15,88 +15,19 @@ from __future__ import annotations
 import re
 from dataclasses import dataclass
 from enum import IntEnum
-from operator import index
-from typing import ClassVar, Optional, Type, TypeVar
+from typing import Optional, Type, TypeVar
 
 from . import raw
-from .refusal import Refusal, Refused
+from ._ranged import ParseError, Ranged
+from ._time import Time
+from .refusal import Refusal
 
-_N = TypeVar("_N", bound="_Ranged")
+__all__ = ["Contracts", "Identity", "Level", "ParseError", "Premium", "Reports", "Reset", "Root", "Time", "UnitOfRoot", "Verdict"]
+
 _W = TypeVar("_W", bound="_Worded")
 
 
-class ParseError(ValueError):
-    """A text that is no value of the type that it was read for. If its form is right and it is out of range, the refusal is its cause."""
-
-
-class _Ranged(int):
-    """A number within a range; outside of it the type's refusal is raised."""
-
-    LEAST: ClassVar[int] = 0
-    MOST: ClassVar[int]
-    _refusal: ClassVar[Refusal]
-    _wanted: ClassVar[str]
-
-    def __new__(cls: Type[_N], number: int) -> _N:
-        number = index(number)
-        if not cls.LEAST <= number <= cls.MOST:
-            raise Refused(cls._refusal)
-        return super().__new__(cls, number)
-
-    def __repr__(self) -> str:
-        return f"{type(self).__name__}({int(self)})"
-
-    def __str__(self) -> str:
-        return str(int(self))
-
-    @classmethod
-    def parse(cls: Type[_N], text: str) -> _N:
-        """The value that a text stands for; ParseError if it is none."""
-        number = cls._read(text)
-        if number is None:
-            raise ParseError(f"no {cls._wanted}")
-        try:
-            return cls(number)
-        except Refused as refused:
-            raise ParseError(f"no {cls._wanted}") from refused
-
-    @classmethod
-    def _read(cls, text: str) -> Optional[int]:
-        return int(text) if re.fullmatch("[0-9]{1,12}", text) else None
-
-
-class Time(_Ranged):
-    """A time of the trading day in milliseconds, 0 to 86,399,999."""
-
-    MOST = 86_399_999
-    _refusal = Refusal.BAD_TIME
-    _wanted = "time: it is written 09:30, 09:30:00 or 09:30:00.250, and is 00:00 to 23:59:59.999"
-
-    @property
-    def ms(self) -> int:
-        """The milliseconds of the day."""
-        return int(self)
-
-    def __str__(self) -> str:
-        ms = int(self)
-        return f"{ms // 3_600_000:02}:{ms // 60_000 % 60:02}:{ms // 1_000 % 60:02}.{ms % 1_000:03}"
-
-    def __repr__(self) -> str:
-        return f"Time.parse('{self}')"
-
-    def __format__(self, form: str) -> str:
-        return format(str(self), form)
-
-    @classmethod
-    def _read(cls, text: str) -> Optional[int]:
-        face = re.fullmatch(r"([0-9]{1,2}):([0-5]?[0-9])(?::([0-5]?[0-9])(?:\.([0-9]{1,3}))?)?", text)
-        if face is None:
-            return None
-        hours, minutes, seconds, parts = face.groups("0")
-        return int(hours) * 3_600_000 + int(minutes) * 60_000 + int(seconds) * 1_000 + int(parts.ljust(3, "0"))
-
-
-class Root(_Ranged):
+class Root(Ranged):
     """The number of a root, 0 to 63, in order of first appearance in the profile."""
 
     MOST = 63
@@ -104,7 +35,7 @@ class Root(_Ranged):
     _wanted = "root number: it is 0 to 63"
 
 
-class Premium(_Ranged):
+class Premium(Ranged):
     """A premium in ten-thousandths of a dollar, 1 to 100,000,000."""
 
     LEAST = 1
@@ -130,7 +61,7 @@ class Premium(_Ranged):
         return int(dollars[1]) * 10_000 + int((dollars[2] or "").ljust(4, "0")) if dollars else None
 
 
-class Contracts(_Ranged):
+class Contracts(Ranged):
     """A number of contracts, 1 to 1,000,000."""
 
     LEAST = 1
@@ -139,7 +70,7 @@ class Contracts(_Ranged):
     _wanted = "number of contracts: it is 1 to 1000000"
 
 
-class Identity(_Ranged):
+class Identity(Ranged):
     """The identity of an order sent away, 0 to 65,535."""
 
     MOST = 65_535
@@ -147,7 +78,7 @@ class Identity(_Ranged):
     _wanted = "identity: it is 0 to 65535"
 
 
-class Reports(_Ranged):
+class Reports(Ranged):
     """How many reports an order sent away may have, 1 to 16."""
 
     LEAST = 1

@@ -12,7 +12,7 @@ from .rule import Rule, rule_of
 from .values import Root, Time
 
 if TYPE_CHECKING:
-    from .raw import Memory
+    from ._rows import Memory
 
 
 @dataclass(frozen=True)

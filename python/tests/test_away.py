@@ -6,7 +6,7 @@ import unittest
 from dataclasses import replace
 
 from mbrumzheg import Answer, Closing, Contracts, Event, Identity, Level, Offer, Premium, Refusal, Refused, Report, Reports, Reset, Root, Sending, Time, Unit
-from mbrumzheg import UnitOfRoot, Verdict, raw
+from mbrumzheg import UnitOfRoot, Verdict, from_record16, narrow, raw
 
 SENDING = Sending(Time(0), Root(0), UnitOfRoot.PUTS_FRONT, Premium.parse("1.00"), Contracts(150), Identity(7), Reports(2))
 OFFER = Offer(Time(0), Root(0), UnitOfRoot.PUTS_FRONT, Premium.parse("1.00"), Contracts(1))
@@ -69,9 +69,11 @@ class Away(unittest.TestCase):
         for two, refusal in [((4, 65_536), 12), ((5, 65_536), 13), ((5, 0), 18)]:
             self.assertEqual(raw.close(memory, *two), (refusal, 0, 0, 0, 0), two)
 
-    def test_they_are_events_without_a_record_of_12_bytes(self) -> None:
+    def test_they_are_events_whose_record_has_16_bytes(self) -> None:
         unit = Unit().arm("ABCD,abs_vol,XYZ,100")
         events: list[Event] = [SENDING, report(100), Closing(Time(0), Identity(7))]
         self.assertEqual([unit.answer(event) for event in events], [Answer(Verdict.FREE), Answer(Verdict.FREE, 100, True), Answer(Verdict.FREE)])
         for event in events:
             self.refused(Refusal.FAULTY_RECORD, event.to_record)
+            self.assertEqual(from_record16(event.to_record16()), event)
+            self.refused(Refusal.UNFIT, narrow, event.to_record16())

@@ -13,7 +13,7 @@ from collections import Counter
 from pathlib import Path
 from typing import Callable, Optional, Tuple
 
-from mbrumzheg import Closing, Event, Level, Lockout, Marks, Measure, Offer, Order, Refusal, Refused, Report, Rule, Sending, Unit, raw, records
+from mbrumzheg import Closing, Event, Level, Lockout, Marks, Measure, Offer, Order, Refusal, Refused, Report, Rule, Sending, Unit, raw, records16
 from mbrumzheg import Contracts, Identity, Premium, Reports, Reset, Root, Time, UnitOfRoot
 
 SECOND = Path(os.environ.get("SECOND", Path(__file__).parents[2] / "target/cargo/release"))
@@ -214,7 +214,7 @@ class Second(unittest.TestCase):
         except Refused as refused:
             return [f"refused {int(refused.refusal)} {refused.line or 0}"]
         lines = [f"armed {unit.firm} {unit.rule_count} {unit.root_count}"]
-        for place, read in enumerate(records(stretch), 1):
+        for place, read in enumerate(records16(stretch), 1):
             row = [read, 0, 0, 0, 0] if isinstance(read, Refusal) else row_of(unit, read)
             lines.append(" ".join(map(str, map(int, [place, *row]))))
         return lines

@@ -1,4 +1,4 @@
-"""Units: refusals and what they leave, saved memory, marks, records, and the names that the header for C has."""
+"""Units: refusals and what they leave, saved memory, marks, and the names that the header for C has."""
 
 from __future__ import annotations
 
@@ -8,7 +8,7 @@ from dataclasses import replace
 from pathlib import Path
 
 from mbrumzheg import Answer, Contracts, Event, Level, Lockout, Marks, Offer, Order, Premium, Refusal, Refused, Reset, Root, Status, Time, Unit, UnitOfRoot
-from mbrumzheg import Verdict, PROFILE_MOST, SIZE, __version__, from_record, raw, records
+from mbrumzheg import Verdict, PROFILE_MOST, RECORD16_SIZE, RECORD_SIZE, SIZE, __version__, raw
 
 EXAMPLE = "ABCD,abs_vol,XYZ,1000,0"
 REPOSITORY = Path(__file__).parents[2]
@@ -167,17 +167,6 @@ class Units(unittest.TestCase):
         lent[SIZE - 1] = 7
         self.assertEqual(raw.profile(lent, raw.room(0)), (2, 0, 0, 0, 0))
 
-    def test_records_of_all_kinds_come_back(self) -> None:
-        events: list[Event] = [Order(Time(1), Root(63), Reset.BOTH), offer(86_399_999, 1_000_000, 63), Lockout(Time(2), Level(Root(5))), Lockout(Time(3), Level())]
-        for event in events:
-            self.assertEqual(from_record(event.to_record()), event)
-        self.assertEqual(offer(10, 200).to_record().hex(), "400000500001117000" + "0c8000")
-        stretch = b"".join(event.to_record() for event in events)
-        self.assertEqual(list(records(stretch + b"\0")), [*events, Refusal.FAULTY_RECORD])
-        self.refused(Refusal.FAULTY_RECORD, from_record, b"\xff" * 12)
-        for reset in (Reset.T, Reset.E, Reset.TE):
-            self.refused(Refusal.FAULTY_RECORD, Order(Time(1), Root(0), reset).to_record)
-
     def test_python_and_c_have_the_same_names_and_words(self) -> None:
         header, numbers, words = ((REPOSITORY / f"include/mbrumzheg{part}.h").read_text() for part in ("", "_numbers", "_words"))
         named = {name: int(number) for name, number in re.findall(r"MBRUMZHEG_(\w+) = (\d+)", numbers)}
@@ -188,4 +177,7 @@ class Units(unittest.TestCase):
         self.assertEqual([named[f"RESET_{case.name}"] for case in Reset], list(Reset))
         self.assertIn(f"#define MBRUMZHEG_SIZE {SIZE}\n", header)
         self.assertIn(f"#define MBRUMZHEG_PROFILE_MOST {PROFILE_MOST}\n", header)
+        self.assertIn(f"#define MBRUMZHEG_RECORD16_BYTES {RECORD16_SIZE}\n", header)
+        self.assertIn(f"#define MBRUMZHEG_RECORD_BYTES {RECORD_SIZE}\n", header)
+        self.assertIn(f"#define MBRUMZHEG_LAST_STAMP {Time(Time.MOST, 999).us}\n", header)
         self.assertIn(f'#define MBRUMZHEG_VERSION "{__version__}"\n', header)

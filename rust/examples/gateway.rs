@@ -4,7 +4,7 @@
 //!
 //! STATE is a file for the unit's memory. If it is there, the day goes on from it, as after a restart; at the end the memory is written to it.
 
-use mbrumzheg::{Adopted, Answer, Armed, Event, Level, Records, Refusal, Unit};
+use mbrumzheg::{Adopted, Answer, Armed, Event, Level, Records16, Refusal, Unit};
 use std::error::Error;
 use std::path::Path;
 use std::process::ExitCode;
@@ -35,7 +35,7 @@ fn run(profile: &Path, records: &Path, state: Option<&Path>) -> Result<(), Box<d
         None => Unit::cleared(vec![0; mbrumzheg::SIZE])?.arm(fs::read(profile)?).map_err(|refused| refused.why)?,
     };
     println!("armed for firm {} (rules: {}, roots: {}), clock {}", unit.firm(), unit.rule_count(), unit.root_count(), unit.clock());
-    for record in Records::new(&fs::read(records)?) {
+    for record in Records16::new(&fs::read(records)?) {
         println!("{}", record.and_then(|event| passed(&mut unit, event)).unwrap_or_else(|refusal| format!("not passed on: {refusal}")));
     }
     if let Some(state) = state {

@@ -4,8 +4,9 @@ use crate::event::Answer;
 use crate::memory::Memory;
 use crate::raw;
 use crate::refusal::Refusal;
+use crate::time::Time;
 use crate::unit::{judged, Armed, Unit};
-use crate::values::{in_range, Contracts, Premium, Root, Time, UnitOfRoot, Verdict};
+use crate::values::{in_range, Contracts, Premium, Root, UnitOfRoot, Verdict};
 
 /// The identity of an order sent away, 0 to 65,535.
 #[derive(Clone, Copy, Debug, PartialEq, Eq, Hash, PartialOrd, Ord)]

@@ -1,7 +1,8 @@
 //! What happens to a unit, and what it answers.
 
 use crate::away::{Closing, Report, Sending};
-use crate::values::{Contracts, Level, Premium, Reset, Root, Time, UnitOfRoot, Verdict};
+use crate::time::Time;
+use crate::values::{Contracts, Level, Premium, Reset, Root, UnitOfRoot, Verdict};
 
 /// An offered fill.
 #[derive(Clone, Copy, Debug, PartialEq, Eq, Hash)]

@@ -70,6 +70,8 @@ mod record;
 mod refusal;
 mod refused;
 mod rule;
+mod stretch;
+mod time;
 mod unit;
 mod values;
 mod view;
@@ -80,13 +82,15 @@ pub use event::{Answer, Event, Offer};
 pub use memory::Memory;
 pub use profile::PROFILE_MOST;
 pub use raw::SIZE;
-#[cfg(feature = "std")]
-pub use record::RecordWriter;
-pub use record::{Records, RECORD_SIZE};
+pub use record::{narrow, widen, RECORD16_SIZE, RECORD_SIZE};
 pub use refusal::Refusal;
 pub use refused::{ArmRefusal, Refused, RoomRefusal};
 pub use rule::{Measure, Rule, Scope};
+#[cfg(feature = "std")]
+pub use stretch::{Record16Writer, RecordWriter};
+pub use stretch::{Records, Records16};
+pub use time::Time;
 pub use unit::{Adopted, Armed, Status, Unarmed, Unit};
-pub use values::{Contracts, Level, Premium, Reset, Root, Time, UnitOfRoot, Verdict, VerdictText};
+pub use values::{Contracts, Level, Premium, Reset, Root, UnitOfRoot, Verdict, VerdictText};
 pub use view::{Marks, Name};
 pub use words::ParseError;

@@ -3,6 +3,11 @@
 //! Nothing here is unsafe to call: the library checks every number and the whole memory itself. The types of the rest of this
 //! crate are the better way in; these functions are for whoever has numbers, as a comparison with another program does.
 
+mod records;
+
+pub use records::{narrow, read_record, read_record16, widen, write_record, write_record16};
+pub use records::{Event16Numbers, Event16Row, EventNumbers};
+
 /// How many 64-bit numbers the state takes. More may be lent; the rest is neither read nor written.
 pub const SIZE: usize = crate::place::SIZE;
 
@@ -12,13 +17,8 @@ pub type Row = [u64; 5];
 /// A rule: refusal, type, limit, window, root, unit.
 pub type RuleRow = [u64; 6];
 
-/// An event's numbers: kind, time, root, unit, premium, contracts, reset, level. One that its kind does not use is 0.
-pub type EventNumbers = [u64; 8];
-
 mod exported {
     use super::{Row, RuleRow};
-    /// What reading a record answers: the refusal, then the event's numbers.
-    pub type Reading = [u64; 9];
     extern "C" {
         pub fn mbrumzheg_arm(m: *mut u64, len: usize, text: *const u8, text_len: usize, row: *mut Row);
         pub fn mbrumzheg_clear(m: *mut u64, len: usize, row: *mut Row);
@@ -46,20 +46,6 @@ mod exported {
         pub fn mbrumzheg_rule(m: *const u64, len: usize, rule: u64, row: *mut RuleRow);
         pub fn mbrumzheg_profile(m: *const u64, len: usize, room: *mut u8, room_len: usize, row: *mut Row);
         pub fn mbrumzheg_text(verdict: u64, room: *mut u8, len: usize, row: *mut Row);
-        pub fn mbrumzheg_read_record(bytes: *const u8, len: usize, row: *mut Reading);
-        pub fn mbrumzheg_write_record(
-            kind: u64,
-            time: u64,
-            root: u64,
-            unit: u64,
-            premium: u64,
-            contracts: u64,
-            reset: u64,
-            level: u64,
-            room: *mut u8,
-            len: usize,
-            row: *mut Row,
-        );
     }
 }
 
@@ -188,24 +174,5 @@ pub fn profile(memory: &[u64], room: &mut [u8]) -> Row {
 pub fn text(verdict: u64, room: &mut [u8]) -> Row {
     let mut row = [0; 5];
     unsafe { exported::mbrumzheg_text(verdict, room.as_mut_ptr(), room.len(), &mut row) };
-    row
-}
-
-/// Reads an event record: refusal, and the event's numbers (zeros if refused).
-#[inline]
-pub fn read_record(bytes: &[u8]) -> (u64, EventNumbers) {
-    let mut row = [0; 9];
-    unsafe { exported::mbrumzheg_read_record(bytes.as_ptr(), bytes.len(), &mut row) };
-    let [refusal, numbers @ ..] = row;
-    (refusal, numbers)
-}
-
-/// Writes an event's record to the first 12 bytes of the room: refusal.
-#[inline]
-pub fn write_record(event: EventNumbers, room: &mut [u8]) -> Row {
-    let mut row = [0; 5];
-    let [kind, time, root, unit, premium, contracts, reset, level] = event;
-    let (start, len) = (room.as_mut_ptr(), room.len());
-    unsafe { exported::mbrumzheg_write_record(kind, time, root, unit, premium, contracts, reset, level, start, len, &mut row) };
     row
 }

@@ -1,143 +1,128 @@
-//! The 12-byte event record: one event, its fields from the most significant bit on, those that its kind does not use 0. The
-//! library reads and writes it; this file gives its numbers their types.
+//! Event records: one event, its fields from the most significant bit on, those that its kind does not use 0. A record has 16 bytes and its time in
+//! microseconds; one of the old form has 12, its time in milliseconds, and no place for orders sent away. The library reads, writes and moves them; this
+//! file gives their numbers their types.
 //!
 //! ```
-//! use mbrumzheg::{Contracts, Event, Offer, Premium, Root, Time, UnitOfRoot};
-//! let event = Event::Offer(Offer {
-//!     time: Time::from_ms(10)?,
-//!     root: Root::new(0)?,
-//!     unit: UnitOfRoot::CallsFront,
-//!     premium: Premium::from_ten_thousandths(70_000)?,
-//!     contracts: Contracts::new(200)?,
-//! });
-//! let record = event.to_record()?;
-//! assert_eq!(record, [0x40, 0, 0, 0x50, 0, 0x01, 0x11, 0x70, 0, 0x0C, 0x80, 0]);
-//! assert_eq!(Event::from_record(&record), Ok(event));
-//! # Ok::<(), mbrumzheg::Refusal>(())
+//! use mbrumzheg::{narrow, widen, Contracts, Event, Offer, Premium, Refusal, Root, Time, UnitOfRoot};
+//! let offer_at = |time| -> Result<Event, Refusal> {
+//!     let (root, unit, premium) = (Root::new(0)?, UnitOfRoot::CallsFront, Premium::from_ten_thousandths(70_000)?);
+//!     Ok(Event::Offer(Offer { time, root, unit, premium, contracts: Contracts::new(200)? }))
+//! };
+//! let event = offer_at(Time::from_us(10_250)?)?;
+//! let record = event.to_record16()?;
+//! assert_eq!(record, [0x10, 0, 0, 0x14, 0x05, 0, 0, 0x11, 0x17, 0, 0, 0xC8, 0, 0, 0, 0]);
+//! assert_eq!(Event::from_record16(&record), Ok(event));
+//! assert_eq!(narrow(&record), Err(Refusal::Unfit));
+//!
+//! let old = offer_at(Time::from_ms(10)?)?.to_record()?;
+//! assert_eq!(old, [0x40, 0, 0, 0x50, 0, 0x01, 0x11, 0x70, 0, 0x0C, 0x80, 0]);
+//! assert_eq!(widen(&old), offer_at(Time::from_ms(10)?)?.to_record16());
+//! assert_eq!(narrow(&widen(&old)?), Ok(old));
+//! # Ok::<(), Refusal>(())
 //! ```
 
-use crate::away::{Closing, Report, Sending};
+use crate::away::{Closing, Identity, Report, Reports, Sending};
 use crate::event::{Event, Offer};
-use crate::raw::{self, EventNumbers};
+use crate::raw::{self, Event16Numbers};
 use crate::refusal::Refusal;
+use crate::time::Time;
 use crate::unit::accepted;
-use crate::values::{Contracts, Level, Premium, Reset, Root, Time, UnitOfRoot};
-use core::iter::FusedIterator;
-use core::slice::Chunks;
-#[cfg(feature = "std")]
-use std::io::{self, Write};
+use crate::values::{Contracts, Level, Premium, Reset, Root, UnitOfRoot};
 
 /// How many bytes a record has.
+pub const RECORD16_SIZE: usize = 16;
+
+/// How many bytes a record of the old form has.
 pub const RECORD_SIZE: usize = 12;
 
-/// An event's numbers as the library takes them: kind, time, root, unit, premium, contracts, reset, level.
-fn numbers(event: &Event) -> EventNumbers {
+/// An event's numbers as the library takes them: kind, time in microseconds, root, unit, premium, contracts, reset, level, identity, reports.
+fn numbers(event: &Event) -> Event16Numbers {
     match *event {
-        Event::Order { time, root, reset } => [0, time.ms(), root.number(), 0, 0, 0, reset.number(), 0],
+        Event::Order { time, root, reset } => [0, time.us(), root.number(), 0, 0, 0, reset.number(), 0, 0, 0],
         Event::Offer(Offer { time, root, unit, premium, contracts }) => {
-            [1, time.ms(), root.number(), unit.number(), premium.ten_thousandths(), contracts.count(), 0, 0]
+            [1, time.us(), root.number(), unit.number(), premium.ten_thousandths(), contracts.count(), 0, 0, 0, 0]
         }
-        Event::Lockout { time, level } => [2, time.ms(), level.root_number(), 0, 0, 0, 0, level.number()],
-        // kinds that no record of 12 bytes has, which have numbers beside these
-        Event::Send(Sending { time, root, unit, premium, contracts, .. }) => {
-            [3, time.ms(), root.number(), unit.number(), premium.ten_thousandths(), contracts.count(), 0, 0]
+        Event::Lockout { time, level } => [2, time.us(), level.root_number(), 0, 0, 0, 0, level.number(), 0, 0],
+        Event::Send(Sending { time, root, unit, premium, contracts, identity, reports }) => {
+            let (premium, contracts) = (premium.ten_thousandths(), contracts.count());
+            [3, time.us(), root.number(), unit.number(), premium, contracts, 0, 0, identity.number(), reports.count()]
         }
-        Event::Report(Report { time, contracts, .. }) => [4, time.ms(), 0, 0, 0, contracts.count(), 0, 0],
-        Event::Close(Closing { time, .. }) => [5, time.ms(), 0, 0, 0, 0, 0, 0],
+        Event::Report(Report { time, identity, contracts }) => [4, time.us(), 0, 0, 0, contracts.count(), 0, 0, identity.number(), 0],
+        Event::Close(Closing { time, identity }) => [5, time.us(), 0, 0, 0, 0, 0, 0, identity.number(), 0],
     }
 }
 
 /// The event that numbers name, each taken through the constructor that checks its range.
-fn event([kind, time, root, unit, premium, contracts, reset, level]: EventNumbers) -> Result<Event, Refusal> {
-    let time = Time::from_ms(time)?;
-    let root = Root::new(root)?;
+fn event(numbers: Event16Numbers) -> Result<Event, Refusal> {
+    let [kind, time, root, unit, premium, contracts, reset, level, identity, reports] = numbers;
+    let (time, root) = (Time::from_us(time)?, Root::new(root)?);
+    let offer = || -> Result<Offer, Refusal> {
+        let (unit, premium) = (UnitOfRoot::from_number(unit)?, Premium::from_ten_thousandths(premium)?);
+        Ok(Offer { time, root, unit, premium, contracts: Contracts::new(contracts)? })
+    };
+    let identity = || Identity::new(identity);
     match (kind, level) {
         (0, _) => Ok(Event::Order { time, root, reset: Reset::from_number(reset)? }),
-        (1, _) => Ok(Event::Offer(Offer {
-            time,
-            root,
-            unit: UnitOfRoot::from_number(unit)?,
-            premium: Premium::from_ten_thousandths(premium)?,
-            contracts: Contracts::new(contracts)?,
-        })),
+        (1, _) => Ok(Event::Offer(offer()?)),
         (2, 0) => Ok(Event::Lockout { time, level: Level::Root(root) }),
         (2, 1) => Ok(Event::Lockout { time, level: Level::Firm }),
+        (3, _) => {
+            let Offer { unit, premium, contracts, .. } = offer()?;
+            Ok(Event::Send(Sending { time, root, unit, premium, contracts, identity: identity()?, reports: Reports::new(reports)? }))
+        }
+        (4, _) => Ok(Event::Report(Report { time, identity: identity()?, contracts: Contracts::new(contracts)? })),
+        (5, _) => Ok(Event::Close(Closing { time, identity: identity()? })),
         _ => Err(Refusal::FaultyRecord),
     }
 }
 
 impl Event {
-    /// The event's record; [`Refusal::FaultyRecord`] for what 12 bytes have no place for: an order with a reset above [`Reset::Both`], and orders sent away,
-    /// their reports and their closings.
-    pub fn to_record(&self) -> Result<[u8; RECORD_SIZE], Refusal> {
-        let mut room = [0; RECORD_SIZE];
-        accepted(raw::write_record(numbers(self), &mut room)).map(|_| room)
+    /// The event's record. Every event has one, so a refusal would be the library's fault.
+    pub fn to_record16(&self) -> Result<[u8; RECORD16_SIZE], Refusal> {
+        let mut room = [0; RECORD16_SIZE];
+        accepted(raw::write_record16(numbers(self), &mut room)).map(|_| room)
     }
 
     /// The event of a record; [`Refusal::FaultyRecord`] for any bytes that no event has.
+    pub fn from_record16(bytes: &[u8]) -> Result<Event, Refusal> {
+        match raw::read_record16(bytes) {
+            [0, numbers @ .., 0, 0] => event(numbers).map_err(|_| Refusal::FaultyRecord),
+            _ => Err(Refusal::FaultyRecord),
+        }
+    }
+
+    /// The event's record in the old form; [`Refusal::FaultyRecord`] for what 12 bytes have no place for: a time that is not in whole milliseconds, an order
+    /// with a reset above [`Reset::Both`], and orders sent away, their reports and their closings.
+    pub fn to_record(&self) -> Result<[u8; RECORD_SIZE], Refusal> {
+        let [kind, time, numbers @ .., identity, reports] = numbers(self);
+        if time % 1_000 != 0 || identity != 0 || reports != 0 {
+            return Err(Refusal::FaultyRecord);
+        }
+        let [root, unit, premium, contracts, reset, level] = numbers;
+        let mut room = [0; RECORD_SIZE];
+        accepted(raw::write_record([kind, time / 1_000, root, unit, premium, contracts, reset, level], &mut room)).map(|_| room)
+    }
+
+    /// The event of a record of the old form; [`Refusal::FaultyRecord`] for any bytes that no event has.
     pub fn from_record(bytes: &[u8]) -> Result<Event, Refusal> {
         match raw::read_record(bytes) {
-            (0, numbers) => event(numbers).map_err(|_| Refusal::FaultyRecord),
+            (0, [kind, time, root, unit, premium, contracts, reset, level]) => {
+                event([kind, time * 1_000, root, unit, premium, contracts, reset, level, 0, 0]).map_err(|_| Refusal::FaultyRecord)
+            }
             _ => Err(Refusal::FaultyRecord),
         }
     }
 }
 
-/// The records in a stretch of bytes, one after the other; a short last one is refused with 16.
-///
-/// ```
-/// use mbrumzheg::{Event, Level, Records, Refusal, Time};
-/// let event = Event::Lockout { time: Time::START, level: Level::Firm };
-/// let mut bytes = event.to_record().unwrap().to_vec();
-/// bytes.push(0);
-/// assert_eq!(Records::new(&bytes).collect::<Vec<_>>(), [Ok(event), Err(Refusal::FaultyRecord)]);
-/// ```
-#[derive(Clone, Debug)]
-pub struct Records<'a>(Chunks<'a, u8>);
-
-impl<'a> Records<'a> {
-    /// Reads these bytes.
-    pub fn new(bytes: &'a [u8]) -> Records<'a> {
-        Records(bytes.chunks(RECORD_SIZE))
-    }
+/// A record of the old form as one with microseconds; [`Refusal::FaultyRecord`] for any bytes that no event has.
+pub fn widen(bytes: &[u8]) -> Result<[u8; RECORD16_SIZE], Refusal> {
+    let mut room = [0; RECORD16_SIZE];
+    accepted(raw::widen(bytes, &mut room)).map(|_| room)
 }
 
-impl Iterator for Records<'_> {
-    type Item = Result<Event, Refusal>;
-
-    fn next(&mut self) -> Option<Self::Item> {
-        self.0.next().map(Event::from_record)
-    }
-
-    fn size_hint(&self) -> (usize, Option<usize>) {
-        self.0.size_hint()
-    }
-}
-
-impl ExactSizeIterator for Records<'_> {}
-impl FusedIterator for Records<'_> {}
-
-/// Writes events as records, to a file or anything else that takes bytes.
-#[cfg(feature = "std")]
-#[derive(Debug)]
-pub struct RecordWriter<W>(W);
-
-#[cfg(feature = "std")]
-impl<W: Write> RecordWriter<W> {
-    /// Writes to this.
-    pub fn new(to: W) -> RecordWriter<W> {
-        RecordWriter(to)
-    }
-
-    /// Writes one event. One that has no record is an [`InvalidInput`](io::ErrorKind::InvalidInput) with the refusal in it, and writes nothing.
-    pub fn write(&mut self, event: &Event) -> io::Result<()> {
-        let record = event.to_record().map_err(|refusal| io::Error::new(io::ErrorKind::InvalidInput, refusal))?;
-        self.0.write_all(&record)
-    }
-
-    /// Flushes, and gives back what was written to.
-    pub fn finish(mut self) -> io::Result<W> {
-        self.0.flush()?;
-        Ok(self.0)
-    }
+/// A record as one of the old form; [`Refusal::FaultyRecord`] for any bytes that no event has, [`Refusal::Unfit`] for an event that the old form has no
+/// record for.
+pub fn narrow(bytes: &[u8]) -> Result<[u8; RECORD_SIZE], Refusal> {
+    let mut room = [0; RECORD_SIZE];
+    accepted(raw::narrow(bytes, &mut room)).map(|_| room)
 }

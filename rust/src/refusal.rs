@@ -3,7 +3,7 @@
 use core::error::Error;
 use core::fmt;
 
-/// A refusal: its number from 1 to 19, a name and a sentence. A refused call changes nothing in the lent memory.
+/// A refusal: its number from 1 to 20, a name and a sentence. A refused call changes nothing in the lent memory.
 ///
 /// ```
 /// use mbrumzheg::Refusal;
@@ -53,11 +53,13 @@ pub enum Refusal {
     IdentityClash = 18,
     /// 19: more contracts than are open, or no report left.
     OverReported = 19,
+    /// 20: a record that does not fit the old form.
+    Unfit = 20,
 }
 
 impl Refusal {
     /// Every refusal, by number.
-    pub const ALL: [Refusal; 19] = [
+    pub const ALL: [Refusal; 20] = [
         Refusal::NoRoom,
         Refusal::Unsound,
         Refusal::ArmedAlready,
@@ -77,15 +79,16 @@ impl Refusal {
         Refusal::RegisterFull,
         Refusal::IdentityClash,
         Refusal::OverReported,
+        Refusal::Unfit,
     ];
 
-    /// The refusal of a number from 1 to 19.
+    /// The refusal of a number from 1 to 20.
     pub fn from_number(number: u64) -> Option<Refusal> {
         let place = usize::try_from(number.checked_sub(1)?).ok()?;
         Refusal::ALL.get(place).copied()
     }
 
-    /// The number, 1 to 19.
+    /// The number, 1 to 20.
     pub const fn number(self) -> u64 {
         self as u64
     }
@@ -112,6 +115,7 @@ impl Refusal {
             Refusal::RegisterFull => "register full",
             Refusal::IdentityClash => "identity open or not",
             Refusal::OverReported => "more than is open",
+            Refusal::Unfit => "does not fit the old form",
         }
     }
 
@@ -135,10 +139,15 @@ impl Refusal {
                 "the premium is not within $0.0001 to $10,000, the contracts not within 1 to 1,000,000, or the reports not within 1 to 16"
             }
             Refusal::LogFull => "fills inside the longest window and places kept for reports leave too few of the log's 512 places",
-            Refusal::FaultyRecord => "the event record is not 12 bytes, or a field in it is out of range or not 0 where it must be",
+            Refusal::FaultyRecord => {
+                "the event record is not 16 bytes (12 in the old form), or a field in it is out of range or not 0 where it must be"
+            }
             Refusal::RegisterFull => "64 orders sent away are open, so the register has no place for another",
             Refusal::IdentityClash => "an order of this identity is open already or, for a report or a closing, none is",
             Refusal::OverReported => "the report has more contracts than are open, or the order has no report left",
+            Refusal::Unfit => {
+                "the record does not fit the old form: its kind is above 2, its time not in whole milliseconds, or its reset above 3"
+            }
         }
     }
 }

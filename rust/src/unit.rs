@@ -5,7 +5,8 @@ use crate::memory::{Memory, Usual};
 use crate::raw::{self, Row};
 use crate::refusal::Refusal;
 use crate::refused::{ArmRefusal, Refused};
-use crate::values::{Level, Reset, Root, Time, UnitOfRoot, Verdict};
+use crate::time::Time;
+use crate::values::{Level, Reset, Root, UnitOfRoot, Verdict};
 use core::fmt;
 use core::marker::PhantomData;
 

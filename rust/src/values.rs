@@ -5,27 +5,6 @@ use crate::refusal::Refusal;
 use core::fmt;
 use core::ops::Deref;
 
-/// A time of the trading day in milliseconds, 0 to 86,399,999.
-#[derive(Clone, Copy, Debug, PartialEq, Eq, Hash, PartialOrd, Ord)]
-pub struct Time(u32);
-
-impl Time {
-    /// Midnight, where the clock of a newly armed unit stands.
-    pub const START: Time = Time(0);
-    /// The last millisecond of the day.
-    pub const LAST: Time = Time(86_399_999);
-
-    /// A time from milliseconds; [`Refusal::BadTime`] beyond the day.
-    pub fn from_ms(ms: u64) -> Result<Time, Refusal> {
-        in_range(ms, 0, Time::LAST.ms(), Refusal::BadTime).map(Time)
-    }
-
-    /// The milliseconds of the day.
-    pub const fn ms(self) -> u64 {
-        self.0 as u64
-    }
-}
-
 /// The number of a root, 0 to 63, in order of first appearance in the profile.
 #[derive(Clone, Copy, Debug, PartialEq, Eq, Hash, PartialOrd, Ord)]
 pub struct Root(u8);

@@ -4,8 +4,9 @@
 use crate::memory::Memory;
 use crate::place;
 use crate::raw;
+use crate::time::Time;
 use crate::unit::{Armed, Unit};
-use crate::values::{Root, Time};
+use crate::values::Root;
 use core::fmt;
 
 /// The name of a firm or a root: 1 to 6 capitals or digits.

@@ -3,6 +3,7 @@
 //! ```
 //! use mbrumzheg::{Contracts, Identity, Level, Premium, Reports, Reset, Root, Time, UnitOfRoot, Verdict};
 //! assert_eq!("09:30".parse::<Time>()?.to_string(), "09:30:00.000");
+//! assert_eq!("09:30:00.5001".parse::<Time>()?.to_string(), "09:30:00.500100");
 //! assert_eq!("$7.5".parse::<Premium>()?.to_string(), "7.50");
 //! assert_eq!("200".parse::<Contracts>()?.to_string(), "200");
 //! assert_eq!("63".parse::<Root>()?.to_string(), "63");
@@ -17,7 +18,8 @@
 
 use crate::away::{Identity, Reports};
 use crate::refusal::Refusal;
-use crate::values::{Contracts, Level, Premium, Reset, Root, Time, UnitOfRoot, Verdict};
+use crate::time::Time;
+use crate::values::{Contracts, Level, Premium, Reset, Root, UnitOfRoot, Verdict};
 use core::error::Error;
 use core::fmt::{self, Write};
 use core::str::FromStr;
@@ -108,7 +110,11 @@ fn padded(f: &mut fmt::Formatter<'_>, text: fmt::Arguments<'_>) -> fmt::Result {
 impl fmt::Display for Time {
     fn fmt(&self, f: &mut fmt::Formatter<'_>) -> fmt::Result {
         let ms = self.ms();
-        padded(f, format_args!("{:02}:{:02}:{:02}.{:03}", ms / 3_600_000, ms / 60_000 % 60, ms / 1_000 % 60, ms % 1_000))
+        let (hours, minutes, seconds) = (ms / 3_600_000, ms / 60_000 % 60, ms / 1_000 % 60);
+        match self.micros() {
+            0 => padded(f, format_args!("{hours:02}:{minutes:02}:{seconds:02}.{:03}", ms % 1_000)),
+            _ => padded(f, format_args!("{hours:02}:{minutes:02}:{seconds:02}.{:06}", self.us() % 1_000_000)),
+        }
     }
 }
 
@@ -116,17 +122,17 @@ impl FromStr for Time {
     type Err = ParseError;
 
     fn from_str(text: &str) -> Result<Time, ParseError> {
-        let wanted = "time: it is written 09:30, 09:30:00 or 09:30:00.250, and is 00:00 to 23:59:59.999";
-        value(clock_face(text), Time::from_ms, wanted)
+        let wanted = "time: it is written 09:30, 09:30:00, 09:30:00.250 or 09:30:00.250125, and is 00:00 to 23:59:59.999999";
+        value(clock_face(text), Time::from_us, wanted)
     }
 }
 
-/// The milliseconds of hours and minutes, seconds if they are there, and parts of a second.
+/// The microseconds of hours and minutes, seconds if they are there, and parts of a second.
 fn clock_face(text: &str) -> Option<u64> {
     let (hours, rest) = text.split_once(':')?;
     let (minutes, seconds) = rest.split_once(':').unwrap_or((rest, "0"));
-    let (minutes, ms) = (digits(minutes, 2)?, decimal(seconds, 2, 3)?);
-    (minutes < 60 && ms < 60_000).then_some(digits(hours, 2)? * 3_600_000 + minutes * 60_000 + ms)
+    let (minutes, us) = (digits(minutes, 2)?, decimal(seconds, 2, 6)?);
+    (minutes < 60 && us < 60_000_000).then_some(digits(hours, 2)? * 3_600_000_000 + minutes * 60_000_000 + us)
 }
 
 impl fmt::Display for Premium {

@@ -3,8 +3,8 @@ mod common;
 
 use common::{armed, contracts, offer, root, time, ArmedUnit};
 use mbrumzheg::{
-    raw, Adopted, Answer, Closing, Event, Identity, Level, Premium, Refusal, Report, Reports, Reset, Sending, Unit, UnitOfRoot, Verdict,
-    SIZE,
+    narrow, raw, Adopted, Answer, Closing, Event, Identity, Level, Premium, Refusal, Report, Reports, Reset, Sending, Unit, UnitOfRoot,
+    Verdict, SIZE,
 };
 
 fn identity(number: u64) -> Identity {
@@ -207,7 +207,7 @@ fn reports_and_closings_are_refused_in_order() {
 }
 
 #[test]
-fn they_are_events_without_a_record_of_12_bytes() {
+fn they_are_events_whose_record_has_16_bytes() {
     let mut unit = armed("ABCD,abs_vol,XYZ,10");
     let sent = sending(1, 5, 20, 1);
     let reported = Report { time: time(2), identity: identity(5), contracts: contracts(20) };
@@ -220,6 +220,8 @@ fn they_are_events_without_a_record_of_12_bytes() {
     ] {
         assert_eq!((event.time(), event.root(), unit.answer(event)), (time(at), on, Ok(answer)));
         assert_eq!(event.to_record(), Err(Refusal::FaultyRecord));
+        let record = event.to_record16().expect("every event has one");
+        assert_eq!((Event::from_record16(&record), narrow(&record)), (Ok(event), Err(Refusal::Unfit)));
     }
     assert_eq!(
         (Identity::new(65_536), Reports::new(0), Reports::new(17)),

@@ -3,7 +3,8 @@ mod common;
 
 use common::{armed, contracts, offer, root, time, ArmedUnit};
 use mbrumzheg::{
-    Adopted, Armed, Event, Level, Marks, Offer, Premium, RecordWriter, Records, Reset, Status, Unarmed, Unit, UnitOfRoot, Verdict, SIZE,
+    narrow, widen, Adopted, Armed, Event, Level, Marks, Offer, Premium, Record16Writer, Records16, Refusal, Reset, Status, Time, Unarmed,
+    Unit, UnitOfRoot, Verdict, SIZE,
 };
 
 /// Grant, root trip and firm trip of an offer of calls in the front month.
@@ -31,7 +32,7 @@ fn line(unit: &mut ArmedUnit, place: usize, event: Event) -> String {
 
 #[test]
 fn the_example_by_way_of_its_records() {
-    let mut writer = RecordWriter::new(Vec::new());
+    let mut writer = Record16Writer::new(Vec::new());
     for event in [
         Event::Offer(offer(0, UnitOfRoot::CallsFront, 7, 950)),
         Event::Offer(offer(10, UnitOfRoot::CallsFront, 7, 200)),
@@ -40,14 +41,25 @@ fn the_example_by_way_of_its_records() {
         writer.write(&event).expect("memory takes bytes");
     }
     let bytes = writer.finish().expect("memory takes bytes");
-    assert_eq!(bytes[12..24], [0x40, 0, 0, 0x50, 0, 0x01, 0x11, 0x70, 0, 0x0C, 0x80, 0]);
+    assert_eq!(bytes[16..32], [0x10, 0, 0, 0x13, 0x88, 0, 0, 0x11, 0x17, 0, 0, 0xC8, 0, 0, 0, 0]);
+    assert_eq!(narrow(&bytes[16..32]), Ok([0x40, 0, 0, 0x50, 0, 0x01, 0x11, 0x70, 0, 0x0C, 0x80, 0]));
 
     let mut unit = armed("ABCD,abs_vol,XYZ,1000,0");
     let mut lines = vec![format!("armed {} {} {}", unit.firm(), unit.rule_count(), unit.root_count())];
-    for (record, place) in Records::new(&bytes).zip(1..) {
+    for (record, place) in Records16::new(&bytes).zip(1..) {
         lines.push(line(&mut unit, place, record.expect("a good record")));
     }
     assert_eq!(lines, ["armed ABCD 1 1", "1 0 0 950 0 0", "2 0 0 50 1 0", "3 0 2 0 0 0"]);
+}
+
+#[test]
+fn the_unit_goes_by_whole_milliseconds() {
+    let mut unit = armed("ABCD,abs_vol,XYZ,1000,0");
+    for us in [1_999, 1_001, 1_000] {
+        assert_eq!(unit.order(Time::from_us(us).expect("a time"), root(0), Reset::None), Ok(Verdict::Free));
+        assert_eq!(unit.clock(), time(1));
+    }
+    assert_eq!(unit.order(Time::from_us(999).expect("a time"), root(0), Reset::None), Err(Refusal::BadTime));
 }
 
 #[test]
@@ -165,6 +177,8 @@ fn records_of_all_kinds_come_back() {
     }
     for event in events {
         assert_eq!(event.to_record().and_then(|record| Event::from_record(&record)), Ok(event));
+        assert_eq!(event.to_record16().and_then(|record| Event::from_record16(&record)), Ok(event));
+        assert_eq!(event.to_record().and_then(|record| widen(&record)), event.to_record16());
     }
 }
 

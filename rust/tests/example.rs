@@ -1,5 +1,5 @@
 //! The example runs, and a day that is cut in two by a restart goes on as if it had not been.
-use mbrumzheg::{Contracts, Event, Level, Offer, Premium, RecordWriter, Reset, Root, Time, UnitOfRoot};
+use mbrumzheg::{Contracts, Event, Level, Offer, Premium, Record16Writer, Reset, Root, Time, UnitOfRoot};
 use std::path::{Path, PathBuf};
 use std::process::Command;
 use std::{env, fs};
@@ -14,13 +14,13 @@ fn offer(ms: u64, contracts: u64) -> Event {
     })
 }
 
-fn order(ms: u64, reset: Reset) -> Event {
-    Event::Order { time: Time::from_ms(ms).expect("a time"), root: Root::new(0).expect("a root"), reset }
+fn order(us: u64, reset: Reset) -> Event {
+    Event::Order { time: Time::from_us(us).expect("a time"), root: Root::new(0).expect("a root"), reset }
 }
 
 /// The bytes of a day's records.
 fn records(events: &[Event]) -> Vec<u8> {
-    let mut writer = RecordWriter::new(Vec::new());
+    let mut writer = Record16Writer::new(Vec::new());
     events.iter().for_each(|event| writer.write(event).expect("memory takes bytes"));
     writer.finish().expect("memory takes bytes")
 }
@@ -42,16 +42,16 @@ fn a_restart_in_the_middle_of_the_day_changes_nothing() {
     let day = records(&[
         offer(0, 950),
         offer(10, 200),
-        order(20, Reset::None),
-        order(30, Reset::Symbol),
+        order(20_000, Reset::None),
+        order(30_500, Reset::Symbol),
         lockout,
-        order(50, Reset::Firm),
+        order(50_000, Reset::Firm),
         offer(5, 1),
     ]);
     fs::write(folder.join("profile"), "ABCD,abs_vol,XYZ,1000,0").expect("a file");
     fs::write(folder.join("day"), &day).expect("a file");
-    fs::write(folder.join("morning"), &day[..36]).expect("a file");
-    fs::write(folder.join("afternoon"), &day[36..]).expect("a file");
+    fs::write(folder.join("morning"), &day[..48]).expect("a file");
+    fs::write(folder.join("afternoon"), &day[48..]).expect("a file");
 
     let (whole, well) = gateway(&folder, &["profile", "day"]);
     let (morning, _) = gateway(&folder, &["profile", "morning", "state"]);
@@ -68,7 +68,7 @@ fn a_restart_in_the_middle_of_the_day_changes_nothing() {
             "00:00:00.000 fill of 950 call front at 7.00 on XYZ: 950 granted",
             "00:00:00.010 fill of 200 call front at 7.00 on XYZ: 50 granted; the root is locked now",
             "00:00:00.020 order on XYZ: rejected, s: RiskMgmtSymLevel",
-            "00:00:00.030 order on XYZ: sent on",
+            "00:00:00.030500 order on XYZ: sent on",
             "00:00:00.040 lockout of the firm: done",
             "00:00:00.050 order on XYZ: sent on",
             "not passed on: refused with 12: the time is no time of the day, or earlier than the unit's clock",

@@ -1,5 +1,5 @@
 //! What there is without an allocator: a unit on lent memory, records, and values as text. It runs with every choice of features.
-use mbrumzheg::{Adopted, Event, Level, Records, Refusal, Reset, RoomRefusal, Time, Unit, Verdict, PROFILE_MOST, RECORD_SIZE, SIZE};
+use mbrumzheg::{Adopted, Event, Level, Records16, Refusal, Reset, RoomRefusal, Time, Unit, Verdict, PROFILE_MOST, RECORD16_SIZE, SIZE};
 
 #[test]
 fn a_day_on_lent_memory() {
@@ -7,12 +7,12 @@ fn a_day_on_lent_memory() {
     let mut unit = Unit::cleared(&mut lent[..]).expect("long enough").arm("ABCD,abs_vol,XYZ,1000").expect("accepted");
     let root = unit.root_named("XYZ").expect("the profile has it");
     let time: Time = "09:30".parse().expect("a time");
-    let mut day = [0; 2 * RECORD_SIZE];
+    let mut day = [0; 2 * RECORD16_SIZE];
     let events = [Event::Lockout { time, level: Level::Root(root) }, Event::Order { time, root, reset: Reset::None }];
-    for (room, event) in day.chunks_mut(RECORD_SIZE).zip(events) {
-        room.copy_from_slice(&event.to_record().expect("an event that 12 bytes hold"));
+    for (room, event) in day.chunks_mut(RECORD16_SIZE).zip(events) {
+        room.copy_from_slice(&event.to_record16().expect("every event has a record"));
     }
-    let verdicts = Records::new(&day).map(|record| record.and_then(|event| unit.answer(event)).map(|answer| answer.verdict));
+    let verdicts = Records16::new(&day).map(|record| record.and_then(|event| unit.answer(event)).map(|answer| answer.verdict));
     assert!(verdicts.eq([Ok(Verdict::Free), Ok(Verdict::RootLocked)]));
     assert_eq!((unit.firm().as_str(), unit.clock()), ("ABCD", time));
     assert_eq!(lent[SIZE], 9, "what is lent beyond the state is untouched");

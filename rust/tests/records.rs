@@ -1,4 +1,4 @@
-//! The library's records against a packing of bits written here from the scope paper's list of widths.
+//! The library's records of the old form against a packing of bits written here from the scope paper's list of widths.
 use mbrumzheg::{raw, Event, RecordWriter, Records, Refusal, Reset, Root, Time, RECORD_SIZE};
 use std::io::ErrorKind;
 
@@ -103,6 +103,13 @@ fn a_reset_above_3_has_no_record_of_12_bytes() {
         assert_eq!(error.get_ref().and_then(|why| why.downcast_ref()), Some(&Refusal::FaultyRecord));
     }
     assert_eq!(writer.finish().expect("memory takes bytes").len(), 4 * RECORD_SIZE);
+}
+
+#[test]
+fn a_time_between_milliseconds_has_no_record_of_12_bytes() {
+    let order = |us| Event::Order { time: Time::from_us(us).expect("a time"), root: Root::new(7).expect("a root"), reset: Reset::None };
+    assert_eq!([order(1_001), order(1_999)].map(|order| order.to_record()), [Err(Refusal::FaultyRecord); 2]);
+    assert_eq!(order(1_000).to_record().map(|record| raw::read_record(&record).1[1]), Ok(1));
 }
 
 #[test]

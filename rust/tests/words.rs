@@ -31,6 +31,10 @@ fn refused<T: FromStr<Err = mbrumzheg::ParseError> + Debug>(text: &str) -> Refus
 fn what_is_written_is_read_again() {
     for n in (0..86_400_000).step_by(7_919).chain([1, 999, 1_000, 59_999, 60_000, 3_599_999, 86_399_999]) {
         comes_back(Time::from_ms(n).expect("a time"));
+        comes_back(Time::from_us(n * 1_000 + n % 1_000).expect("a time"));
+    }
+    for us in [1, 999, 1_001, 10_250, 86_399_999_999] {
+        comes_back(Time::from_us(us).expect("a time"));
     }
     for n in (1..=100_000_000).step_by(9_973).chain([10, 100, 1_000, 10_000, 99_999_999, 100_000_000]) {
         comes_back(Premium::from_ten_thousandths(n).expect("a premium"));
@@ -59,6 +63,8 @@ fn texts_are_as_a_person_writes_them() {
     let premium = |n| Premium::from_ten_thousandths(n).expect("a premium").to_string();
     assert_eq!([1, 100, 150, 70_000, 100_000_000].map(premium), ["0.0001", "0.01", "0.0150", "7.00", "10000.00"]);
     assert_eq!(Time::from_ms(34_200_250).expect("a time").to_string(), "09:30:00.250");
+    assert_eq!(Time::from_us(34_200_250_125).expect("a time").to_string(), "09:30:00.250125");
+    assert_eq!("09:30:00.0001".parse::<Time>().map(Time::us), Ok(34_200_000_100));
     assert_eq!("9:05:00.5".parse::<Time>(), Time::from_ms(32_700_500).map_err(|_| unreachable!("a time")));
     for text in ["7", "7.0", "$7.0000", "07.00"] {
         assert_eq!(text.parse::<Premium>().map(Premium::ten_thousandths), Ok(70_000), "{text}");
@@ -69,7 +75,20 @@ fn texts_are_as_a_person_writes_them() {
 
 #[test]
 fn other_texts_are_no_values() {
-    none_of::<Time>(&["", "9", "09:60", "09:30:60", "09:30:00.", "09:30:00.0000", "09:30:00:00", "+9:30", "009:30", " 09:30", "9:", ":30"]);
+    none_of::<Time>(&[
+        "",
+        "9",
+        "09:60",
+        "09:30:60",
+        "09:30:00.",
+        "09:30:00.0000000",
+        "09:30:00:00",
+        "+9:30",
+        "009:30",
+        " 09:30",
+        "9:",
+        ":30",
+    ]);
     none_of::<Premium>(&["", "$", ".5", "7.", "7.00000", "7,00", "-7", "+7", "7e2", " 7", "7.5.0", "1234567890123"]);
     none_of::<Contracts>(&["", "1.0", "+1", "-1", "1,000", "one", " 1", "18446744073709551616"]);
     none_of::<Root>(&["", "x", "+1", "-1"]);
@@ -84,7 +103,7 @@ fn other_texts_are_no_values() {
 #[test]
 fn a_number_out_of_range_has_its_refusal() {
     assert_eq!(refused::<Time>("24:00"), Refusal::BadTime);
-    assert_eq!(refused::<Time>("99:59:59.999"), Refusal::BadTime);
+    assert_eq!([refused::<Time>("99:59:59.999999"), refused::<Time>("24:00:00.000001")], [Refusal::BadTime; 2]);
     assert_eq!([refused::<Premium>("0"), refused::<Premium>("10000.0001")], [Refusal::BadAmount; 2]);
     assert_eq!([refused::<Contracts>("0"), refused::<Contracts>("1000001")], [Refusal::BadAmount; 2]);
     assert_eq!([refused::<Reports>("0"), refused::<Reports>("17")], [Refusal::BadAmount; 2]);

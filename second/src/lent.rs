@@ -1,5 +1,8 @@
-//! The second unit over lent numbers: refusals 1 and 2, and what each call should leave in the memory.
+//! The second unit over lent numbers: refusals 1 and 2, and what each call should leave in the memory and the account.
 
+use crate::account::{self, Account};
+use crate::accounted;
+use crate::event::Event;
 use crate::memory::{self, Held};
 use crate::place::{MARK, NUMBERS};
 use crate::unit::Unit;
@@ -105,6 +108,20 @@ impl Lent {
         }
     }
 
+    /// An event over these numbers and those of an account, which may be short or have figures above the most.
+    pub fn accounted(&mut self, account: &mut [u64], event: Event) -> Row {
+        if account.len() < account::NUMBERS {
+            return refused(1);
+        }
+        let refusal = self.refusal();
+        if refusal != 0 {
+            return refused(refusal);
+        }
+        let Some(kept) = Account::read(account) else { return refused(2) };
+        let row = accounted::run(&mut self.unit, kept, account, event);
+        self.keep(row)
+    }
+
     /// The refusals that the memory decides, in their order: 1, 4, 2; 0 for none.
     fn refusal(&mut self) -> u64 {
         if self.length < NUMBERS {
@@ -141,6 +158,6 @@ impl Lent {
 }
 
 /// The row of a refusal.
-fn refused(refusal: u64) -> Row {
+pub(crate) fn refused(refusal: u64) -> Row {
     [refusal, 0, 0, 0, 0]
 }

@@ -2,17 +2,25 @@
 //!
 //! It keeps its state in ordinary Rust values and favours plain steps over speed.
 
+pub mod account;
+pub mod accounted;
 mod answers;
 mod away;
 mod calls;
 mod counting;
+pub mod event;
+mod fields;
+pub mod figures;
 pub mod gen;
 pub mod lent;
 pub mod memory;
+pub mod moving;
 pub mod place;
 pub mod profile;
 pub mod profile_out;
+pub mod program;
 pub mod records;
+pub mod records16;
 pub mod register;
 mod rule;
 mod state;

@@ -1,13 +1,14 @@
 //! Event records of 12 bytes, most significant bit first.
 
+use crate::fields;
 use crate::{is_contracts, is_premium, is_time};
 
 /// The bytes of a record.
 pub const BYTES: usize = 12;
 /// The refusal of a faulty record.
-const FAULTY: u64 = 16;
+pub(crate) const FAULTY: u64 = 16;
 /// The refusal of too little room.
-const SHORT: u64 = 1;
+pub(crate) const SHORT: u64 = 1;
 
 /// The kind of an order.
 pub const ORDER: u64 = 0;
@@ -17,7 +18,7 @@ pub const OFFER: u64 = 1;
 pub const LOCKOUT: u64 = 2;
 
 /// The widths of kind, time, root, unit, premium, contracts, reset, level and spare, in bits.
-const WIDTHS: [u32; 9] = [2, 27, 6, 2, 27, 20, 2, 1, 9];
+pub(crate) const WIDTHS: [u32; 9] = [2, 27, 6, 2, 27, 20, 2, 1, 9];
 
 /// The fields of one record; a field that the kind doesn't use is 0.
 #[derive(Clone, Copy, Debug, Default, PartialEq, Eq)]
@@ -30,6 +31,13 @@ pub struct Record {
     pub contracts: u64,
     pub reset: u64,
     pub level: u64,
+}
+
+impl Record {
+    /// The fields in the order of their widths, the spare bits 0.
+    fn fields(&self) -> [u64; WIDTHS.len()] {
+        [self.kind, self.time, self.root, self.unit, self.premium, self.contracts, self.reset, self.level, 0]
+    }
 }
 
 /// The answer of reading: the refusal and the fields, all 0 if refused.
@@ -47,7 +55,7 @@ impl ReadAnswer {
     }
 }
 
-/// The answer of writing: the refusal alone.
+/// The answer of writing or moving: the refusal alone.
 #[derive(Clone, Copy, Debug, PartialEq, Eq)]
 pub struct WriteAnswer {
     pub refusal: u64,
@@ -57,6 +65,11 @@ impl WriteAnswer {
     /// The refusal.
     pub fn numbers(&self) -> [u64; 1] {
         [self.refusal]
+    }
+
+    /// The refusal in a row of five.
+    pub fn row(&self) -> [u64; 5] {
+        [self.refusal, 0, 0, 0, 0]
     }
 }
 
@@ -73,49 +86,33 @@ pub fn write(record: &Record, room: &mut [u8]) -> WriteAnswer {
     if !is_good(record) {
         return WriteAnswer { refusal: FAULTY };
     }
-    if room.len() < BYTES {
-        return WriteAnswer { refusal: SHORT };
-    }
-    room[..BYTES].copy_from_slice(&packed(record));
+    put(packed(record), room)
+}
+
+/// Writes the bytes of a record to the start of the room, if it is not short.
+pub(crate) fn put<const N: usize>(bytes: [u8; N], room: &mut [u8]) -> WriteAnswer {
+    let Some(start) = room.get_mut(..N) else { return WriteAnswer { refusal: SHORT } };
+    start.copy_from_slice(&bytes);
     WriteAnswer { refusal: 0 }
 }
 
 /// The fields of twelve bytes whose spare bits are 0.
 fn read_fields(bytes: &[u8]) -> Option<Record> {
-    let bytes: [u8; BYTES] = bytes.try_into().ok()?;
-    let whole = bytes.iter().fold(0u128, |number, byte| number << 8 | u128::from(*byte));
-    let mut left = 8 * BYTES as u32;
-    let mut fields = [0u64; WIDTHS.len()];
-    for (field, width) in fields.iter_mut().zip(WIDTHS) {
-        left -= width;
-        *field = (whole >> left & ((1 << width) - 1)) as u64;
-    }
-    let [kind, time, root, unit, premium, contracts, reset, level, spare] = fields;
-    if spare != 0 {
+    if bytes.len() != BYTES {
         return None;
     }
-    Some(Record { kind, time, root, unit, premium, contracts, reset, level })
+    let [kind, time, root, unit, premium, contracts, reset, level, spare] = fields::parted(bytes, WIDTHS);
+    (spare == 0).then_some(Record { kind, time, root, unit, premium, contracts, reset, level })
 }
 
 /// The fields side by side in twelve bytes; of a number too wide for its field the low bits stand.
-pub(crate) fn packed(r: &Record) -> [u8; BYTES] {
-    let fields = [r.kind, r.time, r.root, r.unit, r.premium, r.contracts, r.reset, r.level, 0];
-    let low_bits = |field: u64, width: u32| u128::from(field & ((1 << width) - 1));
-    let whole = fields.iter().zip(WIDTHS).fold(0, |number, (field, width)| number << width | low_bits(*field, width));
-    let mut bytes = [0; BYTES];
-    bytes.copy_from_slice(&whole.to_be_bytes()[16 - BYTES..]);
-    bytes
+pub(crate) fn packed(record: &Record) -> [u8; BYTES] {
+    fields::packed(record.fields(), WIDTHS)
 }
 
 /// Does each field fit its width, and does the kind allow it?
 fn is_good(record: &Record) -> bool {
-    fits(record) && is_time(record.time) && allows(record)
-}
-
-/// Is no number too wide for its field?
-fn fits(r: &Record) -> bool {
-    let fields = [r.kind, r.time, r.root, r.unit, r.premium, r.contracts, r.reset, r.level];
-    fields.iter().zip(WIDTHS).all(|(field, width)| *field < 1 << width)
+    fields::fit(record.fields(), WIDTHS) && is_time(record.time) && allows(record)
 }
 
 /// Are the fields that the kind uses in range, and the others 0?

@@ -15,6 +15,7 @@ fn same_seed_same_output() {
         assert_eq!(gen::events(seed, 200, 3), gen::events(seed, 200, 3));
         assert_eq!(gen::events_near(seed, 200, &text), gen::events_near(seed, 200, &text));
         assert_eq!(gen::records(seed, 200, &text), gen::records(seed, 200, &text));
+        assert_eq!(gen::records16(seed, 200, &text), gen::records16(seed, 200, &text));
         assert_eq!(gen::day(seed, 200), gen::day(seed, 200));
         assert_ne!(gen::events(seed, 200, 3), gen::events(seed + 1, 200, 3));
     }

@@ -45,7 +45,8 @@ def read_rattle(crate, path, text):
         if ghost:
             file.imports.update({here: (ghost.group(1), there) for here, there in names_in(ghost.group(2))})
         elif use:
-            file.imports[use.group(2)] = (f"Rattle.{use.group(1)}.specs.declared.{use.group(2)}", use.group(2))
+            owner = crate if use.group(1) == "crate" else use.group(1)
+            file.imports[use.group(2)] = (f"Rattle.{owner}.specs.declared.{use.group(2)}", use.group(2))
         if text.startswith("//"):
             comment.append(text.lstrip("/").strip())
             if not file.items and at == len(comment) - 1:

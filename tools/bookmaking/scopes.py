@@ -8,7 +8,7 @@ TOKEN = re.compile(r'"(?:[^"\\]|\\.)*"|[(){};,⌜⌝]|[^\s(){};,⌜⌝"]+')
 WORDS = {"→", "×", "=", ":", "λ", "let", "in", "record", "where", "_", "Type", "⊥", "Unit", "tt", "absurd", "unfolding", "..", "|", "pub", "data",
          "unfoldable", "abbrev", "now", "entry", "exit", "module"}
 OPEN, CLOSE = ("(", "{", "⌜"), (")", "}", "⌝")
-NUMBER = re.compile(r"^[0-9][0-9_]*$")
+NUMBER = re.compile(r"^(?:0x[0-9A-F]+|[0-9][0-9_]*)$")
 
 
 def tokens(lines):

@@ -7,6 +7,7 @@ use native.Mathlib.Omega.{arith}
 use lib.ListN.{length, take, drop, length-append, length-drop}
 use lib.Seq.{take-append-le, drop-append-le}
 use Rattle.tables.specs.Inner.Tables.{places}
+use Rattle.records.specs.Event16.{bytes16}
 use Rattle.answering.specs.Lines.{recordLine}
 use Rattle.answering.specs.Run.{recordAnswer, recordMemory, recordCount, firstRecords, recordsOf, fitting, taken, memoryAfter, linesOf}
 
@@ -27,26 +28,26 @@ lines-append place xs (s ∷ rs) ts =
     ∙ sym (append-assoc line (linesOf (place + 1) (recordMemory xs s) rs) (linesOf (place + suc (length rs)) after ts))
 
 -- whole records in front
-places-append : (n k : ℕ) (a b : List ℕ) → length a ≡ n * 12
-    → places 12 (take 12) (n + k) (a ++ b) ≡ places 12 (take 12) n a ++ places 12 (take 12) k b
+places-append : (n k : ℕ) (a b : List ℕ) → length a ≡ n * bytes16
+    → places bytes16 (take bytes16) (n + k) (a ++ b) ≡ places bytes16 (take bytes16) n a ++ places bytes16 (take bytes16) k b
 unfolding places
-places-append zero k [] b h = ap (λ (j : ℕ). places 12 (take 12) j b) (zero-add k)
+places-append zero k [] b h = ap (λ (j : ℕ). places bytes16 (take bytes16) j b) (zero-add k)
 places-append zero k (x ∷ a) b h = absurd (omega arith)
 places-append (suc n) k a b h =
-    let twelve : 12 ≤ length a = omega arith in
-    rw (suc-add n k, take-append-le 12 a b twelve, drop-append-le 12 a b twelve)
-    (ap (λ (l : List (List ℕ)). take 12 a ∷ l) (places-append n k (drop 12 a) b (omega (arith, length-drop 12 a))))
+    let sixteen : bytes16 ≤ length a = omega arith in
+    rw (suc-add n k, take-append-le bytes16 a b sixteen, drop-append-le bytes16 a b sixteen)
+    (ap (λ (l : List (List ℕ)). take bytes16 a ∷ l) (places-append n k (drop bytes16 a) b (omega (arith, length-drop bytes16 a))))
 
-pub records-append : (n : ℕ) (a b : List ℕ) → length a ≡ n * 12 → recordsOf (a ++ b) ≡ recordsOf a ++ recordsOf b
+pub records-append : (n : ℕ) (a b : List ℕ) → length a ≡ n * bytes16 → recordsOf (a ++ b) ≡ recordsOf a ++ recordsOf b
 unfolding recordsOf firstRecords recordCount
 records-append n a b h =
     let all : recordCount (length (a ++ b)) ≡ n + recordCount (length b) = omega (arith, length-append a b) in
     let front : recordCount (length a) ≡ n = omega arith in
-    ap (λ (k : ℕ). places 12 (take 12) k (a ++ b)) all ∙ places-append n (recordCount (length b)) a b h
-    ∙ ap (λ (k : ℕ). places 12 (take 12) k a ++ places 12 (take 12) (recordCount (length b)) b) (sym front)
+    ap (λ (k : ℕ). places bytes16 (take bytes16) k (a ++ b)) all ∙ places-append n (recordCount (length b)) a b h
+    ∙ ap (λ (k : ℕ). places bytes16 (take bytes16) k a ++ places bytes16 (take bytes16) (recordCount (length b)) b) (sym front)
 
 -- a piece of whole records, and then the rest of the input
-pub pieces : (place n : ℕ) (xs a b : List ℕ) → length a ≡ n * 12
+pub pieces : (place n : ℕ) (xs a b : List ℕ) → length a ≡ n * bytes16
     → (linesOf place xs (recordsOf (a ++ b)) ≡ linesOf place xs (recordsOf a) ++ linesOf (place + length (recordsOf a)) (memoryAfter xs (recordsOf a)) (recordsOf b))
     × (memoryAfter xs (recordsOf (a ++ b)) ≡ memoryAfter (memoryAfter xs (recordsOf a)) (recordsOf b))
 pieces place n xs a b h =

@@ -11,23 +11,24 @@ use lib.Seq.{sets, sets-eq, length-sets, take-all, drop-drop}
 use Rattle.text.proofs.Written.{sets-append}
 use Rattle.tables.specs.Inner.Tables.{places}
 use Rattle.profile.specs.declared.Reading.{Reading as Arming}
+use Rattle.records.specs.Event16.{bytes16}
 use Rattle.answering.specs.Lines.{armLine, recordLine}
 use Rattle.answering.specs.Run.{Line, inFront, isArmed, openedOf, recordAnswer, recordMemory, recordCount, recordAt, firstRecords, fitting, taken, memoryAfter, linesOf, ranOf}
 use Rattle.answering.specs.declared.Opened.{Opened}
 use Rattle.answering.specs.declared.Ran.{Ran}
 
--- at most twelve bytes of what is left
-pub twelve : (l : List ℕ) → take (min (length l) 12) l ≡ take 12 l
-twelve l = go (decLe (length l) 12)
+-- at most 16 bytes of what is left
+pub sixteen : (l : List ℕ) → take (min (length l) bytes16) l ≡ take bytes16 l
+sixteen l = go (decLe (length l) bytes16)
   where
-    go : Dec (length l ≤ 12) → take (min (length l) 12) l ≡ take 12 l
-    go (yes h) = rw (min-eq-left h) (take-all (length l) l (omega arith) ∙ sym (take-all 12 l h))
+    go : Dec (length l ≤ bytes16) → take (min (length l) bytes16) l ≡ take bytes16 l
+    go (yes h) = rw (min-eq-left h) (take-all (length l) l (omega arith) ∙ sym (take-all bytes16 l h))
     go (no h) =
-        let k : 12 ≤ length l = omega arith in
+        let k : bytes16 ≤ length l = omega arith in
         rw (min-eq-right k)
 
 -- the number of records that fit stands for that many records, lines and places
-pub fitting-records : (place bytes room j : ℕ) → j < fitting place bytes room → j * 12 < bytes
+pub fitting-records : (place bytes room j : ℕ) → j < fitting place bytes room → j * bytes16 < bytes
 unfolding fitting recordCount
 fitting-records place bytes room j h = omega arith
 
@@ -41,18 +42,18 @@ fitting-places place bytes room h = omega arith
 
 -- the records of the first `count` from j on
 unfoldable pub left : List ℕ → ℕ → ℕ → List (List ℕ)
-left s count j = firstRecords (count - j) (drop (j * 12) s)
+left s count j = firstRecords (count - j) (drop (j * bytes16) s)
 
 left-all : (s : List ℕ) (count : ℕ) → left s count 0 ≡ firstRecords count s
 unfolding left
-left-all s count = ap₂ (λ (n k : ℕ). firstRecords n (drop k s)) (sub-zero count) (zero-mul 12)
+left-all s count = ap₂ (λ (n k : ℕ). firstRecords n (drop k s)) (sub-zero count) (zero-mul bytes16)
 
 left-on : (s : List ℕ) (count j : ℕ) → j < count → left s count j ≡ recordAt s j ∷ left s count (j + 1)
 unfolding left firstRecords places
 left-on s count j h =
     let n : count - j ≡ suc (count - (j + 1)) = omega arith in
-    let k : j * 12 + 12 ≡ (j + 1) * 12 = omega arith in
-    rw n (ap (λ (l : List ℕ). take 12 (drop (j * 12) s) ∷ places 12 (take 12) (count - (j + 1)) l) (drop-drop 12 (j * 12) s ∙ ap (λ (i : ℕ). drop i s) k))
+    let k : j * bytes16 + bytes16 ≡ (j + 1) * bytes16 = omega arith in
+    rw n (ap (λ (l : List ℕ). take bytes16 (drop (j * bytes16) s) ∷ places bytes16 (take bytes16) (count - (j + 1)) l) (drop-drop bytes16 (j * bytes16) s ∙ ap (λ (i : ℕ). drop i s) k))
 
 left-none : (s : List ℕ) (count j : ℕ) → count ≤ j → left s count j ≡ []
 unfolding left firstRecords places

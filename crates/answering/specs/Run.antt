@@ -6,15 +6,16 @@ use lib.ListN.{length, take, drop}
 use Rattle.tables.specs.Inner.Tables.{places}
 use Rattle.profile.specs.declared.Reading.{Reading as Arming}
 use Rattle.profile.specs.declared.Reading.the-variants.{Accepted, Refused as NotArmed}
-use Rattle.machine.specs.Calls.{Call, order, lockout, offer}
+use Rattle.machine.specs.Calls.{Call, order, lockout, offer, send, report, close}
+use Rattle.machine.specs.declared.Offer.{Offer as Offered}
 use Rattle.machine.specs.declared.Answer.{Answer}
 use Rattle.machine.specs.declared.Answer.the-variants.{Refused}
 use Rattle.calls.specs.Calls.{callAnswer, callMemory}
-use Rattle.records.specs.Event.{readOf, readRefusal}
-use Rattle.records.specs.declared.Event.{Event}
-use Rattle.records.specs.declared.Event.the-variants.{Order, Offer, Lockout}
-use Rattle.records.specs.declared.Reading.{Reading}
-use Rattle.records.specs.declared.Reading.the-variants.{Is, Faulty}
+use Rattle.records.specs.Event16.{bytes16, read16Of, read16Refusal}
+use Rattle.records.specs.declared.Event16.{Event16}
+use Rattle.records.specs.declared.Event16.the-variants.{Order, Offer, Lockout, Sending, Report, Closing}
+use Rattle.records.specs.declared.Reading16.{Reading16}
+use Rattle.records.specs.declared.Reading16.the-variants.{Is, Faulty}
 use Rattle.answering.specs.Lines.{armLine, recordLine}
 use Rattle.answering.specs.declared.Opened.{Opened}
 use Rattle.answering.specs.declared.Ran.{Ran}
@@ -45,40 +46,52 @@ isArmed (NotArmed number line) = false
 unfoldable pub openedOf : Arming → Opened
 openedOf arming = record { armed = isArmed arming; bytes = length (armLine arming) }
 
--- the call that an event asks for
-unfoldable pub callOf : Event → Call
-callOf (Order time root reset) = order time root reset
-callOf (Offer time root unit premium contracts) =
-    offer (record { time = time; root = root; unit = unit; premium = premium; contracts = contracts })
-callOf (Lockout time level root) = lockout time level root
+-- microseconds in whole milliseconds: the remainder is dropped
+abbrev pub milliseconds : ℕ → ℕ
+milliseconds time = time / 1000
+
+-- an offer, or an order to be sent away, at a time in microseconds
+abbrev pub offered : ℕ → ℕ → ℕ → ℕ → ℕ → Offered
+offered time root unit premium contracts =
+    record { time = milliseconds time; root = root; unit = unit; premium = premium; contracts = contracts }
+
+-- the call that an event asks for: a record counts microseconds, a call whole milliseconds
+unfoldable pub callOf : Event16 → Call
+callOf (Order time root reset) = order (milliseconds time) root reset
+callOf (Offer time root unit premium contracts) = offer (offered time root unit premium contracts)
+callOf (Lockout time level root) = lockout (milliseconds time) level root
+callOf (Sending time root unit premium contracts identity reports) =
+    send (offered time root unit premium contracts) identity reports
+callOf (Report time identity contracts) = report (milliseconds time) identity contracts
+callOf (Closing time identity) = close (milliseconds time) identity
 
 -- what a record is answered: what its event's call is, or 16
-unfoldable pub readingAnswer : List ℕ → Reading → Answer
+unfoldable pub readingAnswer : List ℕ → Reading16 → Answer
 readingAnswer xs (Is e) = callAnswer xs (callOf e)
-readingAnswer xs Faulty = Refused (readRefusal Faulty)
+readingAnswer xs Faulty = Refused (read16Refusal Faulty)
 
 -- the memory after a record: a faulty one changes nothing
-unfoldable pub memoryOf : List ℕ → Reading → List ℕ
+unfoldable pub memoryOf : List ℕ → Reading16 → List ℕ
 memoryOf xs (Is e) = callMemory xs (callOf e)
 memoryOf xs Faulty = xs
 
 abbrev pub recordAnswer : List ℕ → List ℕ → Answer
-recordAnswer xs s = readingAnswer xs (readOf s)
+recordAnswer xs s = readingAnswer xs (read16Of s)
 
 abbrev pub recordMemory : List ℕ → List ℕ → List ℕ
-recordMemory xs s = memoryOf xs (readOf s)
+recordMemory xs s = memoryOf xs (read16Of s)
 
--- how many records an input has: one for each twelve bytes, and one for what is left at its end
+-- how many records an input has: one for each 16 bytes, and one for what is left at its end
 unfoldable pub recordCount : ℕ → ℕ
-recordCount bytes = bytes / 12 + (bytes % 12 + 11) / 12
+recordCount bytes = bytes / bytes16 + (bytes % bytes16 + (bytes16 - 1)) / bytes16
 
--- record j of an input: twelve bytes, or what is left of them
+-- record j of an input: 16 bytes, or what is left of them
 abbrev pub recordAt : List ℕ → ℕ → List ℕ
-recordAt s j = take 12 (drop (j * 12) s)
+recordAt s j = take bytes16 (drop (j * bytes16) s)
 
--- the first so many records of an input: twelve bytes each, the last may be shorter
+-- the first so many records of an input: 16 bytes each, the last may be shorter
 unfoldable pub firstRecords : ℕ → List ℕ → List (List ℕ)
-firstRecords count s = places 12 (take 12) count s
+firstRecords count s = places bytes16 (take bytes16) count s
 
 unfoldable pub recordsOf : List ℕ → List (List ℕ)
 recordsOf s = firstRecords (recordCount (length s)) s

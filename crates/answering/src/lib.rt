@@ -5,16 +5,23 @@ ghost use lib.ListN.{length};
 ghost use lib.Seq.{sets};
 ghost use Rattle.calls.specs.Calls.{armAnswer, armMemory, callAnswer, callMemory};
 ghost use Rattle.profile.specs.declared.Reading.the-variants.{Accepted, Refused as NotArmed};
+ghost use Rattle.records.specs.Event16.{bytes16};
 ghost use Rattle.answering.specs.Lines.{spaced, armLine, recordLine};
-ghost use Rattle.answering.specs.Run.{Line, FitsRoom, Fitted, inFront, openedOf, callOf, recordAnswer, recordMemory, recordAt, fitting as fittingOf, taken, memoryAfter, linesOf, ranOf};
+ghost use Rattle.answering.specs.Run.{Line, FitsRoom, Fitted, inFront, openedOf, milliseconds as millisecondsOf, offered as offeredOf, callOf, recordAnswer, recordMemory, recordAt, fitting as fittingOf, taken, memoryAfter, linesOf, ranOf};
 use machine::Answer;
 use machine::Offer;
 use profile::Reading as Arming;
-use records::Event;
-use records::Reading;
+use records::Event16;
+use records::Reading16;
 
 // How many numbers the memory takes that a program lends.
 pub const SIZE: usize = calls::SIZE;
+
+// How many bytes a record of an input has.
+pub const RECORD_BYTES: usize = records::BYTES16;
+
+// One byte less: any part of a record counts as one.
+const PART: usize = RECORD_BYTES - 1;
 
 // Whether the unit is armed, and how many bytes the line about it has.
 pub struct Opened {
@@ -105,30 +112,61 @@ fn put_line(place: u64, answer: Answer, room: &mut [u8], at: usize) -> usize
     put_spaced(&row, room, next)
 }
 
-// Answers an event in memory.
-fn answer_event(m: &mut [u64], e: Event) -> Answer
+// Microseconds in whole milliseconds: the remainder is dropped.
+fn milliseconds(time: u64) -> u64
+    ensures { λ r. ⌜ r ≡ millisecondsOf time ⌝ }
+{
+    time / 1000
+}
+
+// An offer, or an order to be sent away, at a time in microseconds.
+fn offered(time: u64, root: u64, unit: u64, premium: u64, contracts: u64) -> Offer
+    ensures { λ r. ⌜ r ≡ offeredOf time root unit premium contracts ⌝ }
+{
+    Offer {
+        time: milliseconds(time),
+        root,
+        unit,
+        premium,
+        contracts,
+    }
+}
+
+// Answers an event in memory: the rules count in whole milliseconds.
+fn answer_event(m: &mut [u64], e: Event16) -> Answer
     ensures { λ r. ⌜ r ≡ callAnswer (now (m .entry)) (callOf e) ⌝ }
     ensures { λ r. ⌜ now (m .exit) ≡ callMemory (now (m .entry)) (callOf e) ⌝ }
 {
     match e {
-        Event::Order { time, root, reset } => calls::order(m, time, root, reset),
-        Event::Offer {
+        Event16::Order { time, root, reset } => calls::order(m, milliseconds(time), root, reset),
+        Event16::Offer {
             time,
             root,
             unit,
             premium,
             contracts,
-        } => {
-            let o = Offer {
-                time,
-                root,
-                unit,
-                premium,
-                contracts,
-            };
-            calls::offer(m, o)
+        } => calls::offer(m, offered(time, root, unit, premium, contracts)),
+        Event16::Lockout { time, level, root } => {
+            calls::lockout(m, milliseconds(time), level, root)
         }
-        Event::Lockout { time, level, root } => calls::lockout(m, time, level, root),
+        Event16::Sending {
+            time,
+            root,
+            unit,
+            premium,
+            contracts,
+            identity,
+            reports,
+        } => {
+            let o = offered(time, root, unit, premium, contracts);
+            calls::send(m, o, identity, reports)
+        }
+        Event16::Report {
+            time,
+            identity,
+            contracts,
+        } => calls::report(m, milliseconds(time), identity, contracts),
+        Event16::Closing { time, identity } => calls::close(m, milliseconds(time), identity),
     }
 }
 
@@ -137,21 +175,21 @@ pub fn answer_record(m: &mut [u64], s: &[u8]) -> Answer
     ensures { λ r. ⌜ r ≡ recordAnswer (now (m .entry)) (now (s .entry)) ⌝ }
     ensures { λ r. ⌜ now (m .exit) ≡ recordMemory (now (m .entry)) (now (s .entry)) ⌝ }
 {
-    let reading = records::read(s);
+    let reading = records::read16(s);
     match reading {
-        Reading::Is(e) => answer_event(m, e),
-        Reading::Faulty => Answer::Refused(16),
+        Reading16::Is(e) => answer_event(m, e),
+        Reading16::Faulty => Answer::Refused(16),
     }
 }
 
-// Record j of an input: twelve bytes, or what is left of them.
+// Record j of an input: 16 bytes, or what is left of them.
 fn record_at(s: &[u8], j: usize) -> &[u8]
-    requires { ⌜ j * 12 < length (now s) ⌝ }
+    requires { ⌜ j * bytes16 < length (now s) ⌝ }
     ensures { λ r. ⌜ now r ≡ recordAt (now (s .entry)) j ⌝ }
 {
-    let from = j * 12;
+    let from = j * RECORD_BYTES;
     let left = s.len() - from;
-    let to = from + numbers::least(left as u64, 12) as usize;
+    let to = from + numbers::least(left as u64, RECORD_BYTES as u64) as usize;
     &s[from..to]
 }
 
@@ -159,7 +197,7 @@ fn record_at(s: &[u8], j: usize) -> &[u8]
 fn fitting(place: u64, bytes: usize, room: usize) -> usize
     ensures { λ r. ⌜ r ≡ fittingOf place bytes room ⌝ }
 {
-    let records = bytes / 12 + (bytes % 12 + 11) / 12;
+    let records = bytes / RECORD_BYTES + (bytes % RECORD_BYTES + PART) / RECORD_BYTES;
     let lines = numbers::least(records as u64, (room / 126) as u64);
     numbers::least(lines, u64::MAX - place) as usize
 }

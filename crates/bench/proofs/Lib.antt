@@ -4,6 +4,7 @@ pub mod Computed
 pub mod Bench
 pub mod Tried
 pub mod Rewritten
+pub mod Records
 pub mod Contracts
 pub mod Witness
 pub mod ShutOut

@@ -13,13 +13,10 @@ use Rattle.views.specs.declared.Listing.{Listing}
 use Rattle.views.specs.declared.Listing.the-variants.{Written as Listed, Short, Refused as NotListed}
 use Rattle.views.specs.declared.Told.{Told}
 use Rattle.views.specs.declared.Told.the-variants.{Rule, Refused as NotTold}
-use lib.ListN.{take}
-use Rattle.records.specs.Form.{written}
-use Rattle.records.specs.Event.{valuesOf, form, wroteOf, readRefusal, writeRefusal}
-use Rattle.records.specs.declared.Reading.{Reading as Event}
-use Rattle.records.specs.declared.Reading.the-variants.{Is, Faulty}
+use Rattle.records.specs.Event.{writeRefusal}
+use Rattle.records.specs.Moves.{moveRefusal}
 use Rattle.records.specs.declared.Writing.{Writing}
-use Rattle.records.specs.declared.Writing.the-variants.{Faulty as Invalid}
+use Rattle.records.specs.declared.Moving.{Moving}
 
 -- Arm: refusal, line, firm, rules, roots
 unfoldable pub armRow : Reading → List ℕ
@@ -52,25 +49,20 @@ listingRow (Listed size) = 0 ∷ size ∷ 0 ∷ 0 ∷ 0 ∷ []
 listingRow (Short size) = 1 ∷ size ∷ 0 ∷ 0 ∷ 0 ∷ []
 listingRow (NotListed number) = number ∷ 0 ∷ 0 ∷ 0 ∷ 0 ∷ []
 
--- an event record read: refusal, kind, time, root, unit, premium, contracts, reset, level
-unfoldable pub eventRow : Event → List ℕ
-eventRow (Is e) = 0 ∷ take 8 (valuesOf e)
-eventRow Faulty = readRefusal Faulty ∷ 0 ∷ 0 ∷ 0 ∷ 0 ∷ 0 ∷ 0 ∷ 0 ∷ 0 ∷ []
-
 -- an event's numbers as the fields of a record, its spare bits 0
 abbrev pub eventFields : ℕ → ℕ → ℕ → ℕ → ℕ → ℕ → ℕ → ℕ → List ℕ
 eventFields kind time root unit premium contracts reset level =
     kind ∷ time ∷ root ∷ unit ∷ premium ∷ contracts ∷ reset ∷ level ∷ 0 ∷ []
 
--- writing what fields are read as: 16 if they are no valid event's, and the room is as it was
-unfoldable pub writingOf : Event → ℕ → Writing
-writingOf (Is e) room = wroteOf e room
-writingOf Faulty room = Invalid
-
-unfoldable pub roomOf : Event → List ℕ → List ℕ
-roomOf (Is e) room = written form e room
-roomOf Faulty room = room
+-- the same of a record of 16 bytes
+abbrev pub fields16Of : ℕ → ℕ → ℕ → ℕ → ℕ → ℕ → ℕ → ℕ → ℕ → ℕ → List ℕ
+fields16Of kind time root unit premium contracts reset level identity reports =
+    kind ∷ time ∷ root ∷ unit ∷ premium ∷ contracts ∷ reset ∷ level ∷ identity ∷ reports ∷ 0 ∷ []
 
 -- an event record written: refusal
 unfoldable pub writingRow : Writing → List ℕ
 writingRow writing = writeRefusal writing ∷ 0 ∷ 0 ∷ 0 ∷ 0 ∷ []
+
+-- an event record moved to the other form: refusal
+unfoldable pub movingRow : Moving → List ℕ
+movingRow moving = moveRefusal moving ∷ 0 ∷ 0 ∷ 0 ∷ 0 ∷ []

@@ -36,6 +36,14 @@ use Rattle.capi.proofs.mbrumzheg_report.Kinds as mbrumzheg-report-kinds
 use Rattle.capi.proofs.mbrumzheg_report.Reads as mbrumzheg-report-reads
 use Rattle.capi.proofs.mbrumzheg_close.Kinds as mbrumzheg-close-kinds
 use Rattle.capi.proofs.mbrumzheg_close.Reads as mbrumzheg-close-reads
+use Rattle.capi.proofs.events.mbrumzheg_read_record16.Kinds as mbrumzheg-read-record16-kinds
+use Rattle.capi.proofs.events.mbrumzheg_read_record16.Reads as mbrumzheg-read-record16-reads
+use Rattle.capi.proofs.events.mbrumzheg_write_record16.Kinds as mbrumzheg-write-record16-kinds
+use Rattle.capi.proofs.events.mbrumzheg_write_record16.Reads as mbrumzheg-write-record16-reads
+use Rattle.capi.proofs.events.mbrumzheg_widen.Kinds as mbrumzheg-widen-kinds
+use Rattle.capi.proofs.events.mbrumzheg_widen.Reads as mbrumzheg-widen-reads
+use Rattle.capi.proofs.events.mbrumzheg_narrow.Kinds as mbrumzheg-narrow-kinds
+use Rattle.capi.proofs.events.mbrumzheg_narrow.Reads as mbrumzheg-narrow-reads
 
 pub mbrumzheg-arm : Determines 3 mbrumzheg-arm-kinds.ps mbrumzheg-arm-kinds.r mbrumzheg-arm-reads.Asked mbrumzheg-arm-reads.Learnt
 mbrumzheg-arm κs args asked x y u v p q = (refl, λ i. (alike (p .0) (q .0) i, (v .1 .0, (alike (p .1) (q .1) i, v .1 .1 .1))))
@@ -87,3 +95,15 @@ mbrumzheg-report κs args asked x y u v p q = (refl, λ i. (alike (p .0) (q .0) 
 
 pub mbrumzheg-close : Determines 2 mbrumzheg-close-kinds.ps mbrumzheg-close-kinds.r mbrumzheg-close-reads.Asked mbrumzheg-close-reads.Learnt
 mbrumzheg-close κs args asked x y u v p q = (refl, λ i. (alike (p .0) (q .0) i, (v .1 .0, (v .1 .1 .0, (alike (p .1) (q .1) i, v .1 .1 .1 .1)))))
+
+pub mbrumzheg-read-record16 : Determines 2 mbrumzheg-read-record16-kinds.ps mbrumzheg-read-record16-kinds.r mbrumzheg-read-record16-reads.Asked mbrumzheg-read-record16-reads.Learnt
+mbrumzheg-read-record16 κs args asked x y u v p q = (refl, λ i. (v .0, (alike p q i, v .1 .1)))
+
+pub mbrumzheg-write-record16 : Determines 2 mbrumzheg-write-record16-kinds.ps mbrumzheg-write-record16-kinds.r mbrumzheg-write-record16-reads.Asked mbrumzheg-write-record16-reads.Learnt
+mbrumzheg-write-record16 κs args asked x y u v p q = (refl, λ i. (v .0, (v .1 .0, (v .1 .1 .0, (v .1 .1 .1 .0, (v .1 .1 .1 .1 .0, (v .1 .1 .1 .1 .1 .0, (v .1 .1 .1 .1 .1 .1 .0, (v .1 .1 .1 .1 .1 .1 .1 .0, (v .1 .1 .1 .1 .1 .1 .1 .1 .0, (v .1 .1 .1 .1 .1 .1 .1 .1 .1 .0, (alike (p .0) (q .0) i, (alike (p .1) (q .1) i, v .1 .1 .1 .1 .1 .1 .1 .1 .1 .1 .1 .1)))))))))))))
+
+pub mbrumzheg-widen : Determines 3 mbrumzheg-widen-kinds.ps mbrumzheg-widen-kinds.r mbrumzheg-widen-reads.Asked mbrumzheg-widen-reads.Learnt
+mbrumzheg-widen κs args asked x y u v p q = (refl, λ i. (v .0, (alike (p .0) (q .0) i, (alike (p .1) (q .1) i, v .1 .1 .1))))
+
+pub mbrumzheg-narrow : Determines 3 mbrumzheg-narrow-kinds.ps mbrumzheg-narrow-kinds.r mbrumzheg-narrow-reads.Asked mbrumzheg-narrow-reads.Learnt
+mbrumzheg-narrow κs args asked x y u v p q = (refl, λ i. (v .0, (alike (p .0) (q .0) i, (alike (p .1) (q .1) i, v .1 .1 .1))))

@@ -72,13 +72,13 @@ fn answer_read(memory: &mut [u64], place: u64, input: &mut [u8], output: &mut [u
     if come == 0 {
         return 0;
     }
-    let part = come % 12;
+    let part = come % answering::RECORD_BYTES;
     let whole = come - part;
     let next = answer_records(memory, place, &input[..whole], output);
     if (part == 0) | (next == 0) {
         return next;
     }
-    let end = numbers::least((whole + 12) as u64, input.len() as u64) as usize;
+    let end = numbers::least((whole + answering::RECORD_BYTES) as u64, input.len() as u64) as usize;
     answer_rest(memory, next, &mut input[whole..end], part, output)
 }
 
@@ -92,13 +92,15 @@ fn answer_all(memory: &mut [u64], input: &mut [u8], output: &mut [u8]) {
     }
 }
 
-// A read brings at most 4,096 records, and their lines take at most 126 bytes each.
+// How many records a read brings at most. Their lines take at most 126 bytes each.
+const RECORDS: usize = 4096;
+
 fn main() {
     let mut memory = [0u64; answering::SIZE];
     if !arm(&mut memory) {
         return;
     }
-    let mut input = [0u8; 49152];
-    let mut output = [0u8; 516096];
+    let mut input = [0u8; RECORDS * answering::RECORD_BYTES];
+    let mut output = [0u8; RECORDS * 126];
     answer_all(&mut memory, &mut input, &mut output);
 }

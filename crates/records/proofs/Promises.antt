@@ -14,7 +14,7 @@ use Rattle.records.specs.declared.Reading.the-variants.{Is, Faulty}
 use Rattle.records.specs.Form.{accepts, eventAt, recordOf}
 use Rattle.records.specs.Event.{valuesOf, isValid, form, readOf, readRefusal}
 use Rattle.records.proofs.Round.{read-again, write-again}
-use Rattle.records.proofs.Cases.{lawful}
+use Rattle.records.proofs.Forms.{lawful}
 
 -- an event that is written is read again
 pub read-written : (e : Event) → isValid e ≡ true → readOf (recordOf form e) ≡ Is e

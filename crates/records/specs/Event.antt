@@ -3,16 +3,19 @@ use Prim.Native.Nat.{ℕ}
 use mathlib.Core.Bool.{Bool, cond, _&&_, _||_}
 use mathlib.Core.List.{List, [], _∷_}
 use lib.ListN.{getD}
-use lib.Dec.{leb, eqb}
+use lib.Dec.{eqb}
 use Rattle.measures.specs.Ranges.{_to_, isIn, times, roots, units, premiums, offers}
-use Rattle.laws.specs.Lists.{same}
-use Rattle.records.specs.Form.{Form, accepts, eventAt}
+use Rattle.records.specs.Form.{Form, accepts, eventAt, stands, wrote}
 use Rattle.records.specs.declared.Event.{Event}
 use Rattle.records.specs.declared.Event.the-variants.{Order, Offer, Lockout}
 use Rattle.records.specs.declared.Reading.{Reading}
 use Rattle.records.specs.declared.Reading.the-variants.{Is, Faulty}
 use Rattle.records.specs.declared.Writing.{Writing}
 use Rattle.records.specs.declared.Writing.the-variants.{Done, Faulty as Invalid, Short}
+
+-- how many bytes a record has
+abbrev pub bytes12 : ℕ
+bytes12 = 12
 
 -- the widths of kind, time, root, unit, premium, contracts, reset, level, spare
 abbrev pub widths : List ℕ
@@ -39,19 +42,19 @@ isValid (Offer time root unit premium contracts) =
 isValid (Lockout time level root) = isIn times time && isIn roots root && isIn (0 to 1) level && (eqb level 0 || eqb root 0)
 
 abbrev pub form : Form Event
-form = record { size = 12; widths = widths; values = valuesOf; event = eventOf; valid = isValid }
+form = record { size = bytes12; widths = widths; values = valuesOf; event = eventOf; valid = isValid }
 
 -- what the values of the fields are read as: they must be just those of a valid event
 unfoldable pub eventIn : List ℕ → Reading
-eventIn v = cond (same v (valuesOf (eventOf v)) && isValid (eventOf v)) (Is (eventOf v)) Faulty
+eventIn v = cond (stands form v) (Is (eventOf v)) Faulty
 
 -- what reading bytes answers
 unfoldable pub readOf : List ℕ → Reading
 readOf s = cond (accepts form s) (Is (eventAt form s)) Faulty
 
 -- what writing an event to n bytes of room answers
-unfoldable pub wroteOf : Event → ℕ → Writing
-wroteOf e n = cond (isValid e) (cond (leb 12 n) Done Short) Invalid
+abbrev pub wroteOf : Event → ℕ → Writing
+wroteOf = wrote form
 
 -- the refusal numbers of document 01, 0 for none
 unfoldable pub readRefusal : Reading → ℕ

@@ -6,6 +6,8 @@ use lib.ListN.{length, drop}
 use lib.Dec.{eqb, leb}
 use Rattle.laws.specs.Lists.{same}
 use Rattle.bits.specs.Fields.{fieldsOf, bytesOf}
+use Rattle.records.specs.declared.Writing.{Writing}
+use Rattle.records.specs.declared.Writing.the-variants.{Done, Faulty, Short}
 
 pub record Form (E : Type 0) : Type 0 where
   -- the number of bytes, and the widths of the fields in bits
@@ -26,10 +28,25 @@ module _ {E : Type 0} (F : Form E) where
   unfoldable pub eventAt : List ℕ → E
   eventAt s = F .event (fieldsOf (F .widths) s)
 
-  -- bytes are a record if they are as many as the form has, their fields are just the values of their event, and that event is valid
+  -- values are an event's if they are just those of the event that they stand for, and that event is valid
+  unfoldable pub stands : List ℕ → Bool
+  stands v = same v (F .values (F .event v)) && F .valid (F .event v)
+
+  -- bytes are a record if they are as many as the form has and their fields are an event's
   unfoldable pub accepts : List ℕ → Bool
-  accepts s = eqb (length s) (F .size) && (same (fieldsOf (F .widths) s) (F .values (eventAt s)) && F .valid (eventAt s))
+  accepts s = eqb (length s) (F .size) && stands (fieldsOf (F .widths) s)
 
   -- what the room holds after e was written: the record and the rest of the room; or the room as it was, where e is not valid or does not fit
   unfoldable pub written : E → List ℕ → List ℕ
   written e room = cond (F .valid e && leb (F .size) (length room)) (recordOf e ++ drop (F .size) room) room
+
+  -- what writing e to n bytes of room answers
+  unfoldable pub wrote : E → ℕ → Writing
+  wrote e n = cond (F .valid e) (cond (leb (F .size) n) Done Short) Faulty
+
+  -- the same for the values of fields: what writing them answers, and what the room then holds
+  unfoldable pub wroteValues : List ℕ → ℕ → Writing
+  wroteValues v n = cond (stands v) (cond (leb (F .size) n) Done Short) Faulty
+
+  unfoldable pub writtenValues : List ℕ → List ℕ → List ℕ
+  writtenValues v room = cond (stands v && leb (F .size) (length room)) (bytesOf (F .size) (F .widths) v ++ drop (F .size) room) room

@@ -1,12 +1,22 @@
-// Event records of 12 bytes: an event from its record, and the record of an event.
+// Event records of 12 and of 16 bytes: an event from its record, the record of an event, and a record moved to the other form.
 ghost use mathlib.Core.Path.{_≡_};
 ghost use lib.ListN.{length};
-ghost use Rattle.laws.specs.Lists.{same as sameNumbers};
-ghost use Rattle.records.specs.Form.{written};
-ghost use Rattle.records.specs.Event.{valuesOf, eventOf, isValid, form, eventIn, readOf, wroteOf};
-use measures::Contracts;
-use measures::TenThousandths;
-use measures::Time;
+ghost use Rattle.records.specs.Form.{written, wroteValues, writtenValues};
+ghost use Rattle.records.specs.Event.{valuesOf, isValid, form, eventIn, readOf, wroteOf};
+ghost use Rattle.records.specs.Rows.{eventRow};
+
+mod kinds;
+mod moves;
+mod sixteen;
+
+pub use moves::narrow;
+pub use moves::widen;
+pub use sixteen::event16_in;
+pub use sixteen::read16;
+pub use sixteen::read16_numbers;
+pub use sixteen::values16_of;
+pub use sixteen::write16;
+pub use sixteen::write16_values;
 
 // An event: each kind holds what it uses, and nothing else.
 pub enum Event {
@@ -29,9 +39,53 @@ pub enum Event {
     },
 }
 
+// An event of a 16-byte record: its time is in microseconds, resets go up to 6, and orders may be sent away.
+pub enum Event16 {
+    Order {
+        time: u64,
+        root: u64,
+        reset: u64,
+    },
+    Offer {
+        time: u64,
+        root: u64,
+        unit: u64,
+        premium: u64,
+        contracts: u64,
+    },
+    Lockout {
+        time: u64,
+        level: u64,
+        root: u64,
+    },
+    Sending {
+        time: u64,
+        root: u64,
+        unit: u64,
+        premium: u64,
+        contracts: u64,
+        identity: u64,
+        reports: u64,
+    },
+    Report {
+        time: u64,
+        identity: u64,
+        contracts: u64,
+    },
+    Closing {
+        time: u64,
+        identity: u64,
+    },
+}
+
 // What reading a record answers: its event, or that it is faulty.
 pub enum Reading {
     Is(Event),
+    Faulty,
+}
+
+pub enum Reading16 {
+    Is(Event16),
     Faulty,
 }
 
@@ -42,8 +96,24 @@ pub enum Writing {
     Short,
 }
 
+// What moving a record to the other form answers: that it is moved, that it is faulty, that it does not fit the old form, or that the room is short.
+pub enum Moving {
+    Done,
+    Faulty,
+    Unfit,
+    Short,
+}
+
+// How many bytes a record has: in the old form, and in the form of 16 bytes.
+pub const BYTES: usize = 12;
+
+pub const BYTES16: usize = 16;
+
 // The widths of the fields: kind, time, root, unit, premium, contracts, reset, level, spare.
-const WIDTHS: [u64; 9] = [2, 27, 6, 2, 27, 20, 2, 1, 9];
+pub(crate) const WIDTHS: [u64; 9] = [2, 27, 6, 2, 27, 20, 2, 1, 9];
+
+// The row of bytes that are no record.
+const FAULTY: [u64; 9] = [16, 0, 0, 0, 0, 0, 0, 0, 0];
 
 // The values of an event's fields.
 pub fn values_of(e: Event) -> [u64; 9]
@@ -62,94 +132,20 @@ pub fn values_of(e: Event) -> [u64; 9]
     }
 }
 
-// The event that the values of the fields stand for, by their kind.
-fn event_of(v: &[u64; 9]) -> Event
-    ensures { λ r. ⌜ r ≡ eventOf (now (v .entry)) ⌝ }
-{
-    if v[0] == 0 {
-        return Event::Order {
-            time: v[1],
-            root: v[2],
-            reset: v[6],
-        };
-    }
-    if v[0] == 1 {
-        return Event::Offer {
-            time: v[1],
-            root: v[2],
-            unit: v[3],
-            premium: v[4],
-            contracts: v[5],
-        };
-    }
-    Event::Lockout {
-        time: v[1],
-        level: v[7],
-        root: v[2],
-    }
-}
-
 // Whether every number of an event is in its range, and a lockout of the firm names root 0.
 pub fn is_valid(e: Event) -> bool
     ensures { λ r. ⌜ r ≡ isValid e ⌝ }
 {
-    match e {
-        Event::Order { time, root, reset } => {
-            measures::is_in(time, 0, Time::MOST)
-                & measures::is_in(root, 0, 63)
-                & measures::is_in(reset, 0, 3)
-        }
-        Event::Offer {
-            time,
-            root,
-            unit,
-            premium,
-            contracts,
-        } => {
-            measures::is_in(time, 0, Time::MOST)
-                & measures::is_in(root, 0, 63)
-                & measures::is_in(unit, 0, 3)
-                & measures::is_in(
-                    premium,
-                    TenThousandths::PREMIUM_LEAST,
-                    TenThousandths::PREMIUM_MOST,
-                )
-                & measures::is_in(contracts, Contracts::OFFER_LEAST, Contracts::OFFER_MOST)
-        }
-        Event::Lockout { time, level, root } => {
-            measures::is_in(time, 0, Time::MOST)
-                & measures::is_in(root, 0, 63)
-                & measures::is_in(level, 0, 1)
-                & ((level == 0) | (root == 0))
-        }
-    }
-}
-
-// Whether two slices hold the same numbers.
-fn same(a: &[u64], b: &[u64]) -> bool
-    ensures { λ r. ⌜ r ≡ sameNumbers (now (a .entry)) (now (b .entry)) ⌝ }
-{
-    if a.len() != b.len() {
-        return false;
-    }
-    let mut i = 0;
-    while i < a.len() {
-        if a[i] != b[i] {
-            return false;
-        }
-        i += 1;
-    }
-    true
+    let v = values_of(e);
+    kinds::is_event(v[0], v[1], v[2], v[3], v[4], v[5], v[6], v[7], v[8])
 }
 
 // The event that the values of the fields stand for: they are just those of a valid event.
 pub fn event_in(v: &[u64; 9]) -> Reading
     ensures { λ r. ⌜ r ≡ eventIn (now (v .entry)) ⌝ }
 {
-    let e = event_of(v);
-    let w = values_of(e);
-    if same(v, &w) & is_valid(e) {
-        Reading::Is(e)
+    if kinds::holds_event(v) {
+        Reading::Is(kinds::event_of(v))
     } else {
         Reading::Faulty
     }
@@ -159,7 +155,7 @@ pub fn event_in(v: &[u64; 9]) -> Reading
 pub fn read(s: &[u8]) -> Reading
     ensures { λ r. ⌜ r ≡ readOf (now (s .entry)) ⌝ }
 {
-    if s.len() != 12 {
+    if s.len() != BYTES {
         return Reading::Faulty;
     }
     let mut v = [0u64; 9];
@@ -167,18 +163,42 @@ pub fn read(s: &[u8]) -> Reading
     event_in(&v)
 }
 
+// Reads a record's numbers: refusal, kind, time, root, unit, premium, contracts, reset, level.
+pub fn read_numbers(s: &[u8], row: &mut [u64; 9])
+    ensures { λ _. ⌜ now (row .exit) ≡ eventRow (readOf (now (s .entry))) ⌝ }
+{
+    if s.len() != BYTES {
+        *row = FAULTY;
+        return;
+    }
+    let mut v = [0u64; 9];
+    bits::read_fields(s, &WIDTHS, &mut v);
+    if kinds::is_event(v[0], v[1], v[2], v[3], v[4], v[5], v[6], v[7], v[8]) {
+        *row = [0, v[0], v[1], v[2], v[3], v[4], v[5], v[6], v[7]];
+    } else {
+        *row = FAULTY;
+    }
+}
+
+// Writes the record of the event that the values of the fields stand for to the first 12 bytes of the room. A refusal writes nothing.
+pub fn write_values(v: [u64; 9], room: &mut [u8]) -> Writing
+    ensures { λ r. ⌜ r ≡ wroteValues form v (length (now (room .entry))) ⌝ }
+    ensures { λ r. ⌜ now (room .exit) ≡ writtenValues form v (now (room .entry)) ⌝ }
+{
+    if !kinds::is_event(v[0], v[1], v[2], v[3], v[4], v[5], v[6], v[7], v[8]) {
+        return Writing::Faulty;
+    }
+    if room.len() < BYTES {
+        return Writing::Short;
+    }
+    bits::write_fields(&v, &WIDTHS, &mut room[..BYTES]);
+    Writing::Done
+}
+
 // Writes the record of a valid event to the first 12 bytes of the room. A refusal writes nothing.
 pub fn write(e: Event, room: &mut [u8]) -> Writing
     ensures { λ r. ⌜ r ≡ wroteOf e (length (now (room .entry))) ⌝ }
     ensures { λ r. ⌜ now (room .exit) ≡ written form e (now (room .entry)) ⌝ }
 {
-    if !is_valid(e) {
-        return Writing::Faulty;
-    }
-    if room.len() < 12 {
-        return Writing::Short;
-    }
-    let v = values_of(e);
-    bits::write_fields(&v, &WIDTHS, &mut room[..12]);
-    Writing::Done
+    write_values(values_of(e), room)
 }

@@ -5,10 +5,9 @@ use mathlib.Core.Bool.{Bool, true, false, _&&_, and-true, and-assoc}
 use mathlib.Core.List.{List, [], _∷_, _++_}
 use native.Mathlib.Omega.{arith}
 use lib.Dec.{eqb}
-use lib.Bits.{bitOr, or-add-and, and-le-l, and-le-r}
+use lib.Bits.{bitOr}
 use lib.ListN.{length, getD, take, drop, take-append-drop, replicate-append-replicate}
-use borrow.Author.Tests.{eqb-true, eq-eqb}
-use Rattle.laws.proofs.Tests.{and-l, and-r, and-i, same-test}
+use Rattle.laws.proofs.Tests.{or-zero}
 use Rattle.laws.proofs.Lists.{from, ended}
 use Rattle.tables.specs.Inner.Tables.{zeros, allZero}
 
@@ -16,17 +15,6 @@ use Rattle.tables.specs.Inner.Tables.{zeros, allZero}
 pub zeros-add : (n m : ℕ) → zeros n ++ zeros m ≡ zeros (n + m)
 unfolding zeros
 zeros-add n m = replicate-append-replicate n m 0
-
--- numbers joined bit by bit are 0 exactly if each is
-or-zero : (a b : ℕ) → eqb (bitOr a b) 0 ≡ (eqb a 0 && eqb b 0)
-or-zero a b =
-    same-test (eqb (bitOr a b) 0) (eqb a 0 && eqb b 0)
-    (λ h. let z = eqb-true (bitOr a b) 0 h in
-    let e = or-add-and a b in
-    and-i (eq-eqb a 0 (omega (arith, and-le-r a b))) (eq-eqb b 0 (omega (arith, and-le-l a b))))
-    (λ h. let x = eqb-true a 0 (and-l (eqb a 0) (eqb b 0) h) in
-    let y = eqb-true b 0 (and-r (eqb a 0) (eqb b 0) h) in
-    eq-eqb (bitOr a b) 0 (omega (arith, or-add-and a b)))
 
 module _ (s : List ℕ) (any i : ℕ) where
   pub zero-on : i < length s → (eqb any 0 && allZero (drop i s)) ≡ (eqb (bitOr any (getD s i 0)) 0 && allZero (drop (i + 1) s))

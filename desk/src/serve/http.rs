@@ -8,7 +8,7 @@ use std::time::{Duration, Instant};
 /// A request line and its headers together.
 const MOST_OF_HEAD: usize = 16 * 1024;
 /// What is sent with a request: a day of 100,000 records.
-pub const MOST_OF_BODY: usize = 100_000 * mbrumzheg::RECORD_SIZE;
+pub const MOST_OF_BODY: usize = 100_000 * mbrumzheg::RECORD16_SIZE;
 /// From the first byte to the last.
 const PATIENCE: Duration = Duration::from_secs(10);
 /// For what comes after an answer.

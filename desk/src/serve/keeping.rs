@@ -2,25 +2,27 @@
 
 use super::bench::{Bench, Typed};
 use crate::day::Day;
+use crate::form::Form;
 use crate::piece::Piece;
 use crate::progress::Progress;
 use crate::report::{self, Made};
 use crate::sitting::Sitting;
-use crate::source::{self, Source};
+use crate::source::{self, Opened, Source};
 use crate::table::counted;
 use mbrumzheg::{Adopted, Time, Unit};
 use std::io::Read;
 
 impl Bench {
     /// Passes every record of a file, or every event of a day in words; nothing where one of its lines cannot be read.
-    pub fn replay(&mut self, name: &str, bytes: &[u8]) -> Result<String, String> {
-        let pieces = read(self.armed()?, bytes)?;
+    pub fn replay(&mut self, name: &str, bytes: &[u8], form: Form) -> Result<String, String> {
+        let (pieces, remark) = read(self.armed()?, bytes, form).map_err(|why| format!("{name} is left alone, since {why}"))?;
         self.has_room(pieces.len())?;
         self.give_up_undone();
         self.files.push((self.place() + 1, name.to_string()));
         pieces.iter().for_each(|piece| drop(self.pass(piece, false)));
         self.name_files();
-        Ok(format!("replayed {} of {name}", counted(pieces.len(), "record")))
+        let remark = remark.map_or_else(String::new, |remark| format!("; {remark}"));
+        Ok(format!("replayed {} of {name}{remark}", counted(pieces.len(), "record")))
     }
 
     /// Goes to the day as it was after so many events, back or forth, by a replay on a fresh unit.
@@ -60,10 +62,9 @@ impl Bench {
         Ok(all)
     }
 
-    /// The day's records as a file has them, which then counts as saved; not where an event has none.
+    /// The day's records as a file has them, which then counts as saved.
     pub fn save(&mut self) -> Result<Vec<u8>, String> {
         let sitting = self.armed()?;
-        sitting.may_be_records()?;
         let mut bytes = Vec::new();
         let read = sitting.day.reader().and_then(|mut reader| reader.read_to_end(&mut bytes));
         read.map_err(|error| format!("the day's records cannot be read again: {error}"))?;
@@ -79,11 +80,6 @@ impl Bench {
         Ok(words)
     }
 
-    /// Whether the day can be saved in words alone.
-    pub fn is_words_alone(&self) -> bool {
-        self.sitting.as_ref().is_some_and(|sitting| sitting.may_be_records().is_err())
-    }
-
     /// Whether there are events that no saved file has.
     pub fn is_unsaved(&self) -> bool {
         self.sitting.as_ref().is_some_and(|sitting| sitting.place > 0 && self.saved.as_ref() != Some(&sitting.day.sum()))
@@ -96,13 +92,13 @@ impl Bench {
             return Err("there is nothing to report yet; pass an event first".to_string());
         }
         let day = Day::replayed(&sitting.profile, &mut sitting.day.pieces()?, None, &mut Progress::of(None))?;
-        Ok(report::of_name(file, &sitting.profile, &day, &Made::at_the_desk(sitting)?))
+        Ok(report::of_name(file, &sitting.profile, &day, &Made::at_the_desk(sitting)))
     }
 }
 
-/// The pieces of a file, each read at the clock that those before it leave, on a copy of the unit.
-fn read(sitting: &Sitting, bytes: &[u8]) -> Result<Vec<Piece>, String> {
-    let (mut from, _) = source::of_file(bytes, &sitting.profile).map_err(|error| error.to_string())?;
+/// The pieces of a file, each read at the clock that those before it leave, on a copy of the unit; and what its length says of the last.
+fn read(sitting: &Sitting, bytes: &[u8], form: Form) -> Result<(Vec<Piece>, Option<String>), String> {
+    let Opened { pieces: mut from, remark, .. } = source::of_file(bytes, Some(bytes.len() as u64), form, &sitting.profile)?;
     let copied = Unit::adopt(sitting.unit.memory().to_vec().into_boxed_slice());
     let Ok(Adopted::Armed(mut unit)) = copied else { return Err("the unit cannot be copied".to_string()) };
     let mut pieces = Vec::new();
@@ -111,5 +107,5 @@ fn read(sitting: &Sitting, bytes: &[u8]) -> Result<Vec<Piece>, String> {
         let _ = piece.event().map(|event| unit.answer(event));
         pieces.push(piece);
     }
-    Ok(pieces)
+    Ok((pieces, remark))
 }

@@ -3,6 +3,7 @@
 use super::bench::{checked, Bench, Said};
 use super::http::{Reply, Request};
 use super::state;
+use crate::form::Form;
 use crate::json::{self, object, text};
 
 const PAGE: &str = include_str!("page/page.html");
@@ -86,7 +87,10 @@ fn done(bench: &mut Bench, request: &Request) -> Reply {
         "go" => {
             line().parse().map_err(|_| "go to which place? a number is missing".to_string()).and_then(|place| bench.go(place)).map(words)
         }
-        "replay" => bench.replay(if name.is_empty() { "records" } else { &name }, body).map(words),
+        "replay" => {
+            let form = Form::asked(query(request, "form") == "old");
+            bench.replay(if name.is_empty() { "records" } else { &name }, body, form).map(words)
+        }
         _ => return Reply::text(404, "there is nothing of that name\n"),
     };
     match said {

@@ -33,7 +33,6 @@ pub fn of(bench: &Bench, at: &str) -> Result<String, String> {
         ("place", bench.place().to_string()),
         ("undone", bench.undone.len().to_string()),
         ("unsaved", bench.is_unsaved().to_string()),
-        ("wordsAlone", bench.is_words_alone().to_string()),
         ("resets", list(resets::rows().map(of_reset))),
         ("canBringBack", bench.has_before().to_string()),
         ("log", log(bench, bench.log.len())),

@@ -60,7 +60,9 @@ pub fn event(dice: &mut Dice, clock: u64, roots: u64) -> Event {
         1 => clock + 5_000,
         _ => clock + dice.pick(&[0, 0, 1, 40, 100, 250, 999]),
     };
-    let time = Time::from_ms(ms.min(Time::LAST.ms())).expect("a time");
+    // microseconds, too, in two of five
+    let us = ms * 1_000 + [0, 250, 0, 999, 0][(ms % 5) as usize];
+    let time = Time::from_us(us.min(Time::LAST.us())).expect("a time");
     let number = if dice.below(50) == 0 { 63 } else { dice.below(roots.max(1)) };
     let root = Root::new(number).expect("a root");
     match dice.below(20) {
@@ -95,12 +97,8 @@ fn identity(dice: &mut Dice) -> Identity {
     Identity::new(dice.pick(&[0, 7, 65_535])).expect("an identity")
 }
 
-/// The same, but one that a record of 12 bytes holds.
-pub fn recorded(dice: &mut Dice, clock: u64, roots: u64) -> ([u8; 12], Event) {
-    loop {
-        let event = event(dice, clock, roots);
-        if let Ok(record) = event.to_record() {
-            return (record, event);
-        }
-    }
+/// The same with its record.
+pub fn recorded(dice: &mut Dice, clock: u64, roots: u64) -> ([u8; 16], Event) {
+    let event = event(dice, clock, roots);
+    (event.to_record16().expect("every event has a record"), event)
 }

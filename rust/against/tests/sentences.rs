@@ -1,5 +1,5 @@
-//! The header for C has each refusal's sentence in the crate's words, and the crate's record size.
-use mbrumzheg::{Refusal, RECORD_SIZE};
+//! The header for C has each refusal's sentence in the crate's words, and the crate's sizes of records.
+use mbrumzheg::{Refusal, Time, RECORD16_SIZE, RECORD_SIZE};
 
 const HEADER: &str = include_str!("../../../include/mbrumzheg.h");
 const NUMBERS: &str = include_str!("../../../include/mbrumzheg_numbers.h");
@@ -19,4 +19,7 @@ fn sentences_are_the_headers() {
 #[test]
 fn a_record_has_as_many_bytes() {
     assert!(HEADER.contains(&format!("#define MBRUMZHEG_RECORD_BYTES {RECORD_SIZE}\n")));
+    assert!(HEADER.contains(&format!("#define MBRUMZHEG_RECORD16_BYTES {RECORD16_SIZE}\n")));
+    assert!(HEADER.contains(&format!("#define MBRUMZHEG_LAST_TIME {}\n", Time::LAST.ms())));
+    assert!(HEADER.contains(&format!("#define MBRUMZHEG_LAST_STAMP {}\n", Time::LAST.us())));
 }

@@ -1,6 +1,7 @@
 //! A call with its numbers.
 
 use super::profiles::{profile, valid_profile};
+use crate::event::Event;
 use crate::records::{Record, LOCKOUT, OFFER, ORDER};
 use crate::unit::{Away, Unit};
 
@@ -70,29 +71,33 @@ impl Call {
             Call::Arm { seed } => on.arm(&profile(seed)).numbers().to_vec(),
             Call::ArmValid { seed } => on.arm(&valid_profile(seed)).numbers().to_vec(),
             Call::Clear => on.clear().numbers().to_vec(),
-            Call::Order { time, root, reset } => on.order(time, root, reset).numbers().to_vec(),
-            Call::Lockout { time, level, root } => on.lockout(time, level, root).numbers().to_vec(),
-            Call::Offer { time, root, unit, premium, contracts } => on.offer(time, root, unit, premium, contracts).numbers().to_vec(),
-            Call::Send { time, order } => on.send(time, order).numbers().to_vec(),
-            Call::Report { time, identity, contracts } => on.report(time, identity, contracts).numbers().to_vec(),
-            Call::Close { time, identity } => on.close(time, identity).numbers().to_vec(),
             Call::Remaining { time, rule, unit } => on.remaining(time, rule, unit).numbers().to_vec(),
             Call::Status => on.status().numbers().to_vec(),
             Call::Text { verdict, room } => on.text(verdict, &mut vec![0; room as usize]).numbers().to_vec(),
             Call::Profile { room } => on.profile(&mut vec![0; room as usize]).numbers().to_vec(),
+            _ => self.event().map_or(Vec::new(), |event| event.run(on).numbers().to_vec()),
+        }
+    }
+
+    /// The event that the call is, if it changes a state and has a time.
+    pub fn event(&self) -> Option<Event> {
+        match *self {
+            Call::Order { time, root, reset } => Some(Event::Order { time, root, reset }),
+            Call::Lockout { time, level, root } => Some(Event::Lockout { time, level, root }),
+            Call::Offer { time, root, unit, premium, contracts } => Some(Event::Offer { time, root, unit, premium, contracts }),
+            Call::Send { time, order } => Some(Event::Send { time, order }),
+            Call::Report { time, identity, contracts } => Some(Event::Report { time, identity, contracts }),
+            Call::Close { time, identity } => Some(Event::Close { time, identity }),
+            _ => None,
         }
     }
 
     /// The time to which the call sets the clock.
     pub fn clock_time(&self) -> Option<u64> {
-        match *self {
-            Call::Order { time, .. } | Call::Lockout { time, .. } | Call::Offer { time, .. } => Some(time),
-            Call::Send { time, .. } | Call::Report { time, .. } | Call::Close { time, .. } => Some(time),
-            _ => None,
-        }
+        self.event().map(|event| event.time())
     }
 
-    /// The record of an order, offer or lockout; its numbers may be too wide for the writer.
+    /// The record of 12 bytes of an order, offer or lockout; its numbers may be too wide for the writer.
     pub fn record(&self) -> Option<Record> {
         let none = Record::default();
         match *self {
@@ -102,6 +107,20 @@ impl Call {
                 Some(Record { kind: OFFER, time, root, unit, premium, contracts, ..none })
             }
             _ => None,
+        }
+    }
+}
+
+impl From<Event> for Call {
+    /// The call that an event is.
+    fn from(event: Event) -> Call {
+        match event {
+            Event::Order { time, root, reset } => Call::Order { time, root, reset },
+            Event::Lockout { time, level, root } => Call::Lockout { time, level, root },
+            Event::Offer { time, root, unit, premium, contracts } => Call::Offer { time, root, unit, premium, contracts },
+            Event::Send { time, order } => Call::Send { time, order },
+            Event::Report { time, identity, contracts } => Call::Report { time, identity, contracts },
+            Event::Close { time, identity } => Call::Close { time, identity },
         }
     }
 }

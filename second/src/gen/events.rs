@@ -17,7 +17,7 @@ pub fn events_near(seed: u64, n: usize, text: &[u8]) -> Vec<Call> {
     (0..n).map(|_| maker.call()).collect()
 }
 
-/// So many records near the limits of a profile, some with damaged bits and maybe a short last one.
+/// So many records of 12 bytes near the limits of a profile, some with damaged bits and maybe a short last one.
 pub fn records(seed: u64, n: usize, text: &[u8]) -> Vec<u8> {
     let mut maker = Maker::following(seed, n, text);
     let mut random = Random::new(!seed);

@@ -3,6 +3,7 @@
 use super::call::Call;
 use super::profiles::{profile, valid_profile};
 use super::random::Random;
+use crate::event::Event;
 use crate::unit::{Armed, Unit};
 use crate::LAST_TIME;
 
@@ -23,6 +24,8 @@ pub struct Maker {
     pub(super) pace: Pace,
     /// Do its orders zero counts? Without that a day can fill the log.
     pub(super) forgets: bool,
+    /// Is every other call about an order sent away? Without that few days fill the register.
+    pub(super) sends: bool,
     /// Calls still to be made.
     pub(super) left: u64,
     /// The unit that the calls run on too, if they follow one.
@@ -36,7 +39,7 @@ impl Maker {
         let mut random = Random::new(seed ^ 0x45_7665_6E74);
         let pace = random.pick(&[Pace::Slow, Pace::Window, Pace::Even]);
         let forgets = !random.once_in(4);
-        Maker { random, clock: 0, roots, pace, forgets, left: n as u64, follows: None, cleared: false }
+        Maker { random, clock: 0, roots, pace, forgets, sends: false, left: n as u64, follows: None, cleared: false }
     }
 
     pub(super) fn following(seed: u64, n: usize, text: &[u8]) -> Maker {
@@ -79,10 +82,17 @@ impl Maker {
         call
     }
 
+    /// Chooses an event of any kind, which is not followed yet.
+    pub(super) fn choose_any_event(&mut self) -> Option<Event> {
+        let call = if self.random.once_in(6) { self.away() } else { self.choose_event() };
+        call.event()
+    }
+
     /// Chooses a call of any kind.
     fn choose(&mut self) -> Call {
         match self.random.below(1_000) {
             _ if self.cleared && self.random.once_in(8) => self.arm(),
+            _ if self.sends && self.random.once_in(2) => self.away(),
             0 => Call::Clear,
             1..=3 if !self.cleared => Call::Arm { seed: self.random.number() },
             4..=99 => self.remaining(),
@@ -112,7 +122,7 @@ impl Maker {
     }
 
     /// Runs the call on the unit that the calls follow, and keeps the clock.
-    fn follow(&mut self, call: Call) {
+    pub(super) fn follow(&mut self, call: Call) {
         self.left = self.left.saturating_sub(1);
         self.cleared |= call == Call::Clear;
         if let Some(time) = call.clock_time().filter(|time| *time <= LAST_TIME) {

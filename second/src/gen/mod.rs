@@ -2,6 +2,7 @@
 //!
 //! The same seed gives the same bytes and calls each time.
 
+mod accounts;
 mod away;
 mod call;
 mod damaged;
@@ -13,10 +14,15 @@ mod maker;
 mod odd;
 mod profiles;
 mod random;
+mod records;
+mod stamped;
 
+pub use accounts::{account_day, AccountDay};
 pub use call::Call;
 pub use days::day;
 pub use events::{events, events_near, records};
 pub use maker::Maker;
-pub use profiles::{damaged_profile, profile, valid_profile};
+pub use profiles::{damaged_profile, firm_profile, profile, valid_profile};
 pub use random::Random;
+pub use records::{bytes12, bytes16, odd16, record16};
+pub use stamped::records16;

@@ -21,6 +21,12 @@ pub fn valid_profile(seed: u64) -> Vec<u8> {
     good_text(&mut Random::new(seed))
 }
 
+/// A profile text of firm rules alone that document 01 accepts.
+pub fn firm_profile(seed: u64) -> Vec<u8> {
+    let mut random = Random::new(seed);
+    few_rules(&mut random, Style::Mixed, 0, MOST_FIRM_RULES as u64).text(&mut random)
+}
+
 /// A profile text with some damage, which may still be a good one by chance.
 pub fn damaged_profile(seed: u64) -> Vec<u8> {
     let mut random = Random::new(seed);

@@ -1,8 +1,11 @@
 //! What several tests begin with.
 #![allow(dead_code)]
 
+pub mod books;
 pub mod history;
 pub mod profile;
+pub mod record16;
+pub mod runs;
 
 use second::unit::{Away, Unit, LOG_PLACES};
 

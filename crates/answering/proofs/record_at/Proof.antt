@@ -1,9 +1,10 @@
--- `lines::record_at` meets its contract: the part has twelve bytes, or what is left. Assumes nothing.
+-- `lines::record_at` meets its contract: the part has 16 bytes, or what is left. Assumes nothing.
 use Prim.Native.Nat.{_+_, _-_, _*_, min}
 use mathlib.Core.Path.{_≡_, ap, _∙_}
 use native.Mathlib.Omega.{arith}
 use lib.ListN.{length, take, drop, length-drop}
-use Rattle.answering.proofs.Runs.{twelve}
+use Rattle.records.specs.Event16.{bytes16}
+use Rattle.answering.proofs.Runs.{sixteen}
 use borrow.Author.Needs.{needs}
 use Rattle.answering.proofs.record_at.Statement.{statement}
 use Rattle.answering.proofs.record_at.Tie as tie
@@ -32,9 +33,9 @@ part-result-end c = search needs
 returns : tie.Need-returns
 returns c =
     let s = c .before .before .before .args .s .now in
-    let from = c .before .before .before .args .j * 12 in
-    let n : from + c .before .least .result - from ≡ min (length (drop from s)) 12 = omega (arith, c .before .least .ensures, length-drop from s) in
-    ap (λ k. take k (drop from s)) n ∙ twelve (drop from s)
+    let from = c .before .before .before .args .j * bytes16 in
+    let n : from + c .before .least .result - from ≡ min (length (drop from s)) bytes16 = omega (arith, c .before .least .ensures, length-drop from s) in
+    ap (λ k. take k (drop from s)) n ∙ sixteen (drop from s)
 
 pub record-at-spec : {M : Type 1} → statement M
 record-at-spec =

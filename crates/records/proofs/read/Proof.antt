@@ -2,7 +2,7 @@
 use mathlib.Core.Path.{refl, _∙_}
 use native.Mathlib.Omega.{arith}
 use Rattle.bits.specs.Fields.{total}
-use Rattle.bits.proofs.Packing.{widths-le}
+use Rattle.bits.proofs.Packing.{widths-to}
 use Rattle.records.specs.Event.{widths}
 use Rattle.records.proofs.Cases.{read-full, read-short}
 use borrow.Author.Needs.{needs}
@@ -20,7 +20,7 @@ slice-aggregate-read-fields-2 c = search needs
 
 read-fields-requires : tie.Need-read-fields-requires
 unfolding total
-read-fields-requires c κs = (omega (arith, c .before .before .if1 .left), (refl, widths-le 56 widths tt))
+read-fields-requires c κs = ((omega (arith, c .before .before .if1 .left), omega (arith, c .before .before .if1 .left)), (omega (arith, c .before .before .if1 .left), (refl, widths-to 63 widths tt)))
 
 event-in-requires : tie.Need-event-in-requires
 event-in-requires c κs = search needs
@@ -29,12 +29,4 @@ returns-2 : tie.Need-returns-2
 returns-2 c = c .event-in .ensures ∙ read-full _ _ (c .before .before .before .before .before .before .if1 .left) (c .before .before .before .read-fields .ensures)
 
 pub read-spec : {M : Type 1} → statement M
-read-spec =
-    tie.close
-    (tie.spec
-    returns
-    slice-aggregate-read-fields
-    slice-aggregate-read-fields-2
-    read-fields-requires
-    event-in-requires
-    returns-2)
+read-spec = tie.close (tie.spec returns slice-aggregate-read-fields slice-aggregate-read-fields-2 read-fields-requires event-in-requires returns-2)

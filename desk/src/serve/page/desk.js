@@ -64,7 +64,10 @@ export const clear = async () => {
   if (await send("clear", "")) check();
 };
 export const bringBack = () => send("back", "");
-export const replay = async (file) => send("replay?name=" + encodeURIComponent(file.name), await file.arrayBuffer());
+export const replay = async (file) => {
+  const form = $("old").checked ? "&form=old" : "";
+  return send("replay?name=" + encodeURIComponent(file.name) + form, await file.arrayBuffer());
+};
 
 export async function choose(file) {
   const bytes = await file.arrayBuffer();

@@ -31,9 +31,9 @@ export function draw(state, sort) {
   able("redo", state.undone > 0);
   able("clear", !!armed);
   able("save", state.place > 0);
+  able("save-words", state.place > 0);
   able("report", state.place > 0);
   $("save").classList.toggle("main", state.unsaved);
-  saving(state.wordsAlone);
   levels(armed ? armed.levels : []);
   if (!armed) return;
   roots(armed.roots);
@@ -45,14 +45,6 @@ export function draw(state, sort) {
   $("armed-text").textContent = state.profile.text;
   resets(state.resets);
   lines(state);
-}
-
-// A day with events that no record holds is saved in words.
-function saving(wordsAlone) {
-  const file = wordsAlone ? "day.txt" : "day.records";
-  $("save").setAttribute("href", file);
-  $("save").setAttribute("download", file);
-  $("save").title = wordsAlone ? "In words, since 12-byte records cannot hold all of its events" : "As 12-byte records";
 }
 
 // What each reset does, as the desk says it.

@@ -94,7 +94,7 @@ export function wire() {
   on("undo", "click", back);
   on("redo", "click", forth);
   // the file is with the browser a moment later, and the day then counts as saved
-  on("save", "click", () => setTimeout(refresh, 400));
+  for (const save of ["save", "save-words"]) on(save, "click", () => setTimeout(refresh, 400));
   on("offer", "submit", (event) => {
     event.preventDefault();
     offer();
