@@ -15,7 +15,7 @@ use Rattle.rules.specs.declared.Scope.{Scope}
 use Rattle.rules.specs.declared.Scope.the-variants.{EveryFill, WholeRoot, OneUnit}
 use Rattle.rules.specs.declared.Rule.{Rule}
 use Rattle.admission.specs.Admission.{howMany, isFirmRule, onUnit, crowded, seenAfter, isNext, mayJoin}
-use Rattle.admission.specs.Inner.Counting.{inOne, overIn, coveredIn, SoFar, noRules, Follows, RootIs}
+use Rattle.admission.specs.Inner.Counting.{inOne, overIn, FewIn, coveredIn, SoFar, noRules, Follows, RootIs}
 use Rattle.admission.specs.declared.Tally.{Tally}
 use Rattle.admission.specs.declared.Admitted.{Admitted}
 use Rattle.admission.specs.declared.Admitted.the-variants.{With, TooMany}
@@ -162,6 +162,14 @@ module _ {before : List Rule} {tally : Tally} {counts : List ℕ} (held : SoFar 
 
       pub no-wrap : all < 4294967296
       no-wrap = omega (arith, all-is, small 0 (omega arith), small 1 (omega arith), small 2 (omega arith), small 3 (omega arith))
+
+      pub few-in : FewIn all
+      few-in =
+          let a = small 0 (omega arith) in
+          let b = small 1 (omega arith) in
+          let c = small 2 (omega arith) in
+          let d = small 3 (omega arith) in
+          (omega (arith, all-is), omega (arith, all-is), omega (arith, all-is), omega (arith, all-is))
 
       pub units-full : overIn all ≡ true → Follows before tally rule TooMany counts counts
       units-full e = crowded-stops (over-is ∙ e)

@@ -3,7 +3,7 @@ ghost use mathlib.Core.Path.{_≡_};
 ghost use mathlib.Core.List.{List};
 ghost use Prim.Native.Nat.{ℕ, _+_, _<_, max};
 ghost use Rattle.rules.specs.declared.Rule.{Rule};
-ghost use Rattle.admission.specs.Inner.Counting.{SoFar, CountsSome, Follows, Numbered, RootIs, overIn, coveredIn};
+ghost use Rattle.admission.specs.Inner.Counting.{SoFar, CountsSome, Follows, Numbered, RootIs, FewIn, overIn, coveredIn};
 use rules::Rule;
 use rules::Scope;
 
@@ -40,11 +40,12 @@ fn covered(scope: Scope) -> u64
     }
 }
 
-// Whether one of the four counts in a number is above 6.
+// Whether one of the four counts in a number, each at most 7, is above 6: with 0x79 more its byte has the highest bit.
 fn is_over(w: u64) -> bool
+    requires { ⌜ FewIn w ⌝ }
     ensures { λ r. ⌜ r ≡ overIn w ⌝ }
 {
-    (6 < w % 256) | (6 < w / 256 % 256) | (6 < w / 65_536 % 256) | (6 < w / 16_777_216)
+    (w + 0x7979_7979) & 0x8080_8080 != 0
 }
 
 // Counts a rule of a root, unless that root is neither one that has appeared nor the next, or the 65th, or a unit then has 7 rules.

@@ -10,8 +10,10 @@ use Rattle.packing.proofs.rule_place.Kinds as rule-place-kinds
 use Rattle.packing.proofs.rule_place.Reads as rule-place-reads
 use Rattle.packing.proofs.entry_of.Kinds as entry-of-kinds
 use Rattle.packing.proofs.entry_of.Reads as entry-of-reads
-use Rattle.packing.proofs.is_entry_but_time.Kinds as is-entry-but-time-kinds
-use Rattle.packing.proofs.is_entry_but_time.Reads as is-entry-but-time-reads
+use Rattle.packing.proofs.gap.Kinds as gap-kinds
+use Rattle.packing.proofs.gap.Reads as gap-reads
+use Rattle.packing.proofs.entry_gaps.Kinds as entry-gaps-kinds
+use Rattle.packing.proofs.entry_gaps.Reads as entry-gaps-reads
 use Rattle.packing.proofs.entry_place.Kinds as entry-place-kinds
 use Rattle.packing.proofs.entry_place.Reads as entry-place-reads
 use Rattle.packing.proofs.limit_number.Kinds as limit-number-kinds
@@ -29,8 +31,11 @@ rule-place κs args asked x y u v p q = (alike p q, refl)
 pub entry-of : Determines 0 entry-of-kinds.ps entry-of-kinds.r entry-of-reads.Asked entry-of-reads.Learnt
 entry-of κs args asked x y u v p q = (alike p q, refl)
 
-pub is-entry-but-time : Determines 0 is-entry-but-time-kinds.ps is-entry-but-time-kinds.r is-entry-but-time-reads.Asked is-entry-but-time-reads.Learnt
-is-entry-but-time κs args asked x y u v p q = (alike p q, refl)
+pub gap : Determines 0 gap-kinds.ps gap-kinds.r gap-reads.Asked gap-reads.Learnt
+gap κs args asked x y u v p q = (alike p q, refl)
+
+pub entry-gaps : Determines 0 entry-gaps-kinds.ps entry-gaps-kinds.r entry-gaps-reads.Asked entry-gaps-reads.Learnt
+entry-gaps κs args asked x y u v p q = (alike p q, refl)
 
 pub entry-place : Determines 0 entry-place-kinds.ps entry-place-kinds.r entry-place-reads.Asked entry-place-reads.Learnt
 entry-place κs args asked x y u v p q = (alike p q, refl)

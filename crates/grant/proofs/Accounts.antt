@@ -12,7 +12,7 @@ use Rattle.machine.specs.Offers.{credited}
 use Rattle.state.specs.State.{decode}
 use Rattle.state.specs.Inner.Laid.{Laid}
 use Rattle.state.proofs.Done.{Doing, doing-none, doing-at, doing-more, doing-all}
-use Rattle.grant.specs.Inner.Grant.{concerns, fills, reachedAt, Credited, AllCredited}
+use Rattle.grant.specs.Inner.Grant.{concerns, fillsBy, reachedAt, Credited, AllCredited}
 use Rattle.grant.specs.declared.Reached.{Reached}
 use Rattle.grant.proofs.Credits.{credit-fair}
 use Rattle.grant.proofs.Tested.{Tested, tested-none, tested-more, tested-done}
@@ -20,7 +20,7 @@ use Rattle.grant.proofs.Tested.{Tested, tested-none, tested-more, teste
 module _ (o : Offer) (grant : ℕ) where
   -- an absolute rule of a level that covers the offer stands at its limit after the grant
   abbrev pub filledAt : Level → Account → Bool
-  filledAt level a = concerns o level a && fills o grant a
+  filledAt level a = concerns o level a && fillsBy o grant a
 
   -- the first i accounts of xs are credited in ys, and reached tells whether one of these stands at its limit
   pub record Crediting (xs : List ℕ) (i : ℕ) (ys : List ℕ) (reached : Reached) : Type 0 where

@@ -20,7 +20,7 @@ use Rattle.laws.proofs.Every.{every-at}
 use Rattle.state.specs.State.{stored, decode}
 use Rattle.state.specs.Inner.Laid.{accountIn, withTotal}
 use Rattle.state.proofs.Done.{isMeasured, Fair, changeAt}
-use Rattle.grant.specs.Inner.Grant.{concerns, fills, areTotals}
+use Rattle.grant.specs.Inner.Grant.{concerns, fillsBy, areTotals}
 use Rattle.rules.specs.declared.Kind.the-variants.{Absolute}
 
 -- a rule, as the code finds it: whether it is absolute, and whether it covers the offer
@@ -50,8 +50,8 @@ module _ (o : Offer) (grant : ℕ) (a : Account) {rule : Rule} {x y : Bool} (is 
       go false true t n h = absurd (false≢true (sym h))
       go false false t n h = refl
 
-  pub fills-off : (level : Level) → not (x && y) ≡ true → (concerns o level a && fills o grant a) ≡ false
-  unfolding concerns fills
+  pub fills-off : (level : Level) → not (x && y) ≡ true → (concerns o level a && fillsBy o grant a) ≡ false
+  unfolding concerns fillsBy
   fills-off level out = go (sameLevel (levelOf (a .rule .scope)) level) (coversOffer o (a .rule)) (isRate (a .rule .kind)) _ (both false out)
     where
       go : (s i r n : Bool) → (not r && i) ≡ false → ((s && i) && cond r false n) ≡ false
@@ -72,8 +72,8 @@ module _ (o : Offer) (grant : ℕ) (a : Account) {rule : Rule} {x y : Bool} (is 
       go false true t n h = refl
       go false false t n h = absurd (false≢true h)
 
-  pub fills-on : not (x && y) ≡ false → fills o grant a ≡ eqb (numberOf (a .total) + added (a .rule .limit) (o .premium) grant) (ceiling (a .rule .limit))
-  unfolding fills
+  pub fills-on : not (x && y) ≡ false → fillsBy o grant a ≡ eqb (numberOf (a .total) + added (a .rule .limit) (o .premium) grant) (ceiling (a .rule .limit))
+  unfolding fillsBy
   fills-on h = go (isRate (a .rule .kind)) (coversOffer o (a .rule)) _ (both true h)
     where
       go : (r i n : Bool) → (not r && i) ≡ true → cond r false n ≡ n

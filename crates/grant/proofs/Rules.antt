@@ -21,11 +21,9 @@ use Rattle.state.specs.State.{decode}
 use Rattle.state.specs.Inner.Laid.{Laid, accountIn}
 use Rattle.state.proofs.After.{held-laid}
 use Rattle.state.proofs.Done.{change-none, doing-at}
-use Rattle.grant.specs.Inner.Grant.{concerns, fills, lowered, overrunAt, Credited}
+use Rattle.grant.specs.Inner.Grant.{concerns, fillsBy, lowered, Credited}
 use Rattle.grant.specs.declared.Reached.{Reached}
 use Rattle.grant.proofs.Cut.{Cut, lowered-off, cut-more}
-use Rattle.grant.proofs.Tested.{Tested, tested-more, tested-off}
-use Rattle.grant.proofs.Reports.{overrun-off}
 use Rattle.grant.proofs.Credits.{credit-fair, credited-off, fills-off}
 use Rattle.grant.proofs.Accounts.{Crediting, crediting-more}
 
@@ -72,15 +70,6 @@ module _ {xs : List ℕ} (h : Laid xs) where
                 → Cut (decode xs .log) o accounts level (i + 1) k
             skip i k l out d = cut-more noAccount d l (lowered-off o (accountIn xs i) refl (sym out) (decode xs .log) level k refl)
 
-        -- whether a rule of a level is overrun, after the rule
-        pub overrun-rule : (level : Level) {a b : Bool} → Tested (overrunAt (decode xs .log) o level) accounts place a
-            → b ≡ (a || overrunAt (decode xs .log) o level (accountIn xs (place + n))) → Tested (overrunAt (decode xs .log) o level) accounts next b
-        unfolding coversOffer
-        overrun-rule level c e =
-            past-rule (Tested (overrunAt (decode xs .log) o level) accounts)
-            (λ i k l out d. tested-off d l (overrun-off (decode xs .log) o (accountIn xs i) refl (sym out) level refl)) on c
-            (λ d. tested-more d faced-low e)
-
         -- the accounts credited after the rule
         pub crediting-rule : {grant : ℕ} {ys zs : List ℕ} {before after : Reached} → Crediting o grant xs place ys before
             → Credited o grant (place + n) ys zs before after → Crediting o grant xs next zs after
@@ -96,7 +85,7 @@ module _ {xs : List ℕ} (h : Laid xs) where
                 let there : accountIn us i ≡ accountIn xs i = doing-at (credit-fair o grant) h (d .doing) in
                 let none = ap (λ (b : Account). coversOffer o (b .rule)) there ∙ out in
                 let test = ap not (and-false (not (isRate (a .rule .kind)))) in
-                let same : (b : Bool) (level : Level) → b ≡ (b || (concerns o level a && fills o grant a)) = λ b level.
+                let same : (b : Bool) (level : Level) → b ≡ (b || (concerns o level a && fillsBy o grant a)) = λ b level.
                 sym (ap (λ (t : Bool). b || t) (fills-off o grant a refl refl (sym none) level test) ∙ or-false b) in
                 crediting-more o grant h d l (record {
                   memory = change-none (credited o grant) i (held-laid (d .doing .holds)) (credited-off o grant a refl refl (sym none) test);

@@ -8,15 +8,16 @@ use mathlib.Core.List.{List, map}
 use lib.ListN.{length}
 use lib.Dec.{ltb, eqb}
 use Rattle.measures.specs.Ranges.{offers}
+use Rattle.rules.proofs.Held.{ceiling-low}
 use Rattle.rules.specs.declared.Level.{Level}
 use Rattle.rules.specs.declared.Level.the-variants.{Firm, Root}
 use Rattle.machine.specs.Entries.{areOrdered}
 use Rattle.machine.specs.State.{State, Locks, rulesIn, rootsIn}
 use Rattle.machine.specs.Offers.{joinedLog, credited, levelTrips}
 use Rattle.state.specs.State.{stored, decode}
-use Rattle.state.specs.Inner.Laid.{Laid, withClock, withLocks, withRegister, withLog, withAccounts}
+use Rattle.state.specs.Inner.Laid.{Laid, accountIn, withClock, withLocks, withRegister, withLog, withAccounts}
 use Rattle.state.specs.Inner.Tests.{registerPart, putRegister}
-use Rattle.state.proofs.Laid.{laid-orders, laid-sent}
+use Rattle.state.proofs.Laid.{laid-orders, laid-sent, laid-in-range}
 use Rattle.state.proofs.After.{Holds, held-state, held-laid, step-on, register-after, fits-clock, fits-register}
 use Rattle.state.proofs.Done.{fits-all}
 use Rattle.locks.proofs.Numbers.{trips-told}
@@ -31,6 +32,7 @@ use Rattle.grant.specs.declared.Reached.{Reached}
 use Rattle.grant.specs.declared.Trips.{Trips}
 use Rattle.grant.proofs.Trip.{grant-cuts, level-trips}
 use Rattle.grant.proofs.Credits.{credit-fair}
+use Rattle.grant.proofs.Reports.{report-trips}
 use Rattle.grant.proofs.Joined.{fits-joined}
 use Rattle.machine.specs.Register.{usedUp, areDifferent, registerAfter, registerBy}
 use Rattle.machine.proofs.Register.{registered-used}
@@ -143,6 +145,14 @@ module _ {xs : List ℕ} {o : Offer} {grant : ℕ} {cuts : Cuts} (r : Ready xs o
 module _ {xs : List ℕ} {o : Offer} {i : ℕ} (r : Returning xs o i) where
   pub returning-filling : Filling xs o (o .contracts)
   returning-filling = record { asked = r .asked; most = r .asked .contracts .1; room = r .room }
+
+  -- what it trips
+  pub returning-trips : (level : Level) {reached : Bool} {cut : ℕ} → reached ≡ reachedAt o (o .contracts) (decode xs .part .accounts) level
+      → cut ≡ leastAt (decode xs .log) o (decode xs .part .accounts) level
+      → (identity : ℕ) → (reached || ltb cut (o .contracts)) ≡ levelTrips (reported identity) (decode xs .log) o (o .contracts) (decode xs .part .accounts) level
+  returning-trips level =
+      report-trips (decode xs .log) o (omega (arith, r .asked .contracts .0)) level (decode xs .part .accounts)
+      (λ k l. ceiling-low (accountIn xs k .rule .limit) (laid-in-range (r .asked .laid) l .0))
 
   module _ {zs : List ℕ} (h : Holds (logged o (o .contracts) (paid o (o .contracts) (decode xs))) xs zs) where
     same-register : registerIn (registerPart zs) ≡ decode xs .part .register

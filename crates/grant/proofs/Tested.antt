@@ -26,10 +26,6 @@ module _ {test : Account → Bool} {accounts : List Account} {i : ℕ} {b : Bool
         ∙ ap (λ (l : List Account). b || anyOf test l) (sym (next accounts i noAccount l)) ∙ t .rest;
   }
 
-  -- an account that does not pass it
-  pub tested-off : i < length accounts → test (getD accounts i noAccount) ≡ false → Tested test accounts (i + 1) b
-  tested-off l out = tested-more l (sym (ap (λ (t : Bool). b || t) out ∙ or-false b))
-
   -- all accounts went through
   pub tested-done : length accounts ≤ i → b ≡ anyOf test accounts
   unfolding anyOf

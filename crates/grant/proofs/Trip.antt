@@ -20,7 +20,7 @@ use Rattle.machine.specs.Entries.{entryShare}
 use Rattle.laws.specs.Folds.{sumOf, anyOf}
 use Rattle.machine.specs.Offers.{counted, coversOffer, sameLevel, grantOf, levelTrips, tripsBy}
 use Rattle.machine.specs.declared.Offer.{Offer}
-use Rattle.grant.specs.Inner.Grant.{concerns, allowedBy, lowered, leastAt, fills, reachedAt}
+use Rattle.grant.specs.Inner.Grant.{concerns, allowedBy, lowered, leastAt, fillsBy, reachedAt}
 use Rattle.grant.proofs.Cut.{level-of, lowered-le}
 use Rattle.machine.specs.Deeds.{granted}
 
@@ -67,8 +67,8 @@ module _ (log : List Entry) (o : Offer) (grant : ℕ) where
   filled-so Absolute total logged more most = refl
 
   -- a rule trips by the cut, or because it is filled
-  trips-so : (a : Account) → trips (a .rule) (counted log (o .time) a) (o .premium) (o .contracts) grant ≡ (cutBy a || fills o grant a)
-  unfolding trips counted fills allowedBy
+  trips-so : (a : Account) → trips (a .rule) (counted log (o .time) a) (o .premium) (o .contracts) grant ≡ (cutBy a || fillsBy o grant a)
+  unfolding trips counted fillsBy allowedBy
   trips-so a =
       ap (λ (b : Bool). (ltb grant (o .contracts) && eqb (allowedBy log o a) grant) || b)
       (filled-so (a .rule .kind) (numberOf (a .total)) (sumOf (entryShare (a .rule) (o .time)) log) (added (a .rule .limit) (o .premium) grant) (ceiling (a .rule .limit)))
@@ -124,5 +124,5 @@ module _ (log : List Entry) (o : Offer) (grant : ℕ) where
       ≡ (reachedAt o grant accounts level || (ltb grant (o .contracts) && eqb (leastAt log o accounts level) grant))
   unfolding levelTrips tripsBy reachedAt concerns
   level-trips accounts level h =
-      any-either (concerns o level) cutBy (fills o grant) (λ a. trips (a .rule) (counted log (o .time) a) (o .premium) (o .contracts) grant) trips-so accounts
+      any-either (concerns o level) cutBy (fillsBy o grant) (λ a. trips (a .rule) (counted log (o .time) a) (o .premium) (o .contracts) grant) trips-so accounts
       ∙ ap (λ (b : Bool). reachedAt o grant accounts level || b) (level-cut accounts level h)

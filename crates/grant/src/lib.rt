@@ -14,9 +14,6 @@ ghost use Rattle.state.specs.State.{stored, decode};
 ghost use Rattle.state.specs.Inner.Laid.{Laid, accountIn, withLog};
 ghost use Rattle.register.specs.Register.{sentAtPlace};
 ghost use Rattle.grant.specs.Inner.Grant.{Fillable, areTotals, Lowered, AreCuts, Credited, AllCredited, HasRoom, marked, Ready, Filled, Returning, Returned};
-
-mod overruns;
-
 use log::Two;
 use machine::Entry;
 use machine::Offer;
@@ -229,10 +226,15 @@ pub fn come_back(m: &mut [u64], o: Offer, i: usize) -> Trips
     requires { ⌜ Returning (now m) o i ⌝ }
     ensures { λ r. ⌜ Returned (now (m .entry)) o (sentAtPlace (decode (now (m .entry)) .part .register) i .identity) (now (m .exit)) r ⌝ }
 {
-    let trips = overruns::trips_of(m, o);
-    credit(m, o, o.contracts);
+    let cuts = cuts_of(m, o);
+    let reached = credit(m, o, o.contracts);
     join_log(m, o, o.contracts);
     register::use_up(&mut m[state::REGISTER..state::LOG], i, o.contracts);
+    // A level trips if one of its rules allows less than is reported, or an absolute one stands at its limit after it.
+    let trips = Trips {
+        root: reached.root | (cuts.root < o.contracts),
+        firm: reached.firm | (cuts.firm < o.contracts),
+    };
     mark(m, o, trips);
     trips
 }

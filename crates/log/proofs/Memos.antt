@@ -1,14 +1,14 @@
 -- Memos: none, one of a sieve, and one that serves a rule. Assumes nothing.
-use Prim.Native.Nat.{ℕ, _+_, _*_, _-_, _≤_, _<_}
-use mathlib.Core.Path.{_≡_, refl, sym, ap, _∙_, subst}
+use Prim.Native.Nat.{ℕ, zero, suc, _+_, _*_, _-_, _≤_, _<_}
+use mathlib.Core.Path.{_≡_, refl, sym, ap, ap₂, _∙_, subst}
 use mathlib.Core.Bool.{Bool, true, false, cond, _&&_, and-false}
-use mathlib.Core.List.{List, [], _∷_}
+use mathlib.Core.List.{List, [], _∷_, reverse}
 use native.Mathlib.Nat.{mul-zero}
 use native.Mathlib.Omega.{arith}
 use lib.Bits.{bitAnd, and-le-r}
-use lib.Dec.{eqb}
-use lib.ListN.{getD, drop}
-use borrow.Author.Tests.{eqb-true, ne-eqb, eq-eqb}
+use lib.Dec.{eqb, ltb}
+use lib.ListN.{length, getD, drop}
+use borrow.Author.Tests.{eqb-true, ne-eqb, eq-eqb, ltb-true, ltb-false}
 use Rattle.laws.proofs.Tests.{and-l, and-r}
 use Rattle.rules.specs.Rules.{added, executions}
 use Rattle.rules.specs.declared.Limit.{Limit}
@@ -19,16 +19,16 @@ use Rattle.machine.specs.declared.Entry.{Entry}
 use Rattle.machine.specs.Entries.{areOrdered, entryShare}
 use Rattle.laws.specs.Folds.{sumOf}
 use Rattle.packing.specs.EntryPlace.{entryAt}
-use Rattle.packing.proofs.EntryPlace.{entry-here, entry-ranged}
+use Rattle.packing.proofs.EntryPlace.{Ranged, entry-here, entry-in, entryIn, entry-ranged}
 use Rattle.log.proofs.Logs.{held-entry}
 use Rattle.log.specs.declared.sieves.Sieve.{Sieve}
 use Rattle.log.specs.declared.Memo.{Memo}
 use Rattle.log.specs.Inner.Log.{HeldLog, entriesOf}
-use Rattle.log.specs.Newest.{isSince, newest}
+use Rattle.log.specs.Newest.{passed, isSince, newest}
 use Rattle.log.specs.Inner.Sieve.{sieveOf, isWanted, passes, fillNumber, sifted}
-use Rattle.log.specs.Inner.Memo.{memoSum, sieveFor, isMemoOf, memoFor, noMemo, Right}
-use Rattle.log.proofs.Newest.{newest-sum}
-use Rattle.log.proofs.Sifting.{sieve-counts, held-fill, place-since, sifted-most}
+use Rattle.log.specs.Inner.Memo.{memoSum, sieveFor, isMemoOf, readingSince, memoFor, noMemo, Right, Passed}
+use Rattle.log.proofs.Newest.{newest-sum, read-stop}
+use Rattle.log.proofs.Sifting.{sieve-counts, held-fill, place-since, place-before, sifted-most}
 use Rattle.log.proofs.Sums.{Summed, summed-more, picked-most}
 
 abbrev pub inDollars : Limit
@@ -48,6 +48,10 @@ none-sum : (limit : Limit) (es : List Entry) → 0 ≡ sumOf (sifted limit (siev
 unfolding sumOf sifted noMemo
 none-sum limit [] = refl
 none-sum limit (e ∷ es) = rw (none-pass e) (omega (arith, none-sum limit es))
+
+pub none-passed : (es : List Entry) → Passed es noMemo
+unfolding noMemo
+none-passed es some = absurd (omega arith)
 
 pub none-right : (es : List Entry) → Right es noMemo
 unfolding Right noMemo
@@ -71,25 +75,59 @@ memo-for : (s : Sieve) (es : List Entry) → isMemoOf s (memoFor s es) ≡ true
 unfolding memoFor
 memo-for s es = rw (eq-eqb (s .mask) (s .mask) refl, eq-eqb (s .want) (s .want) refl, eq-eqb (s .from) (s .from) refl)
 
+-- all that a reading passes are not before its time
+since-all : (first : ℕ) (es : List Entry) → readingSince first (passed (isSince first) es) ≡ length (passed (isSince first) es)
+unfolding readingSince sumOf passed
+since-all first [] = refl
+since-all first (e ∷ es) = go (isSince first e) refl (since-all first es)
+  where
+    go : (b : Bool) → isSince first e ≡ b → readingSince first (passed (isSince first) es) ≡ length (passed (isSince first) es)
+        → readingSince first (cond b (e ∷ passed (isSince first) es) []) ≡ length (cond b (e ∷ passed (isSince first) es) [])
+    go true t h = rw t (omega (arith, h))
+    go false t h = refl
+
+pub since-passed : (first : ℕ) (es : List Entry) → readingSince first (newest first es) ≡ length (newest first es)
+unfolding newest
+since-passed first es = since-all first (reverse es)
+
+-- and in order of time those of all entries
+since-read : (first clock : ℕ) (es : List Entry) → areOrdered 0 clock es ≡ true → readingSince first (newest first es) ≡ readingSince first es
+unfolding readingSince
+since-read first clock es ordered = newest-sum first 0 clock es ordered (λ e. cond (isSince first e) 1 0) (λ e t. rw t)
+
+-- so many a reading passes
+pub passed-many : (first clock : ℕ) (es : List Entry) → areOrdered 0 clock es ≡ true → readingSince first es ≡ length (newest first es)
+passed-many first clock es ordered = sym (since-read first clock es ordered) ∙ since-passed first es
+
 -- in order of time the memo of those that a reading passes is that of all entries
 memo-read : (s : Sieve) (clock : ℕ) (es : List Entry) → areOrdered 0 clock es ≡ true → memoFor s (newest (s .from) es) ≡ memoFor s es
 unfolding memoFor
 memo-read s clock es ordered =
     let all : (limit : Limit) → sumOf (sifted limit s) (newest (s .from) es) ≡ sumOf (sifted limit s) es =
     λ limit. newest-sum (s .from) 0 clock es ordered (sifted limit s) (sifted-none limit s) in
-    rw (all inDollars, all inContracts, all inExecutions)
+    rw (all inDollars, all inContracts, all inExecutions, since-read (s .from) clock es ordered)
 
 -- a memo of a sieve is right of all entries, and is the one that all of them give
 pub record Memoed (s : Sieve) (es : List Entry) (m : Memo) : Type 0 where
   pub right : Right es m
   pub is-for : isMemoOf s m ≡ true
   pub all : m ≡ memoFor s es
+  pub many : Passed es m
+
+memo-many : (s : Sieve) (es : List Entry) → memoFor s es .passed ≡ readingSince (memoFor s es .from) es
+unfolding memoFor
+memo-many s es = refl
 
 -- in order of time a reading gives that
 pub memoed : {s : Sieve} (clock : ℕ) {es : List Entry} {m : Memo} → areOrdered 0 clock es ≡ true → m ≡ memoFor s (newest (s .from) es) → Memoed s es m
 memoed {s} clock {es} {m} ordered is =
     let whole = is ∙ memo-read s clock es ordered in
-    record { right = subst (Right es) (sym whole) (memo-right s es); is-for = ap (isMemoOf s) whole ∙ memo-for s es; all = whole }
+    record {
+      right = subst (Right es) (sym whole) (memo-right s es);
+      is-for = ap (isMemoOf s) whole ∙ memo-for s es;
+      all = whole;
+      many = λ some. subst (λ (m : Memo). m .passed ≡ readingSince (m .from) es) (sym whole) (memo-many s es);
+    }
 
 -- a memo of a rule's sieve says what the rule counts
 pub for-rule : {k : ℕ} {xs : List ℕ} → HeldLog k xs → (rule : Rule) (time : ℕ) → isRule 64 rule ≡ true → (m : Memo) → Right (entriesOf k xs) m
@@ -130,46 +168,96 @@ module _ {k : ℕ} {xs : List ℕ} (held : HeldLog k xs) (s : Sieve) (i : ℕ) (
   below : i - 1 < k
   below = omega arith
 
-  since : isSince (s .from) place ≡ true
-  since = place-since (s .from) (i - 1) held below inside
-
-  pub there : {e : Entry} → e ≡ entryAt (getD xs at 0 ∷ getD xs (at + 1) 0 ∷ []) → e ≡ place
-  there is = is ∙ entry-here xs at (omega (arith, held .size, held .fits))
+  since-here : isSince (s .from) place ≡ true
+  since-here = place-since (s .from) (i - 1) held below inside
 
   share-is : (limit : Limit) → added limit (place .premium .0) (cond (isWanted s (getD xs at 0)) (place .contracts .0) 0) ≡ sifted limit s place
   unfolding sifted passes
-  share-is limit = rw since (go (isWanted s (getD xs at 0)) (ap (isWanted s) (sym (held-fill held below))))
+  share-is limit = rw since-here (go (isWanted s (getD xs at 0)) (ap (isWanted s) (sym (held-fill held below))))
     where
       go : (b : Bool) → isWanted s (fillNumber place) ≡ b
           → added limit (place .premium .0) (cond b (place .contracts .0) 0) ≡ cond (isWanted s (fillNumber place) && true) (added limit (place .premium .0) (place .contracts .0)) 0
       go true e = rw e
       go false e = rw e (nothing limit (place .premium .0))
 
-  -- one entry more, in each measure, by the sums that the code makes
-  module _ {e : Entry} (is : e ≡ place) {counted : ℕ} (sieved : counted ≡ cond (isWanted s (getD xs at 0)) (e .contracts .0) 0) where
-    pub small : (e .premium .0 ≤ 100_000_000) × (counted ≤ 1_000_000)
-    small =
-        let r = entry-ranged 64 e (held-entry held below is) in
-        (r .premium .1, rw sieved (picked-most (isWanted s (getD xs at 0)) (e .contracts .0) 1_000_000 (r .contracts .1)))
+  -- the entry as the code takes it: with nothing in its second number where it is not wanted
+  abbrev taken : Bool
+  taken = isWanted s (getD xs at 0)
 
-    sift-more : {sum n : ℕ} (limit : Limit) → Summed (sifted limit s) (s .from) k xs i sum → n ≡ added limit (e .premium .0) counted
+  module _ {amount : ℕ} (sieved : amount ≡ cond taken (getD xs (at + 1) 0) 0) {e : Entry} (is : e ≡ entryAt (getD xs at 0 ∷ amount ∷ [])) where
+    place-in : place ≡ entryIn (getD xs at 0) (getD xs (at + 1) 0)
+    place-in = sym (entry-here xs at (omega (arith, held .size, held .fits))) ∙ entry-in (getD xs at 0) (getD xs (at + 1) 0) []
+
+    e-in : e ≡ entryIn (getD xs at 0) (cond taken (getD xs (at + 1) 0) 0)
+    e-in = is ∙ entry-in (getD xs at 0) amount [] ∙ ap (λ (n : ℕ). entryIn (getD xs at 0) n) sieved
+
+    premium-is : e .premium .0 ≡ cond taken (place .premium .0) 0
+    premium-is = ap (λ (e : Entry). e .premium .0) e-in ∙ go taken ∙ (λ j. cond taken (sym place-in j .premium .0) 0)
+      where
+        go : (b : Bool) → entryIn (getD xs at 0) (cond b (getD xs (at + 1) 0) 0) .premium .0 ≡ cond b (entryIn (getD xs at 0) (getD xs (at + 1) 0) .premium .0) 0
+        go true = refl
+        go false = refl
+
+    contracts-is : e .contracts .0 ≡ cond taken (place .contracts .0) 0
+    contracts-is = ap (λ (e : Entry). e .contracts .0) e-in ∙ go taken ∙ (λ j. cond taken (sym place-in j .contracts .0) 0)
+      where
+        go : (b : Bool) → entryIn (getD xs at 0) (cond b (getD xs (at + 1) 0) 0) .contracts .0 ≡ cond b (entryIn (getD xs at 0) (getD xs (at + 1) 0) .contracts .0) 0
+        go true = refl
+        go false = refl
+
+    ranged : Ranged 64 place
+    ranged = entry-ranged 64 place (held-entry held below refl)
+
+    pub small : (e .premium .0 ≤ 100_000_000) × (e .contracts .0 ≤ 1_000_000)
+    small = (rw premium-is (picked-most taken (place .premium .0) 100_000_000 (ranged .premium .1)), rw contracts-is (picked-most taken (place .contracts .0) 1_000_000 (ranged .contracts .1)))
+
+    -- one entry more, in each measure, by the sums that the code makes
+    sift-more : {sum n : ℕ} (limit : Limit) → Summed (sifted limit s) (s .from) k xs i sum → n ≡ added limit (place .premium .0) (cond taken (place .contracts .0) 0)
         → Summed (sifted limit s) (s .from) k xs (i - 1) (sum + n)
-    sift-more limit sum number =
-        summed-more sum some refl since (number ∙ rw (sieved, is) (share-is limit)) (sifted-most limit s _ (held-entry held below refl))
+    sift-more limit sum number = summed-more sum some refl since-here (number ∙ share-is limit) (sifted-most limit s _ (held-entry held below refl))
 
-    pub more-notional : {sum n : ℕ} → Summed (sifted inDollars s) (s .from) k xs i sum → n ≡ e .premium .0 * counted
+    pub more-notional : {sum n : ℕ} → Summed (sifted inDollars s) (s .from) k xs i sum → n ≡ e .premium .0 * e .contracts .0
         → Summed (sifted inDollars s) (s .from) k xs (i - 1) (sum + n)
     unfolding added
-    more-notional sum number = sift-more inDollars sum number
+    more-notional sum number =
+        sift-more inDollars sum (number ∙ ap₂ (λ (p c : ℕ). p * c) premium-is contracts-is ∙ go taken)
+      where
+        go : (b : Bool) → cond b (place .premium .0) 0 * cond b (place .contracts .0) 0 ≡ place .premium .0 * cond b (place .contracts .0) 0
+        go true = refl
+        go false = sym (mul-zero (place .premium .0))
 
-    pub more-volume : {sum : ℕ} → Summed (sifted inContracts s) (s .from) k xs i sum → Summed (sifted inContracts s) (s .from) k xs (i - 1) (sum + counted)
+    pub more-volume : {sum : ℕ} → Summed (sifted inContracts s) (s .from) k xs i sum → Summed (sifted inContracts s) (s .from) k xs (i - 1) (sum + e .contracts .0)
     unfolding added
-    more-volume sum = sift-more inContracts sum refl
+    more-volume sum = sift-more inContracts sum contracts-is
 
-    pub more-count : {sum n : ℕ} → Summed (sifted inExecutions s) (s .from) k xs i sum → n ≡ executions counted
+    pub more-count : {sum n : ℕ} → Summed (sifted inExecutions s) (s .from) k xs i sum → n ≡ cond taken 1 0
         → Summed (sifted inExecutions s) (s .from) k xs (i - 1) (sum + n)
-    unfolding added
-    more-count sum number = sift-more inExecutions sum number
+    unfolding added executions
+    more-count sum number = sift-more inExecutions sum (number ∙ go taken (place .contracts .0) (ranged .contracts .0))
+      where
+        go : (b : Bool) (c : ℕ) → 1 ≤ c → cond b 1 0 ≡ executions (cond b c 0)
+        go true zero l = absurd (omega arith)
+        go true (suc c) l = refl
+        go false c l = refl
+
+-- where a reading still passes an entry, the next one is not before its time
+pub not-stopped : {k : ℕ} {xs : List ℕ} (first i : ℕ) → HeldLog k xs → 0 < i → i ≤ k → 0 < length (newest first (entriesOf i xs))
+    → first * 1024 ≤ getD xs ((i - 1) * 2) 0
+not-stopped {xs = xs} first i held some within left = go (ltb number (first * 1024)) refl
+  where
+    number : ℕ
+    number = getD xs ((i - 1) * 2) 0
+
+    go : (b : Bool) → ltb number (first * 1024) ≡ b → first * 1024 ≤ number
+    go true t =
+        let out = place-before first (i - 1) held (omega arith) (ltb-true number (first * 1024) t) in
+        absurd (omega (arith, ap length (read-stop first xs i some refl out)))
+    go false t = ltb-false number (first * 1024) t
+
+-- nothing is left to read where so many are passed as a reading passes
+pub none-left : (es : List Entry) → length es ≡ 0 → es ≡ []
+none-left [] e = refl
+none-left (x ∷ es) e = absurd (omega arith)
 
 -- what is summed so far fits 64 bits
 pub sum-fits : {f : Entry → ℕ} {first k i sum : ℕ} {xs : List ℕ} → HeldLog k xs → Summed f first k xs i sum → sum < 18_446_744_073_709_551_616

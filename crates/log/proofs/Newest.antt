@@ -94,6 +94,13 @@ older-outside first from clock (e ∷ es) o =
         ∙ rw (all, t) (sym (reverse-cons e es))
     go false t rest h = passed-off (isSince first) (reverse es) e t ∙ h
 
+-- it passes no more than there are
+pub newest-most : (first : ℕ) (es : List Entry) → length (newest first es) ≤ length es
+unfolding newest
+newest-most first es =
+    let read = passed (isSince first) (reverse es) in
+    omega (arith, length-reverse es, ap length (passed-front (isSince first) (reverse es)), length-append read (drop (length read) (reverse es)))
+
 -- what a reading passes stands last
 pub newest-last : (first : ℕ) (es : List Entry) → reverse (newest first es) ≡ drop (length es - length (newest first es)) es
 unfolding newest

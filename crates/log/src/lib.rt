@@ -40,7 +40,7 @@ fn are_entries(log: &[u64], k: usize, roots: u64, clock: u64) -> bool
     requires { ⌜ (length (now log) ≡ 1024) × (k ≤ 512) ⌝ }
     ensures { λ r. ⌜ r ≡ entriesHold roots clock k (now (log .entry)) ⌝ }
 {
-    let mut good = true;
+    let mut gaps: u64 = 0;
     let mut from: u64 = 0;
     let mut i: usize = 0;
     while i < k {
@@ -48,14 +48,17 @@ fn are_entries(log: &[u64], k: usize, roots: u64, clock: u64) -> bool
         let first = log[at];
         let second = log[at + 1];
         let time = first / 1024;
+        let own = packing::entry_gaps(first, second, roots);
         // No way out of the loop before its end, so that the entries can be tested side by side.
-        good = good
-            & (packing::is_entry_but_time(first, second, roots) & (0 < first % 4) & (from <= time));
+        gaps = gaps | (own | packing::gap(first % 4, 1) | packing::gap(time, from));
         from = time;
         i += 1;
     }
     // No time is above the last one, and a time in range has nothing above it.
-    good & (from <= Time::MOST) & (from <= clock) & tables::is_zero(&log[k * 2..])
+    (gaps < packing::CLEAR)
+        & (from <= Time::MOST)
+        & (from <= clock)
+        & tables::is_zero(&log[k * 2..])
 }
 
 // Whether the log's table holds as many entries as it says, with so many roots, in order of time, none later than the clock.
@@ -70,11 +73,12 @@ pub fn is_log(log: &[u64], roots: u64, clock: u64) -> bool
     are_entries(&log[1..SIZE], k, roots, clock)
 }
 
-// What the entries that pass a sieve count in each measure.
+// What the entries that pass a sieve count in each measure, and how many are not before its time.
 pub struct Memo {
     pub mask: u64,
     pub want: u64,
     pub from: u64,
+    pub passed: usize,
     pub notional: TenThousandths,
     pub volume: Contracts,
     pub count: Executions,
@@ -94,6 +98,7 @@ pub fn no_memos() -> Two
         mask: 0,
         want: 1,
         from: 0,
+        passed: 0,
         notional: TenThousandths(0),
         volume: Contracts(0),
         count: Executions(0),
@@ -126,7 +131,8 @@ pub fn counted(log: &[u64], rule: Rule, time: u64) -> Amount
     let limit = rule.limit;
     let k = log[0] as usize;
     let s = sieves::sieve_of(rule, time);
-    sum_in(limit, sieves::memo_of(&log[1..SIZE], k, s))
+    let passed = windows::since(&log[1..SIZE], k, s.from);
+    sum_in(limit, sieves::memo_of(&log[1..SIZE], k, passed, s))
 }
 
 // Memos of which the last is that of a rule at a time: one of those before, or a new one.
@@ -147,7 +153,8 @@ pub fn recalled(log: &[u64], rule: Rule, time: u64, before: Two) -> Two
         };
     }
     let k = log[0] as usize;
-    let new = sieves::memo_of(&log[1..SIZE], k, s);
+    let passed = sieves::passed_from(&log[1..SIZE], k, s.from, last);
+    let new = sieves::memo_of(&log[1..SIZE], k, passed, s);
     Two {
         last: new,
         other: last,

@@ -2,12 +2,15 @@
 ghost use mathlib.Core.Path.{_≡_};
 ghost use mathlib.Core.Bool.{true, cond};
 ghost use Rattle.rules.specs.Valid.{isRule};
-ghost use Prim.Native.Nat.{_≤_};
+ghost use Prim.Native.Nat.{ℕ, _≤_};
+ghost use Rattle.machine.specs.Entries.{areOrdered};
+ghost use lib.ListN.{length};
 ghost use Rattle.log.specs.Inner.Log.{HeldLog, entriesOf};
-ghost use Rattle.log.specs.Inner.Memo.{memoFor, isMemoOf};
+ghost use Rattle.log.specs.Inner.Memo.{memoFor, isMemoOf, Passed};
 ghost use Rattle.log.specs.Newest.{newest};
 ghost use Rattle.log.specs.Inner.Sieve.{firstTime, sieveOf, isWanted};
 use crate::Memo;
+use crate::windows::since;
 use measures::Contracts;
 use measures::Executions;
 use measures::TenThousandths;
@@ -21,7 +24,7 @@ use rules::Scope;
 pub(crate) struct Sieve {
     mask: u64,
     want: u64,
-    from: u64,
+    pub(crate) from: u64,
 }
 
 // The first time that still counts at this one, or a day's end if none does.
@@ -71,15 +74,11 @@ pub(crate) fn sieve_of(rule: Rule, time: u64) -> Sieve
     }
 }
 
-// The contracts of an entry whose first number has the digits that a sieve wants, else none.
-fn sieved(s: Sieve, fill: u64, contracts: Contracts) -> Contracts
-    ensures { λ r. ⌜ r .0 ≡ cond (isWanted s fill) (contracts .0) 0 ⌝ }
+// A number of an entry whose first number has the digits that a sieve wants, else 0.
+fn sieved(s: Sieve, fill: u64, n: u64) -> u64
+    ensures { λ r. ⌜ r ≡ cond (isWanted s fill) n 0 ⌝ }
 {
-    if fill & s.mask == s.want {
-        contracts
-    } else {
-        Contracts(0)
-    }
+    if fill & s.mask == s.want { n } else { 0 }
 }
 
 // Whether a memo is that of a sieve.
@@ -89,35 +88,46 @@ pub(crate) fn is_for(s: Sieve, m: Memo) -> bool
     (m.mask == s.mask) & (m.want == s.want) & (m.from == s.from)
 }
 
-// What the entries that pass a sieve count in each measure, in one reading from the newest on, up to the first that is before the sieve's time.
-pub(crate) fn memo_of(log: &[u64], k: usize, s: Sieve) -> Memo
-    requires { ⌜ HeldLog k (now log) × (s .from ≤ 86_400_000) ⌝ }
+// How many entries a reading from a first time on passes: as many as that of a memo with the same first time did, else the log is read.
+pub(crate) fn passed_from(log: &[u64], k: usize, from: u64, m: Memo) -> usize
+    requires { ⌜ HeldLog k (now log) × (from ≤ 86_400_000) × Passed (entriesOf k (now log)) m × ((clock : ℕ) × (areOrdered 0 clock (entriesOf k (now log)) ≡ true)) ⌝ }
+    ensures { λ r. ⌜ r ≡ length (newest from (entriesOf k (now (log .entry)))) ⌝ }
+{
+    if (0 < m.mask) & (m.from == from) {
+        return m.passed;
+    }
+    since(log, k, from)
+}
+
+// What the entries that pass a sieve count in each measure, from the newest on: of as many as a reading passes up to the first that is before the sieve's
+// time, so that none of them has to be tested for its time.
+pub(crate) fn memo_of(log: &[u64], k: usize, passed: usize, s: Sieve) -> Memo
+    requires { ⌜ HeldLog k (now log) × (passed ≡ length (newest (s .from) (entriesOf k (now log)))) ⌝ }
     ensures { λ r. ⌜ r ≡ memoFor s (newest (s .from) (entriesOf k (now (log .entry)))) ⌝ }
 {
-    let from = s.from * 1024;
+    let first = k - passed;
     let mut notional = TenThousandths(0);
     let mut volume = Contracts(0);
     let mut count = Executions(0);
     let mut i = k;
-    while 0 < i {
+    while first < i {
         i -= 1;
         let at = i * 2;
         let fill = log[at];
-        if fill < from {
-            break;
-        }
-        let e = packing::entry_of(fill, log[at + 1]);
+        let amount = log[at + 1];
+        let e = packing::entry_of(fill, sieved(s, fill, amount));
         let premium = e.premium;
         let contracts = e.contracts;
-        let counted = sieved(s, fill, contracts);
-        notional = notional.plus(premium.times(counted));
-        volume = volume.plus(counted);
-        count = count.plus(counted.executions());
+        let one = Executions(sieved(s, fill, 1));
+        notional = notional.plus(premium.times(contracts));
+        volume = volume.plus(contracts);
+        count = count.plus(one);
     }
     Memo {
         mask: s.mask,
         want: s.want,
         from: s.from,
+        passed,
         notional,
         volume,
         count,

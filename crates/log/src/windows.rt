@@ -16,7 +16,7 @@ use machine::Entry;
 use rules::Kind;
 
 // How many of the log's k entries a reading from the newest on passes, up to the first that is before a time.
-fn since(log: &[u64], k: usize, first: u64) -> usize
+pub(crate) fn since(log: &[u64], k: usize, first: u64) -> usize
     requires { ⌜ HeldLog k (now log) × (first ≤ 86_400_000) ⌝ }
     ensures { λ r. ⌜ r ≡ length (newest first (entriesOf k (now (log .entry)))) ⌝ }
 {

@@ -1,2 +1,3 @@
 pub mod RulePlace
 pub mod EntryPlace
+pub mod Gaps

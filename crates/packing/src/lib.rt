@@ -6,7 +6,8 @@ ghost use lib.Dec.{ltb};
 ghost use Rattle.measures.specs.Ranges.{isIn, premiums, offers};
 ghost use Rattle.packing.specs.RulePlace.{limitNumber, ruleAt, isRulePlace, rulePlace};
 ghost use Rattle.rules.specs.Valid.{isRule};
-ghost use Rattle.packing.specs.EntryPlace.{entryAt, isEntryButTime, entryPlace};
+ghost use Rattle.packing.specs.EntryPlace.{entryAt, entryPlace};
+ghost use Rattle.packing.specs.Gaps.{gapOf, entryGaps};
 
 mod terms;
 mod words;
@@ -23,6 +24,9 @@ use tables::Place;
 const TWO_20: u64 = 1_048_576;
 
 const TWO_27: u64 = 134_217_728;
+
+// Two to the 63rd: what joined gaps stay below where each is clear.
+pub const CLEAR: u64 = 9_223_372_036_854_775_808;
 
 // A limit's number.
 pub fn limit_number(limit: Limit) -> u64
@@ -115,12 +119,25 @@ fn are_ranged(roots: u64, root: u64, premium: u64, contracts: u64) -> bool
         & measures::is_in(contracts, Contracts::OFFER_LEAST, Contracts::OFFER_MOST)
 }
 
-// Whether two numbers are those of an entry, its time aside: every other number is in its range.
-pub fn is_entry_but_time(first: u64, second: u64, roots: u64) -> bool
-    ensures { λ r. ⌜ r ≡ isEntryButTime roots first second ⌝ }
+// How far a number is above another, modulo 2^64: clear, which is below 2^63, just where it is not less, if both are below 2^63. Gaps are joined by |, and
+// what they are joined to is clear just where each is.
+pub fn gap(a: u64, b: u64) -> u64
+    ensures { λ r. ⌜ r ≡ gapOf a b ⌝ }
 {
+    std::num::wrapping_sub_u64(a, b)
+}
+
+// The gaps that tell whether two numbers are those of an entry, its time aside: every other number is in its range, with so many roots.
+pub fn entry_gaps(first: u64, second: u64, roots: u64) -> u64
+    ensures { λ r. ⌜ r ≡ entryGaps roots first second ⌝ }
+{
+    let root = first / 16 % 64;
     // A premium in range has nothing above it.
-    are_ranged(roots, first / 16 % 64, second / TWO_20, second % TWO_20)
+    let premium = second / TWO_20;
+    let contracts = second % TWO_20;
+    gap(numbers::least(roots, 64), root + 1)
+        | (gap(premium, TenThousandths::PREMIUM_LEAST) | gap(TenThousandths::PREMIUM_MOST, premium))
+        | (gap(contracts, Contracts::OFFER_LEAST) | gap(Contracts::OFFER_MOST, contracts))
 }
 
 // The two numbers of an entry, 0 and 0 for one with a number out of its range, with 64 roots.

@@ -5,3 +5,4 @@ pub mod Finding
 pub mod Changing
 pub mod Moving
 pub mod Differing
+pub mod Gaps

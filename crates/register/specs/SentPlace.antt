@@ -1,14 +1,17 @@
 -- An order sent away in two numbers. Assumes nothing.
-use Prim.Native.Nat.{ℕ}
+use Prim.Native.Nat.{ℕ, _+_, _/_, _%_, min}
 use mathlib.Core.Bool.{Bool}
 use mathlib.Core.List.{List, [], _∷_}
+use lib.Bits.{bitOr}
 use lib.ListN.{getD}
+use Rattle.measures.specs.Ranges.{premiums}
 use Rattle.bits.specs.Fields.{packed, unpacked}
 use Rattle.machine.specs.Register.{isSent}
 use Rattle.machine.specs.declared.Sent.{Sent}
 use Rattle.shapes.specs.Shape.{Shape, coded}
 use Rattle.tables.specs.Inner.Tables.{isPlace}
 use Rattle.packing.specs.EntryPlace.{amountWidths}
+use Rattle.packing.specs.Gaps.{gapOf, rangeGaps}
 
 -- the widths of the first number's fields: spare, identity, root, unit, reports still allowed; the second's are those of an entry's
 abbrev pub sentWidths : List ℕ
@@ -47,3 +50,9 @@ isSentPlace roots xs = isPlace 2 (isSent roots) sentFrom sentNumbers xs
 -- an order with so many roots, in its two numbers
 unfoldable pub sentShape : ℕ → Shape 2 Sent
 sentShape roots = coded 2 (isSent roots) sentFrom sentNumbers
+
+-- two numbers tell an identity with nothing above it, a root, reports, a premium with nothing above it, and contracts, each in its range
+unfoldable pub sentGaps : ℕ → ℕ → ℕ → ℕ
+sentGaps roots first second =
+    bitOr (bitOr (bitOr (bitOr (gapOf 65_535 (first / 8192)) (gapOf (min roots 64) (first / 128 % 64 + 1))) (gapOf 16 (first % 32)))
+    (rangeGaps premiums (second / 1_048_576))) (gapOf 1_000_000 (second % 1_048_576))

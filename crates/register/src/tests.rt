@@ -15,15 +15,15 @@ pub(crate) fn are_orders(register: &[u64], k: usize, roots: u64) -> bool
     requires { ⌜ (length (now register) ≡ 129) × (k ≤ 64) ⌝ }
     ensures { λ r. ⌜ r ≡ (placesPass 2 (isSentPlace roots) k (drop 1 (now (register .entry))) && allZero (drop (k * 2) (drop 1 (now (register .entry))))) ⌝ }
 {
-    let mut good = true;
+    let mut gaps: u64 = 0;
     let mut i: usize = 0;
     while i < k {
         let at = 1 + i * 2;
         // No way out of the loop before its end, so that the orders can be tested side by side.
-        good = good & words::is_sent(register[at], register[at + 1], roots);
+        gaps = gaps | words::sent_gaps(register[at], register[at + 1], roots);
         i += 1;
     }
-    good & tables::is_zero(&register[1 + k * 2..])
+    (gaps < packing::CLEAR) & tables::is_zero(&register[1 + k * 2..])
 }
 
 // Whether no order from a place on, of the first k, has an identity; none of them has it if it is not marked.

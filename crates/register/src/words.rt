@@ -2,10 +2,11 @@
 ghost use mathlib.Core.Path.{_≡_};
 ghost use mathlib.Core.Bool.{true};
 ghost use mathlib.Core.List.{[], _∷_};
+ghost use Prim.Native.Nat.{min};
 ghost use Rattle.bits.specs.Fields.{packed};
 ghost use Rattle.machine.specs.Register.{isSent};
 ghost use Rattle.packing.specs.EntryPlace.{amountWidths};
-ghost use Rattle.register.specs.SentPlace.{sentWidths, sentValues, openValues, sentFrom, isSentPlace};
+ghost use Rattle.register.specs.SentPlace.{sentWidths, sentValues, openValues, sentFrom, sentGaps};
 use machine::Sent;
 use measures::Contracts;
 use measures::TenThousandths;
@@ -64,18 +65,23 @@ pub(crate) fn sent_of(first: u64, second: u64) -> Sent
     }
 }
 
-// Whether two numbers are those of an order with so many roots, and nothing else.
-pub(crate) fn is_sent(first: u64, second: u64, roots: u64) -> bool
-    ensures { λ r. ⌜ r ≡ isSentPlace roots (first ∷ second ∷ []) ⌝ }
+// So many roots, 64 if there are more.
+fn few(roots: u64) -> u64
+    ensures { λ r. ⌜ r ≡ min roots 64 ⌝ }
+{
+    if roots <= 64 { roots } else { 64 }
+}
+
+// The gaps that tell whether two numbers are those of an order with so many roots, and nothing else.
+pub(crate) fn sent_gaps(first: u64, second: u64, roots: u64) -> u64
+    ensures { λ r. ⌜ r ≡ sentGaps roots first second ⌝ }
 {
     // An identity and a premium in range have nothing above them.
-    (first / 8192 <= IDENTITY_MOST)
-        & (first / 128 % 64 < roots)
-        & (first % 32 <= REPORTS_MOST)
-        & measures::is_in(
-            second / TWO_20,
-            TenThousandths::PREMIUM_LEAST,
-            TenThousandths::PREMIUM_MOST,
-        )
-        & (second % TWO_20 <= Contracts::OFFER_MOST)
+    let premium = second / TWO_20;
+    packing::gap(IDENTITY_MOST, first / 8192)
+        | packing::gap(few(roots), first / 128 % 64 + 1)
+        | packing::gap(REPORTS_MOST, first % 32)
+        | (packing::gap(premium, TenThousandths::PREMIUM_LEAST)
+            | packing::gap(TenThousandths::PREMIUM_MOST, premium))
+        | packing::gap(Contracts::OFFER_MOST, second % TWO_20)
 }

@@ -1,3 +1,2 @@
 pub mod Wipes
 pub mod Resets
-pub mod None

@@ -1,14 +1,18 @@
 -- A lockout and a reset, step by step: the state that the memory then holds. Assumes nothing.
 use Prim.Native.Nat.{ℕ}
-use mathlib.Core.Path.{_≡_}
+use mathlib.Core.Path.{_≡_, refl, sym, ap, _∙_}
+use mathlib.Core.Bool.{Bool, true, false, not, _||_, false≢true}
 use mathlib.Core.List.{List, map}
+use Rattle.laws.specs.Folds.{every}
 use Rattle.machine.specs.State.{State}
 use Rattle.machine.specs.declared.Effect.{Effect}
-use Rattle.machine.specs.Effects.{zeroing, lifting}
+use Rattle.machine.specs.Entries.{isFlagged}
+use Rattle.machine.specs.Effects.{zeroing, lifting, ZeroesNone}
 use Rattle.machine.specs.Deeds.{resetting, lockingOut, clockAfter}
 use Rattle.machine.specs.Locks.{lifted, lockedOut}
 use Rattle.machine.specs.Order.{unflaggedLog, levelNamed, wiped}
 use Rattle.machine.specs.Step.{accountsAfter, locksAfter, logAfter, partAfter, after}
+use Rattle.machine.proofs.Effects.{totals-stay, log-stays}
 use Rattle.log.specs.Inner.Log.{entriesIn, logNumbers}
 use Rattle.state.specs.State.{locksNumbers, stored, decode}
 use Rattle.state.specs.Inner.Laid.{Laid, withClock, withLocks, withAccounts, withLog}
@@ -19,6 +23,15 @@ use Rattle.locks.specs.Inner.Locks.{locksIn}
 use Rattle.locks.proofs.Laid.{locks-after}
 use Rattle.reset.proofs.Wipes.{wiped-fair}
 use Rattle.machine.specs.Register.{registerAfter}
+
+-- a test of both says that an effect zeroes no counter
+pub zeroes-neither : (effect : Effect) → not (effect .zeroroot || effect .zerofirm) ≡ true → ZeroesNone effect
+zeroes-neither effect = go (effect .zeroroot) (effect .zerofirm)
+  where
+    go : (a b : Bool) → not (a || b) ≡ true → (a ≡ false) × (b ≡ false)
+    go true b e = absurd (false≢true e)
+    go false true e = absurd (false≢true e)
+    go false false e = (refl, refl)
 
 module _ {xs ys : List ℕ} (h : Laid xs) (time : ℕ) (clock : ys ≡ stored (withClock (decode xs) time) xs) where
   -- the clock moved
@@ -50,6 +63,23 @@ module _ {xs ys : List ℕ} (h : Laid xs) (time : ℕ) (clock : ys ≡ stored (w
 
     pub light-laid : Laid (putLocks ys part)
     light-laid = held-laid light
+
+    -- an effect that zeroes no counter leaves it at that, where no entry of the log is without a flag
+    pub unlocked-stored : every isFlagged (decode xs .log) ≡ true → ZeroesNone effect
+        → putLocks ys part ≡ stored (after (resetting time root effect) (decode xs)) xs
+    unfolding after partAfter clockAfter locksAfter logAfter registerAfter lightened
+    unlocked-stored flagged none =
+        light .is
+        ∙ ap (λ (s : State). stored s xs) (sym (λ i. record {
+          part = record {
+            clock = time;
+            profile = decode xs .part .profile;
+            accounts = totals-stay effect none root time (decode xs .part .accounts) i;
+            locks = lifted (lifting effect root) root (decode xs .part .locks);
+            register = decode xs .part .register;
+          };
+          log = log-stays effect none root (decode xs .log) flagged i;
+        }))
 
     module _ {zs : List ℕ} (totals : let now = putLocks ys part in zs ≡ stored (withAccounts (decode now) (map (wiped (zeroing effect root)) (decode now .part .accounts))) now) where
       emptied : Holds (withAccounts lightened (map (wiped (zeroing effect root)) (lightened .part .accounts))) xs zs

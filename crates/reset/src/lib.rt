@@ -90,25 +90,18 @@ fn wipe(m: &mut [u64], root: u64, effect: Effect)
     }
 }
 
-// Carries out the effect of an order for a root: clock, locks, totals, then the log's flags and the entries without any.
-fn carry_out(m: &mut [u64], time: u64, root: u64, effect: Effect)
-    requires { ⌜ Laid (now m) × (root < 64) ⌝ }
-    ensures { λ _. ⌜ now (m .exit) ≡ stored (after (Deed.resetting time root effect) (decode (now (m .entry)))) (now (m .entry)) ⌝ }
-{
-    state::put_clock(m, time);
-    locks::lift(&mut m[state::LOCKS..state::REGISTER], root, effect);
-    wipe(m, root, effect);
-    log::unflag(&mut m[state::LOG..state::SIZE], root, effect);
-}
-
-// What an order's reset leaves: without one the clock alone moves, as no entry of the log is without a flag.
+// What an order's reset leaves: clock and locks, and where it zeroes anything, totals, the log's flags and the entries without any. Where it zeroes nothing
+// these stay as they are, as no entry of the log is without a flag.
 pub fn reset_state(m: &mut [u64], time: u64, root: u64, reset: u64)
     requires { ⌜ Laid (now m) × (root < 64) × (every isFlagged (decode (now m) .log) ≡ true) ⌝ }
     ensures { λ _. ⌜ now (m .exit) ≡ stored (after (Deed.resetting time root (effectOf reset)) (decode (now (m .entry)))) (now (m .entry)) ⌝ }
 {
-    if reset == 0 {
-        state::put_clock(m, time);
+    let effect = effect_of(reset);
+    state::put_clock(m, time);
+    locks::lift(&mut m[state::LOCKS..state::REGISTER], root, effect);
+    if !(effect.zeroroot | effect.zerofirm) {
         return;
     }
-    carry_out(m, time, root, effect_of(reset));
+    wipe(m, root, effect);
+    log::unflag(&mut m[state::LOG..state::SIZE], root, effect);
 }

@@ -5,7 +5,7 @@ use native.Mathlib.Omega.{arith}
 use lib.ListN.{getD}
 use borrow.Author.Needs.{needs}
 use Rattle.admission.specs.Inner.Counting.{coveredIn}
-use Rattle.admission.proofs.Joining.{root-late, roots-full, no-wrap, units-full, root-joins}
+use Rattle.admission.proofs.Joining.{root-late, roots-full, no-wrap, few-in, units-full, root-joins}
 use Rattle.admission.proofs.admit_root.Statement.{statement}
 use Rattle.admission.proofs.admit_root.Tie as tie
 
@@ -42,7 +42,9 @@ add-all : tie.Need-add-all
 add-all c = omega (arith, low c)
 
 is-over-requires : tie.Need-is-over-requires
-is-over-requires c κs = search needs
+is-over-requires c κs =
+    let s = begun c in
+    few-in (s .pre .0 .1) (s .args .rule) _ (s .pre .2 .1) _ (s .pre .3) (c .before .before .if2 .left) (all-is c)
 
 returns-3 : tie.Need-returns-3
 returns-3 c =

@@ -23,6 +23,10 @@ inOne count = count 0 + count 1 * 256 + count 2 * 65536 + count 3 * 16777216
 abbrev pub overIn : ℕ → Bool
 overIn w = ltb 6 (w % 256) || ltb 6 (w / 256 % 256) || ltb 6 (w / 65536 % 256) || ltb 6 (w / 16777216)
 
+-- none of them is above 7
+abbrev pub FewIn : ℕ → Type 0
+FewIn w = (w % 256 ≤ 7) × (w / 256 % 256 ≤ 7) × (w / 65536 % 256 ≤ 7) × (w / 16777216 ≤ 7)
+
 -- what a scope adds to the number of a root: 1 on each unit that it covers
 abbrev pub coveredIn : Scope → ℕ → ℕ
 coveredIn scope root = inOne (λ unit. cond (covers scope root unit) 1 0)

@@ -1,5 +1,4 @@
--- What each level allows of an offer, which absolute rules it fills, which levels a report trips, and what the functions ask of a memory and an
--- offer. Assumes nothing.
+-- What each level allows of an offer, which absolute rules it fills, and what the functions ask of a memory and an offer. Assumes nothing.
 use Prim.Native.Nat.{ℕ, _+_, _≤_, _<_, min}
 use mathlib.Core.Path.{_≡_}
 use mathlib.Core.Bool.{Bool, true, false, cond, _&&_, _||_}
@@ -9,7 +8,7 @@ use lib.Dec.{eqb}
 use Rattle.measures.specs.Ranges.{In, times, units, premiums, offers}
 use Rattle.rules.specs.Amounts.{numberOf}
 use Rattle.rules.specs.Rules.{levelOf, isRate, added, ceiling}
-use Rattle.rules.specs.Allowance.{allowance, overruns}
+use Rattle.rules.specs.Allowance.{allowance}
 use Rattle.rules.specs.declared.Level.{Level}
 use Rattle.rules.specs.declared.Level.the-variants.{Firm, Root}
 use Rattle.rules.specs.declared.Account.{Account}
@@ -49,18 +48,14 @@ unfoldable pub leastAt : List Entry → Offer → List Account → Level → ℕ
 leastAt log o [] level = o .contracts
 leastAt log o (a ∷ rest) level = lowered log o level a (leastAt log o rest level)
 
--- a rule of this level that covers the report and whose limit is passed after it
-unfoldable pub overrunAt : List Entry → Offer → Level → Account → Bool
-overrunAt log o level a = concerns o level a && overruns (a .rule) (counted log (o .time) a) (o .premium) (o .contracts)
-
 -- an absolute rule whose total after the grant equals its limit
-unfoldable pub fills : Offer → ℕ → Account → Bool
-fills o grant a =
+unfoldable pub fillsBy : Offer → ℕ → Account → Bool
+fillsBy o grant a =
     cond (isRate (a .rule .kind)) false (eqb (numberOf (a .total) + added (a .rule .limit) (o .premium) grant) (ceiling (a .rule .limit)))
 
 -- one of the level's absolute rules that cover the offer stands at its limit after the grant
 unfoldable pub reachedAt : Offer → ℕ → List Account → Level → Bool
-reachedAt o grant accounts level = anyOf (λ a. concerns o level a && fills o grant a) accounts
+reachedAt o grant accounts level = anyOf (λ a. concerns o level a && fillsBy o grant a) accounts
 
 -- a memory in which a state is laid out, its log in order of time, and an offer in range for it that is no earlier than any entry
 pub record Fillable (xs : List ℕ) (o : Offer) : Type 0 where
@@ -86,21 +81,11 @@ pub record AreCuts (xs : List ℕ) (o : Offer) (cuts : Cuts) : Type 0 where
   pub root : cuts .root ≡ leastAt (decode xs .log) o (decode xs .part .accounts) (Root (o .root))
   pub firm : cuts .firm ≡ leastAt (decode xs .log) o (decode xs .part .accounts) Firm
 
--- what account i adds to the trips of a report
-pub record Overrun (xs : List ℕ) (o : Offer) (i : ℕ) (before after : Trips) : Type 0 where
-  pub root : after .root ≡ (before .root || overrunAt (decode xs .log) o (Root (o .root)) (accountIn xs i))
-  pub firm : after .firm ≡ (before .firm || overrunAt (decode xs .log) o Firm (accountIn xs i))
-
--- the levels that a report of all the offer's contracts trips, for whichever order it is
-pub record AreTrips (xs : List ℕ) (o : Offer) (trips : Trips) : Type 0 where
-  pub root : (identity : ℕ) → trips .root ≡ levelTrips (reported identity) (decode xs .log) o (o .contracts) (decode xs .part .accounts) (Root (o .root))
-  pub firm : (identity : ℕ) → trips .firm ≡ levelTrips (reported identity) (decode xs .log) o (o .contracts) (decode xs .part .accounts) Firm
-
 -- account i of a memory is credited with a grant, and after tells whether it, or one before, stands at its limit
 pub record Credited (o : Offer) (grant i : ℕ) (xs ys : List ℕ) (before after : Reached) : Type 0 where
   pub memory : ys ≡ stored (withAccounts (decode xs) (set (decode xs .part .accounts) i (credited o grant (accountIn xs i)))) xs
-  pub root : after .root ≡ (before .root || (concerns o (Root (o .root)) (accountIn xs i) && fills o grant (accountIn xs i)))
-  pub firm : after .firm ≡ (before .firm || (concerns o Firm (accountIn xs i) && fills o grant (accountIn xs i)))
+  pub root : after .root ≡ (before .root || (concerns o (Root (o .root)) (accountIn xs i) && fillsBy o grant (accountIn xs i)))
+  pub firm : after .firm ≡ (before .firm || (concerns o Firm (accountIn xs i) && fillsBy o grant (accountIn xs i)))
 
 -- every account of a memory is credited with a grant, and after tells which levels have an absolute rule at its limit
 pub record AllCredited (o : Offer) (grant : ℕ) (xs ys : List ℕ) (after : Reached) : Type 0 where

@@ -5,12 +5,15 @@ use mathlib.Core.Bool.{Bool, _&&_, and-assoc}
 use mathlib.Core.List.{List}
 use lib.ListN.{length, getD, take, drop, length-drop}
 use lib.Seq.{take-all}
+use lib.Bits.{bitOr}
 use lib.Dec.{leb}
 use borrow.Author.Needs.{needs}
 use native.Mathlib.Omega.{arith}
 use Rattle.measures.specs.Ranges.{isIn, times}
 use Rattle.tables.specs.Inner.Tables.{allZero}
-use Rattle.packing.specs.EntryPlace.{entryAt}
+use Rattle.packing.specs.EntryPlace.{entryAt, isEntryButTime}
+use Rattle.packing.specs.Gaps.{isClear}
+use Rattle.packing.proofs.Gaps.{or-clear, gap-clear, entry-clear}
 use Rattle.packing.proofs.EntryPlace.{time-here, is-entry-here}
 use Rattle.log.specs.Inner.Log.{isLogPlace}
 use Rattle.log.specs.Inner.Sieve.{hasFlag}
@@ -20,13 +23,14 @@ use Rattle.log.proofs.are_entries.Statement.{statement}
 use Rattle.log.proofs.are_entries.Tie as tie
 
 abbrev Inv-loop : tie.InvT-loop
-Inv-loop log k roots clock good₀ from₀ i₀ good from i = (i ≤ k) × (leftHolds roots clock k log 0 0 ≡ (good && fromHolds roots clock k log from i))
+Inv-loop log k roots clock gaps₀ from₀ i₀ gaps from i =
+    (i ≤ k) × (from < 9_223_372_036_854_775_808) × (leftHolds roots clock k log 0 0 ≡ (isClear gaps && fromHolds roots clock k log from i))
 
 abbrev μ-loop : tie.MeasureT-loop
-μ-loop log k roots clock good₀ from₀ i₀ good from i = k - i
+μ-loop log k roots clock gaps₀ from₀ i₀ gaps from i = k - i
 
 loop-holds : tie.Need-loop-holds Inv-loop μ-loop
-loop-holds c = (omega arith, left-start _ _ _ _)
+loop-holds c = (omega arith, omega arith, left-start _ _ _ _)
 
 mul-at : tie.Need-mul-at Inv-loop μ-loop
 mul-at c = search needs
@@ -46,33 +50,71 @@ mul-second c = search needs
 shared-slice-read-second : tie.Need-shared-slice-read-second Inv-loop μ-loop
 shared-slice-read-second c = search needs
 
-is-entry-but-time-requires : tie.Need-is-entry-but-time-requires Inv-loop μ-loop
-is-entry-but-time-requires c κs = search needs
+entry-gaps-requires : tie.Need-entry-gaps-requires Inv-loop μ-loop
+entry-gaps-requires c κs = search needs
 
--- the time at place i, and whether an entry stands there, by the numbers read there
-module _ (c : tie.After-is-entry-but-time Inv-loop μ-loop) where
+gap-requires : tie.Need-gap-requires Inv-loop μ-loop
+gap-requires c κs = search needs
+
+gap-requires-2 : tie.Need-gap-requires-2 Inv-loop μ-loop
+gap-requires-2 c κs = search needs
+
+-- the numbers read at place i, whether an entry with a flag stands there, and the gaps with it
+module _ (c : tie.After-gap2 Inv-loop μ-loop) where
   abbrev at-test : tie.In-loop Inv-loop μ-loop
-  at-test = c .before .before .before
+  at-test = c .before .before .before .before .before
+
+  abbrev at-loop : tie.At-loop Inv-loop μ-loop
+  at-loop = at-test .before
 
   abbrev numbers : List ℕ
-  numbers = at-test .before .before .before .args .log .now
+  numbers = at-loop .before .before .args .log .now
+
+  abbrev roots : ℕ
+  roots = at-loop .before .before .args .roots
 
   abbrev at : ℕ
-  at = at-test .before .loop .i * 2
+  at = at-loop .loop .i * 2
+
+  abbrev first : ℕ
+  first = getD numbers at 0
+
+  abbrev second : ℕ
+  second = getD numbers (at + 1) 0
 
   there : at + 1 < length numbers
-  there = omega (arith, at-test .before .before .before .pre, at-test .loop-test .taken)
+  there = omega (arith, at-loop .before .before .pre, at-test .loop-test .taken)
 
-  tested : isLogPlace (at-test .before .before .before .args .roots) (drop at numbers)
-      ≡ (isIn times (getD numbers at 0 / 1024) && (c .is-entry-but-time .result && hasFlag (getD numbers at 0)))
+  abbrev rest : Bool
+  rest = isEntryButTime roots first second && hasFlag first
+
+  tested : isLogPlace roots (drop at numbers) ≡ (isIn times (first / 1024) && rest)
   unfolding isLogPlace
   tested =
-      let timed = isIn times (getD numbers at 0 / 1024) in
-      ap₂ (λ (a b : Bool). a && b) (is-entry-here numbers at there _ ∙ ap (λ (b : Bool). timed && b) (sym (c .is-entry-but-time .ensures))) (flag-here numbers at there)
-      ∙ and-assoc timed (c .is-entry-but-time .result) (hasFlag (getD numbers at 0))
+      let timed = isIn times (first / 1024) in
+      ap₂ (λ (a b : Bool). a && b) (is-entry-here numbers at there _) (flag-here numbers at there)
+      ∙ and-assoc timed (isEntryButTime roots first second) (hasFlag first)
 
-  timed : entryAt (drop at numbers) .time ≡ getD numbers at 0 / 1024 % 134_217_728
+  timed : entryAt (drop at numbers) .time ≡ first / 1024 % 134_217_728
   timed = time-here numbers at there
+
+  first-fits : first < 18_446_744_073_709_551_616
+  first-fits = omega (arith, c .before .before .before .before .shared-slice-known2 .given at)
+
+  second-fits : second < 18_446_744_073_709_551_616
+  second-fits = omega (arith, c .before .before .before .shared-slice-known3 .given (at + 1))
+
+  -- the gaps of this place are clear just if an entry stands there that is not before the one in front of it
+  cleared : isClear (bitOr (bitOr (c .before .before .entry-gaps .result) (c .before .gap .result)) (c .gap2 .result)) ≡ (rest && leb (at-loop .loop .from) (first / 1024))
+  cleared =
+      let entry = c .before .before .entry-gaps .result in
+      let flag = c .before .gap .result in
+      or-clear (bitOr entry flag) (c .gap2 .result)
+      ∙ ap₂ (λ (a b : Bool). a && b)
+      (or-clear entry flag
+      ∙ ap₂ (λ (a b : Bool). a && b) (ap isClear (c .before .before .entry-gaps .ensures) ∙ entry-clear roots first second second-fits)
+      (ap isClear (c .before .gap .ensures) ∙ gap-clear (first % 4) 1 (omega arith) (omega arith)))
+      (ap isClear (c .gap2 .ensures) ∙ gap-clear (first / 1024) (at-loop .loop .from) (omega (arith, first-fits)) (at-loop .loop .inv .1))
 
 add-i : tie.Need-add-i Inv-loop μ-loop
 add-i c = search needs
@@ -84,9 +126,14 @@ loop-again : tie.Need-loop-again Inv-loop μ-loop
 loop-again c =
     let t = at-test c in
     let a = t .before .before .before .args in
-    let l = t .before .loop in (
+    let l = t .before .loop in
+    let own = bitOr (bitOr (c .before .before .entry-gaps .result) (c .before .gap .result)) (c .gap2 .result) in
+    let next = fromHolds (a .roots) (a .clock) (a .k) (a .log .now) (first c / 1024) (l .i + 1) in (
       omega arith,
-      l .inv .1 ∙ left-step (a .roots) (a .clock) (a .k) (a .log .now) (l .from) (l .i) _ _ (timed c) (tested c) (t .loop-test .taken) (l .good),
+      omega (arith, first-fits c),
+      l .inv .2
+          ∙ left-step (a .roots) (a .clock) (a .k) (a .log .now) (l .from) (l .i) _ _ (timed c) (tested c) (t .loop-test .taken) (isClear (l .gaps))
+          ∙ ap (λ (b : Bool). b && next) (sym (or-clear (l .gaps) own ∙ ap (λ (b : Bool). isClear (l .gaps) && b) (cleared c))),
     )
 
 mul-is-zero : tie.Need-mul-is-zero Inv-loop μ-loop
@@ -113,10 +160,10 @@ returns c =
     let n = length (a .log .now) - a .k * 2 in
     let l = c .before .before .before .loop in
     let e : c .is-zero .result ≡ allZero (take n (drop (a .k * 2) (a .log .now))) = c .is-zero .ensures in
-    ap (λ (b : Bool). l .good && leb (l .from) 86_399_999 && leb (l .from) (a .clock) && b) (e ∙ ap allZero (take-all n (drop (a .k * 2) (a .log .now)) (omega (arith, length-drop (a .k * 2) (a .log .now)))))
+    ap (λ (b : Bool). isClear (l .gaps) && leb (l .from) 86_399_999 && leb (l .from) (a .clock) && b) (e ∙ ap allZero (take-all n (drop (a .k * 2) (a .log .now)) (omega (arith, length-drop (a .k * 2) (a .log .now)))))
     ∙ sym (holds-is (a .roots) (a .clock) (a .k) (a .log .now)
     ∙ ap (λ (b : Bool). b && allZero (drop (a .k * 2) (a .log .now)))
-    (l .inv .1 ∙ ap (λ (b : Bool). l .good && b) (left-end (a .roots) (a .clock) (a .k) (a .log .now) (l .from) _ (c .before .before .loop-test .left)) ∙ sym (and-assoc (l .good) (leb (l .from) 86_399_999) (leb (l .from) (a .clock)))))
+    (l .inv .2 ∙ ap (λ (b : Bool). isClear (l .gaps) && b) (left-end (a .roots) (a .clock) (a .k) (a .log .now) (l .from) _ (c .before .before .loop-test .left)) ∙ sym (and-assoc (isClear (l .gaps)) (leb (l .from) 86_399_999) (leb (l .from) (a .clock)))))
 
 pub are-entries-spec : {M : Type 1} → statement M
 are-entries-spec =
@@ -131,7 +178,9 @@ are-entries-spec =
     add-second
     mul-second
     shared-slice-read-second
-    is-entry-but-time-requires
+    entry-gaps-requires
+    gap-requires
+    gap-requires-2
     add-i
     loop-less
     loop-again
