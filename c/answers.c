@@ -1,5 +1,5 @@
-/* Tries every call of mbrumzheg.h but sendings, reports and closings (c/away.c) and records (c/records.c) by the functions that answer a struct, and by its
- * row: ends with 0 if each answer is as it should be, else with 1 and the line that was not. */
+/* Tries every call of mbrumzheg.h but sendings, reports and closings (c/away.c), records (c/records.c) and those that keep an account (c/account.c), by the
+ * functions that answer a struct and by its row: ends with 0 if each answer is as it should be, else with 1 and the line that was not. */
 #include <stdio.h>
 #include <stdlib.h>
 #include <string.h>

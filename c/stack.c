@@ -1,6 +1,7 @@
 /* Measures how much stack each call takes: the call runs on a stack that was painted before, and what is no longer painted was used. It is done
  * with two colours, since a call may write the one. Prints the most that each call took over all its tries, less what an empty call takes, and
- * ends with 1 if Arm took more than MBRUMZHEG_STACK_BYTES, or another call more than MBRUMZHEG_CALL_STACK_BYTES.
+ * ends with 1 if Arm took more than MBRUMZHEG_STACK_BYTES, one that keeps an account more than MBRUMZHEG_ACCOUNTED_STACK_BYTES, or another call more than
+ * MBRUMZHEG_CALL_STACK_BYTES.
  *
  * The tries: memory that is short, unarmed, unsound; armed with one rule, with 256 rules and 64 roots, with 16 covering rules, 64 orders sent away and a
  * log of 512 entries; profiles that are refused by their last line, and one of 65,536 bytes; every reset, level and unit; no room for a
@@ -14,22 +15,24 @@
 #include "mbrumzheg.h"
 
 #define ROOM (1u << 17)
+#define ACCOUNTED memory, memory_len, account, MBRUMZHEG_ACCOUNT_SIZE
 
 enum call {
     EMPTY, ARM, CLEAR, ORDER, LOCKOUT, OFFER, SEND, REPORT, CLOSE, REMAINING, STATUS, ROOT_NAMED, ROOT_NAME, RULE, PROFILE, TEXT,
-    READ_RECORD16, WRITE_RECORD16, READ_RECORD, WRITE_RECORD, WIDEN, NARROW, CALLS
+    READ_RECORD16, WRITE_RECORD16, READ_RECORD, WRITE_RECORD, WIDEN, NARROW,
+    ACCOUNTED_ORDER, ACCOUNTED_LOCKOUT, ACCOUNTED_OFFER, ACCOUNTED_SEND, ACCOUNTED_REPORT, ACCOUNTED_CLOSE, CALLS
 };
 static const char *const names[CALLS] = {"empty", "arm", "clear", "order", "lockout", "offer", "send", "report", "close", "remaining", "status",
                                          "root_named", "root_name", "rule", "profile", "text", "read_record16", "write_record16",
-                                         "read_record", "write_record", "widen", "narrow"};
+                                         "read_record", "write_record", "widen", "narrow", "accounted_order", "accounted_lockout",
+                                         "accounted_offer", "accounted_send", "accounted_report", "accounted_close"};
 
 /* The call that is measured, with what it is given. */
 static enum call what;
 static uint64_t numbers[10], row[MBRUMZHEG_EVENT16_ROW];
-static uint64_t *memory;
-static size_t memory_len;
+static uint64_t *memory, account[MBRUMZHEG_ACCOUNT_SIZE];
+static size_t memory_len, text_len;
 static char text[MBRUMZHEG_MOST_PROFILE_BYTES + 1];
-static size_t text_len;
 static uint8_t room[MBRUMZHEG_TEXT_BYTES], moved[MBRUMZHEG_RECORD16_BYTES], profile_room[MBRUMZHEG_PROFILE_MOST];
 
 static _Alignas(64) unsigned char stack[ROOM];
@@ -55,15 +58,18 @@ static void run(void) {
     case PROFILE: mbrumzheg_profile(memory, memory_len, profile_room, n[0], row); break;
     case TEXT: mbrumzheg_text(n[0], room, sizeof room, row); break;
     case READ_RECORD16: mbrumzheg_read_record16(room, MBRUMZHEG_RECORD16_BYTES, row); break;
-    case WRITE_RECORD16:
-        mbrumzheg_write_record16(n[0], n[1], n[2], n[3], n[4], n[5], n[6], n[7], n[8], n[9], room, sizeof room, row);
-        break;
+    case WRITE_RECORD16: mbrumzheg_write_record16(n[0], n[1], n[2], n[3], n[4], n[5], n[6], n[7], n[8], n[9], room, sizeof room, row); break;
     case WIDEN: mbrumzheg_widen(room, MBRUMZHEG_RECORD_BYTES, moved, sizeof moved, row); break;
     case NARROW: mbrumzheg_narrow(room, MBRUMZHEG_RECORD16_BYTES, moved, sizeof moved, row); break;
     case READ_RECORD: mbrumzheg_read_record(room, MBRUMZHEG_RECORD_BYTES, row); break;
     case WRITE_RECORD: mbrumzheg_write_record(n[0], n[1], n[2], n[3], n[4], n[5], n[6], n[7], room, sizeof room, row); break;
-    case EMPTY:
-    case CALLS: break;
+    case ACCOUNTED_ORDER: mbrumzheg_accounted_order(ACCOUNTED, n[0], n[1], n[2], row); break;
+    case ACCOUNTED_LOCKOUT: mbrumzheg_accounted_lockout(ACCOUNTED, n[0], n[1], n[2], row); break;
+    case ACCOUNTED_OFFER: mbrumzheg_accounted_offer(ACCOUNTED, n[0], n[1], n[2], n[3], n[4], row); break;
+    case ACCOUNTED_SEND: mbrumzheg_accounted_send(ACCOUNTED, n[0], n[1], n[2], n[3], n[4], n[5], n[6], row); break;
+    case ACCOUNTED_REPORT: mbrumzheg_accounted_report(ACCOUNTED, n[0], n[1], n[2], row); break;
+    case ACCOUNTED_CLOSE: mbrumzheg_accounted_close(ACCOUNTED, n[0], n[1], row); break;
+    case EMPTY: case CALLS: break;
     }
 }
 
@@ -96,9 +102,20 @@ static void try_call(enum call call, uint64_t *state, size_t len) {
     memcpy(state, copy, sizeof copy);
 }
 
+/* Measures an event's accounted call beside the plain one: with an account that is unsound, with one that is full, and with one of zeros. */
+static void try_accounted(enum call call, const uint64_t *state) {
+    static const uint64_t figures[3] = {MBRUMZHEG_MOST_FIGURE + 1u, MBRUMZHEG_MOST_FIGURE, 0};
+    static uint64_t beside[MBRUMZHEG_SIZE];
+    for (int i = 0; i < 3; i++) {
+        for (int n = 0; n < MBRUMZHEG_ACCOUNT_SIZE; n++) account[n] = figures[i];
+        try_call(ACCOUNTED_ORDER + (call - ORDER), memcpy(beside, state, sizeof beside), MBRUMZHEG_SIZE);
+    }
+}
+
 static void try_numbers(enum call call, uint64_t *state, uint64_t a, uint64_t b, uint64_t c, uint64_t d, uint64_t e) {
     const uint64_t given[5] = {a, b, c, d, e};
     memcpy(numbers, given, sizeof given);
+    if (call >= ORDER && call <= CLOSE) try_accounted(call, state);
     try_call(call, state, MBRUMZHEG_SIZE);
 }
 
@@ -106,6 +123,7 @@ static void try_numbers(enum call call, uint64_t *state, uint64_t a, uint64_t b,
 static void try_send(uint64_t *state, uint64_t time, uint64_t root, uint64_t identity, uint64_t reports) {
     const uint64_t given[7] = {time, root, identity % 4, 70000, 10, identity, reports};
     memcpy(numbers, given, sizeof given);
+    try_accounted(SEND, state);
     try_call(SEND, state, MBRUMZHEG_SIZE);
 }
 
@@ -137,8 +155,7 @@ static void try_calls(uint64_t *state, uint64_t time) {
 /* The same on a copy, so that its resets leave the state as it stands. */
 static void try_calls_beside(const uint64_t *state, uint64_t time) {
     static uint64_t copy[MBRUMZHEG_SIZE];
-    memcpy(copy, state, sizeof copy);
-    try_calls(copy, time);
+    try_calls(memcpy(copy, state, sizeof copy), time);
 }
 
 /* Adds a line to the profile's text: of a root if it has a number below 64, of the firm otherwise. */
@@ -199,12 +216,8 @@ static void try_records(uint64_t *state) {
         const bool filled = n == 1 || n == 3;
         const uint64_t event[10] = {n, 10000, 0, 0, filled ? 70000 : 0, filled || n == 4 ? 200 : 0, n == 0 ? 3 : 0, n == 2, n > 2 ? 7 : 0, n == 3};
         memcpy(numbers, event, sizeof event);
-        try_call(WRITE_RECORD, state, MBRUMZHEG_SIZE);
-        try_call(READ_RECORD, state, MBRUMZHEG_SIZE);
-        try_call(WIDEN, state, MBRUMZHEG_SIZE);
-        try_call(WRITE_RECORD16, state, MBRUMZHEG_SIZE);
-        try_call(READ_RECORD16, state, MBRUMZHEG_SIZE);
-        try_call(NARROW, state, MBRUMZHEG_SIZE);
+        static const enum call calls[6] = {WRITE_RECORD, READ_RECORD, WIDEN, WRITE_RECORD16, READ_RECORD16, NARROW};
+        for (int i = 0; i < 6; i++) try_call(calls[i], state, MBRUMZHEG_SIZE);
     }
 }
 
@@ -229,8 +242,9 @@ int main(void) {
     bool so = try_small(state) & try_long_profiles(state) & try_full_log(state);
     for (int call = EMPTY + 1; call < CALLS; call++) {
         const size_t took = most[call] - most[EMPTY];
-        printf("%-14s %6zu\n", names[call], took);
-        so &= took <= (call == ARM ? MBRUMZHEG_STACK_BYTES : MBRUMZHEG_CALL_STACK_BYTES);
+        const size_t most_of_call = call >= ACCOUNTED_ORDER ? MBRUMZHEG_ACCOUNTED_STACK_BYTES : MBRUMZHEG_CALL_STACK_BYTES;
+        printf("%-17s %6zu\n", names[call], took);
+        so &= took <= (call == ARM ? MBRUMZHEG_STACK_BYTES : most_of_call);
     }
     return so ? 0 : 1;
 }

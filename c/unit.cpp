@@ -196,7 +196,35 @@ static void records_move_between_the_forms() {
     EXPECT(std::string_view(sentence(Refusal::Unfit)).substr(0, 36) == "the record does not fit the old form");
 }
 
+static void an_account_is_kept() {
+    auto unit = arm("ABCD,abs_vol,XYZ,100\nABCD,abs_vol,Q,1000\nABCD,abs_vol,,150,,T"), plain = arm("ABCD,abs_vol,XYZ,100\nABCD,abs_vol,Q,1000\nABCD,abs_vol,,150,,T");
+    Account account;
+    EXPECT(unit->accounted_offer(account, at(0, 60))->grant == 60 && unit->accounted_offer(account, at(1, 60))->root_trip);
+    EXPECT(*unit->accounted_order(account, {Time{2}, Root{0}, Reset::None}) == Verdict::RootLocked);
+    EXPECT(*unit->accounted_order(account, {Time{2}, Root{1}, Reset::None}) == Verdict::Free && unit->accounted_offer(account, at(1, 1)).refusal() == Refusal::BadTime);
+    const Sending sending{Time{3}, Root{1}, UnitOfRoot::CallsFront, Premium{10000}, Contracts{90}, Identity{7}, Reports{2}};
+    EXPECT(*unit->accounted_send(account, sending) == Verdict::Free);
+    EXPECT(unit->accounted_report(account, {Time{3}, Identity{7}, Contracts{80}})->firm_trip && *unit->accounted_close(account, {Time{3}, Identity{7}}) == Verdict::Free);
+    EXPECT(*unit->accounted_lockout(account, RootLockout{Time{4}, Root{1}}) == Verdict::Free && unit->accounted_lockout(account, FirmLockout{Time{4}}).accepted());
+    const Figures xyz = account.root(Root{0}), q = account.root(Root{1}), firm = account.firm();
+    EXPECT(xyz.accepted == 0 && xyz.rejected == 1 && xyz.fills == 2 && xyz.contracts == 100 && xyz.notional == 7000000 && xyz.cuts == 1 && xyz.trips == 1);
+    EXPECT(q.accepted == 2 && q.away_reports == 1 && q.trips == 0 && firm.accepted == 2 && firm.rejected == 1 && firm.trips == 1);
+    EXPECT(account.root(Root{0}, Column::Notional) == 7000000 && account.firm(Column::AwayReports) == 1 && account.root(Root{64}, Column::Accepted) == 0);
+    EXPECT(account.table()[0].fills == 2 && account.table().back().contracts == 100 && std::string_view(text(Column::Accepted)) == "accepted orders");
+    // a figure at its end: the event is refused, and changes nothing
+    auto numbers = account.numbers();
+    numbers[MBRUMZHEG_COLUMN_REJECTED] = MBRUMZHEG_MOST_FIGURE;
+    Account full(numbers);
+    const auto before = unit->memory();
+    EXPECT(unit->accounted_answer(full, Order{Time{9}, Root{0}, Reset::None}).refusal() == Refusal::AccountFull);
+    EXPECT(unit->memory() == before && full.numbers() == numbers && plain->accounted_answer(full, Order{Time{9}, Root{0}, Reset::None}).accepted());
+    numbers[MBRUMZHEG_COLUMN_REJECTED] = MBRUMZHEG_MOST_FIGURE + 1ull;
+    Account unsound(numbers);
+    EXPECT(unit->accounted_answer(unsound, Order{Time{9}, Root{0}, Reset::None}).refusal() == Refusal::Unsound);
+}
+
 int main() {
+    an_account_is_kept();
     cuts_and_locks();
     locks_are_lifted_without_forgetting();
     fills_come_back_from_away_markets();

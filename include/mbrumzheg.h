@@ -1,17 +1,17 @@
 /* Mbrumzheg: a risk library for order gateways, for C99 and later and for C++17 and later (mbrumzheg.hpp has a class over it).
  *
  * Link libmbrumzheg.a; pkg-config and CMake know it as mbrumzheg. It needs memcpy, memmove and memset and nothing else, takes no memory from the
- * system, and keeps nothing between two calls. Arm takes at most MBRUMZHEG_STACK_BYTES of stack, every other call at most
- * MBRUMZHEG_CALL_STACK_BYTES (measured, not proved: c/stack.c).
+ * system, and keeps nothing between two calls. Arm takes at most MBRUMZHEG_STACK_BYTES of stack, a call that keeps the account
+ * MBRUMZHEG_ACCOUNTED_STACK_BYTES, every other call MBRUMZHEG_CALL_STACK_BYTES (measured, not proved: c/stack.c).
  *
  * What is lent. The state is MBRUMZHEG_SIZE numbers of 64 bits that the caller lends to each call; they start at 0. More may be lent, and the
  * rest is neither read nor written. Whatever stands there, the call has an answer: unarmed or damaged numbers are refused. A part is lent as a
  * pointer and a length; the length counts numbers of 64 bits for memory, and bytes for texts, rooms and records.
  *  - A pointer is never null, also where its length is 0, and is aligned as its type asks: memory and rows to 8 bytes.
- *  - No two parts lent to one call may overlap: memory, text, room and row stand apart.
+ *  - No two parts lent to one call may overlap: memory, account, text, room and row stand apart.
  *  - The length is not more than what is there. No check can see these three.
  *
- * Threads. Calls on different memory may run at the same time. On the same memory one call runs at a time, but for calls that take it as
+ * Threads. Calls on different memory may run at the same time. On the same memory or account one call runs at a time, but for calls that take it as
  * const (Remaining, Status, and those that read the profile), which may run beside each other.
  *
  * Answers. A call writes a row of numbers, the refusal first, 0 for none; MBRUMZHEG_ROW_.. names the places. A refused call has zeros after
@@ -48,21 +48,23 @@ extern "C" {
 #define MBRUMZHEG_VERSION_MINOR 2
 #define MBRUMZHEG_VERSION_PATCH 0
 
-/* How many 64-bit numbers the state takes, how many bytes a record has and one of the old form, the room for a text and for a root's name that is asked
+/* How many 64-bit numbers the state takes and the day's account, how many bytes a record has and one of the old form, the room for a text and for a root's name that is asked
  * for, and the most bytes that a profile written back has. */
 #define MBRUMZHEG_SIZE 2763
+#define MBRUMZHEG_ACCOUNT_SIZE 520
 #define MBRUMZHEG_RECORD16_BYTES 16
 #define MBRUMZHEG_RECORD_BYTES 12
 #define MBRUMZHEG_TEXT_BYTES 20
 #define MBRUMZHEG_NAME_BYTES 6
 #define MBRUMZHEG_PROFILE_MOST 12544
 
-/* How many bytes of stack Arm takes at most, and how many every other call, by measurement on x86-64 and aarch64. */
+/* How many bytes of stack Arm takes at most, how many a call that keeps the account, and how many every other call, by measurement. */
 #define MBRUMZHEG_STACK_BYTES 16384
+#define MBRUMZHEG_ACCOUNTED_STACK_BYTES 32768
 #define MBRUMZHEG_CALL_STACK_BYTES 4096
 
 /* Ranges: the last millisecond and microsecond of the day, ten-thousandths of a dollar, contracts, a profile's bytes, rules and roots, places of the log, the last
- * identity of an order sent away, reports that it may have, places of the register. */
+ * identity of an order sent away, reports that it may have, places of the register, what no figure of an account may pass. */
 #define MBRUMZHEG_LAST_TIME 86399999
 #define MBRUMZHEG_LAST_STAMP 86399999999
 #define MBRUMZHEG_MOST_PREMIUM 100000000
@@ -74,6 +76,7 @@ extern "C" {
 #define MBRUMZHEG_LAST_IDENTITY 65535
 #define MBRUMZHEG_MOST_REPORTS 16
 #define MBRUMZHEG_REGISTER_PLACES 64
+#define MBRUMZHEG_MOST_FIGURE 1000000000000000000
 
 /* The numbers that calls take. Each is judged by the call; one out of its range is refused by the number in brackets.
  *
@@ -127,6 +130,24 @@ MBRUMZHEG_NOT_NULL void mbrumzheg_report(uint64_t *memory, size_t memory_len, ui
 /* Closes an open [18] order sent away: its identity may be used again, and places kept for reports that did not come are free. Row: refusal, verdict 0. */
 MBRUMZHEG_NOT_NULL void mbrumzheg_close(uint64_t *memory, size_t memory_len, uint64_t time, uint64_t identity,
                                         uint64_t row[MBRUMZHEG_AT_LEAST(5)]);
+
+/* The same six calls, which also keep the day's account: numbers of their own that are lent beside the memory and start at 0. Row r of it begins at number
+ * 8 * r: rows 0 to 63 are the roots', row 64 is the firm's (enum mbrumzheg_column has the places). An event that is not refused is counted in the row of its
+ * root and in the firm's. A figure above 10^18 is unsound [2]; an event that would bring one there is not applied [21]. Rows as above. */
+MBRUMZHEG_NOT_NULL void mbrumzheg_accounted_order(uint64_t *memory, size_t memory_len, uint64_t *account, size_t account_len, uint64_t time,
+                                                  uint64_t root, uint64_t reset, uint64_t row[MBRUMZHEG_AT_LEAST(5)]);
+MBRUMZHEG_NOT_NULL void mbrumzheg_accounted_lockout(uint64_t *memory, size_t memory_len, uint64_t *account, size_t account_len, uint64_t time,
+                                                    uint64_t level, uint64_t root, uint64_t row[MBRUMZHEG_AT_LEAST(5)]);
+MBRUMZHEG_NOT_NULL void mbrumzheg_accounted_offer(uint64_t *memory, size_t memory_len, uint64_t *account, size_t account_len, uint64_t time,
+                                                  uint64_t root, uint64_t unit, uint64_t premium, uint64_t contracts,
+                                                  uint64_t row[MBRUMZHEG_AT_LEAST(5)]);
+MBRUMZHEG_NOT_NULL void mbrumzheg_accounted_send(uint64_t *memory, size_t memory_len, uint64_t *account, size_t account_len, uint64_t time,
+                                                 uint64_t root, uint64_t unit, uint64_t premium, uint64_t contracts, uint64_t identity,
+                                                 uint64_t reports, uint64_t row[MBRUMZHEG_AT_LEAST(5)]);
+MBRUMZHEG_NOT_NULL void mbrumzheg_accounted_report(uint64_t *memory, size_t memory_len, uint64_t *account, size_t account_len, uint64_t time,
+                                                   uint64_t identity, uint64_t contracts, uint64_t row[MBRUMZHEG_AT_LEAST(5)]);
+MBRUMZHEG_NOT_NULL void mbrumzheg_accounted_close(uint64_t *memory, size_t memory_len, uint64_t *account, size_t account_len, uint64_t time,
+                                                  uint64_t identity, uint64_t row[MBRUMZHEG_AT_LEAST(5)]);
 
 /* What remains of a rule's limit on a unit at a time; the clock does not move. A root rule that names no unit counts each of the four for itself; for a
  * rule of one unit the unit must be that one, for a firm rule 0 [13]. Row: refusal, that amount. */
@@ -197,6 +218,7 @@ MBRUMZHEG_NOT_NULL void mbrumzheg_narrow(const uint8_t *bytes, size_t bytes_len,
 #include "mbrumzheg_structs.h"
 #include "mbrumzheg_answers.h"
 #include "mbrumzheg_events.h"
+#include "mbrumzheg_account.h"
 #include "mbrumzheg_words.h"
 
 #endif

@@ -15,6 +15,7 @@
 #include <utility>
 #include <vector>
 
+#include "mbrumzheg_account.hpp"
 #include "mbrumzheg_events.hpp"
 #include "mbrumzheg_values.hpp"
 
@@ -136,6 +137,16 @@ public:
     // Any event.
     Result<Answer> answer(const Event& event) { return detail::answer(mbrumzheg_try_event(numbers(), size(), detail::numbers(event))); }
 
+    // The same calls, which also count what was not refused in an account; AccountFull, and nothing is applied, where a figure would pass 10^18.
+    Result<Verdict> accounted_order(Account& account, const Order& o) { return detail::verdict(accounted(account, o)); }
+    Result<Verdict> accounted_lockout(Account& account, const RootLockout& l) { return detail::verdict(accounted(account, l)); }
+    Result<Verdict> accounted_lockout(Account& account, const FirmLockout& l) { return detail::verdict(accounted(account, l)); }
+    Result<Answer> accounted_offer(Account& account, const Offer& o) { return accounted_answer(account, o); }
+    Result<Verdict> accounted_send(Account& account, const Sending& s) { return detail::verdict(accounted(account, s)); }
+    Result<Answer> accounted_report(Account& account, const Report& r) { return accounted_answer(account, r); }
+    Result<Verdict> accounted_close(Account& account, const Closing& c) { return detail::verdict(accounted(account, c)); }
+    Result<Answer> accounted_answer(Account& account, const Event& event) { return detail::answer(accounted(account, event)); }
+
     // What remains of the limit of a rule, numbered from 0 by line, on a unit at a time; the clock does not move. Unknown for a unit that is not the
     // rule's: for a rule of one unit any but its own, for a firm rule any but CallsFront.
     Result<std::uint64_t> remaining(Time time, std::uint64_t rule, UnitOfRoot unit) const {
@@ -190,6 +201,9 @@ public:
 
 private:
     explicit UnitOn(Memory memory) noexcept : memory_(std::move(memory)) {}
+    mbrumzheg_judged accounted(Account& account, const Event& event) {
+        return mbrumzheg_try_accounted_event(numbers(), size(), account.data(), Account::size(), detail::numbers(event));
+    }
     // What is lent to a call is never null, also where nothing is lent.
     std::uint64_t* numbers() noexcept { return memory_.data() == nullptr ? &nothing_ : memory_.data(); }
     const std::uint64_t* numbers() const noexcept { return memory_.data() == nullptr ? &nothing_ : memory_.data(); }

@@ -5,8 +5,8 @@
 /* Refusals. docs/EMBEDDING.md says what to do at each. */
 enum mbrumzheg_refusal {
     MBRUMZHEG_ACCEPTED = 0,
-    MBRUMZHEG_NO_ROOM = 1,         /* the memory is short, or the room is */
-    MBRUMZHEG_UNSOUND = 2,         /* the mark is not 0, and the state is not sound */
+    MBRUMZHEG_NO_ROOM = 1,         /* the memory is short, the account is, or the room is */
+    MBRUMZHEG_UNSOUND = 2,         /* the mark is not 0, and the state is not sound; or a figure of the account is above 10^18 */
     MBRUMZHEG_ARMED_ALREADY = 3,   /* arming with a mark that is not 0 */
     MBRUMZHEG_NOT_ARMED = 4,       /* the mark is 0 */
     MBRUMZHEG_PROFILE_LENGTH = 5,  /* the profile is empty, or above 65,536 bytes */
@@ -24,7 +24,8 @@ enum mbrumzheg_refusal {
     MBRUMZHEG_REGISTER_FULL = 17,  /* 64 orders sent away are open */
     MBRUMZHEG_IDENTITY_CLASH = 18, /* an order of that identity is open already or, for a report or a closing, is not open */
     MBRUMZHEG_OVER_REPORTED = 19,  /* more contracts than are open, or no report left */
-    MBRUMZHEG_UNFIT = 20           /* a record that does not fit the old form */
+    MBRUMZHEG_UNFIT = 20,          /* a record that does not fit the old form */
+    MBRUMZHEG_ACCOUNT_FULL = 21    /* a figure of the account would pass 10^18 */
 };
 
 /* Verdicts: not locked, the firm is locked, the root is locked. */
@@ -71,6 +72,23 @@ enum mbrumzheg_rule_type {
     MBRUMZHEG_ABS_VOL = 4,
     MBRUMZHEG_ABS_COUNT = 5
 };
+
+/* The places in a row of the account: orders and sendings at verdict 0 and at any other; offers that were granted something, their contracts, and premium
+ * times contracts in ten-thousandths of a dollar; offers that were not locked out and got less than was offered; root trips, in the firm's row firm trips;
+ * reports of orders sent away. */
+enum mbrumzheg_column {
+    MBRUMZHEG_COLUMN_ACCEPTED = 0,
+    MBRUMZHEG_COLUMN_REJECTED = 1,
+    MBRUMZHEG_COLUMN_FILLS = 2,
+    MBRUMZHEG_COLUMN_CONTRACTS = 3,
+    MBRUMZHEG_COLUMN_NOTIONAL = 4,
+    MBRUMZHEG_COLUMN_CUTS = 5,
+    MBRUMZHEG_COLUMN_TRIPS = 6,
+    MBRUMZHEG_COLUMN_AWAY_REPORTS = 7
+};
+
+/* How many columns a row of the account has, and which row is the firm's: those before it are the roots'. */
+enum { MBRUMZHEG_COLUMNS = 8, MBRUMZHEG_FIRM_ROW = 64 };
 
 /* Status' lowest locked root where none is locked, and a firm rule's root; the unit of a rule that covers all four. */
 enum { MBRUMZHEG_NO_ROOT = 64, MBRUMZHEG_ALL_UNITS = 4 };

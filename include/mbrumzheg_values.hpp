@@ -35,6 +35,7 @@ enum class Refusal : std::uint64_t {
     IdentityClash = MBRUMZHEG_IDENTITY_CLASH,
     OverReported = MBRUMZHEG_OVER_REPORTED,
     Unfit = MBRUMZHEG_UNFIT,
+    AccountFull = MBRUMZHEG_ACCOUNT_FULL,
 };
 
 // What a refusal means: a sentence without its first capital and full stop.

@@ -1,4 +1,4 @@
-/* What each refusal of mbrumzheg.h means, for logs and for people. Included by mbrumzheg.h. */
+/* What each refusal of mbrumzheg.h means, and what each column of an account has, for logs and for people. Included by mbrumzheg.h. */
 #include "mbrumzheg.h"
 
 #ifndef MBRUMZHEG_WORDS_H
@@ -8,8 +8,8 @@
 static inline const char *mbrumzheg_refusal_text(uint64_t refusal) {
     switch (refusal) {
     case MBRUMZHEG_ACCEPTED: return "not refused";
-    case MBRUMZHEG_NO_ROOM: return "the lent memory has fewer than 2,763 numbers, or the room is shorter than the call asks for";
-    case MBRUMZHEG_UNSOUND: return "the memory is marked, but what stands in it is no sound state";
+    case MBRUMZHEG_NO_ROOM: return "the lent memory has fewer than 2,763 numbers, the account fewer than 520, or the room is shorter than the call asks for";
+    case MBRUMZHEG_UNSOUND: return "the memory is marked, but what stands in it is no sound state, or a figure of the account is above 10^18";
     case MBRUMZHEG_ARMED_ALREADY: return "the memory's armed mark is not 0, so clear it before arming";
     case MBRUMZHEG_NOT_ARMED: return "the memory is not armed, so no rule stands behind this call";
     case MBRUMZHEG_PROFILE_LENGTH: return "the profile is empty or longer than 65,536 bytes";
@@ -28,7 +28,23 @@ static inline const char *mbrumzheg_refusal_text(uint64_t refusal) {
     case MBRUMZHEG_IDENTITY_CLASH: return "an order of this identity is open already or, for a report or a closing, none is";
     case MBRUMZHEG_OVER_REPORTED: return "the report has more contracts than are open, or the order has no report left";
     case MBRUMZHEG_UNFIT: return "the record does not fit the old form: its kind is above 2, its time not in whole milliseconds, or its reset above 3";
+    case MBRUMZHEG_ACCOUNT_FULL: return "a figure of the account would pass 10^18, so the event was not applied";
     default: return "this is no refusal of this library";
+    }
+}
+
+/* What a column of the account has, in words. */
+static inline const char *mbrumzheg_column_text(uint64_t column) {
+    switch (column) {
+    case MBRUMZHEG_COLUMN_ACCEPTED: return "accepted orders";
+    case MBRUMZHEG_COLUMN_REJECTED: return "rejected orders";
+    case MBRUMZHEG_COLUMN_FILLS: return "fills";
+    case MBRUMZHEG_COLUMN_CONTRACTS: return "contracts";
+    case MBRUMZHEG_COLUMN_NOTIONAL: return "notional";
+    case MBRUMZHEG_COLUMN_CUTS: return "cuts";
+    case MBRUMZHEG_COLUMN_TRIPS: return "trips";
+    case MBRUMZHEG_COLUMN_AWAY_REPORTS: return "away reports";
+    default: return "this is no column of an account";
     }
 }
 

@@ -65,6 +65,8 @@ pub enum Command {
     Remaining(Vec<String>),
     /// Show the rules that are active as a profile's text, or write that to a file.
     Profile(Option<Kept>),
+    /// Show the day's account, or write it to a file.
+    Account(Option<Kept>),
     /// Show what is locked.
     Status,
     /// Forget everything.
@@ -128,6 +130,8 @@ pub fn read(line: &str) -> Result<Command, String> {
         "remaining" | "rules" => Ok(Command::Remaining(words())),
         "profile" if rest.is_empty() => Ok(Command::Profile(None)),
         "profile" => kept(rest, "profile").map(|kept| Command::Profile(Some(kept))),
+        "account" if rest.is_empty() => Ok(Command::Account(None)),
+        "account" => kept(rest, "account").map(|kept| Command::Account(Some(kept))),
         "status" => alone(rest, "status", Command::Status),
         "clear" => alone(rest, "clear", Command::Clear),
         "save" => save(rest),

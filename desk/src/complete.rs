@@ -27,7 +27,7 @@ pub fn candidates(before: &str, known: &Known) -> (usize, Vec<String>) {
     if let ("widen" | "narrow", [_]) = (command.as_str(), words) {
         return (start, files(typed));
     }
-    if let ("arm" | "check" | "profile" | "save" | "replay" | "report" | "widen" | "narrow", []) = (command.as_str(), words) {
+    if let ("arm" | "check" | "profile" | "account" | "save" | "replay" | "report" | "widen" | "narrow", []) = (command.as_str(), words) {
         return (start, files(typed));
     }
     (start, beginning(following(&command, words, known).into_iter(), typed))
@@ -59,7 +59,7 @@ fn following(command: &str, words: &[&str], Known { roots, open }: &Known) -> Ve
         ("widen" | "narrow", 2) => all(&["over"]),
         ("save", 1) => all(&["words", "over"]),
         ("save", 2) if words[1] == "words" => all(&["over"]),
-        ("profile", 1) => all(&["over"]),
+        ("profile" | "account", 1) => all(&["over"]),
         ("report", 1) => all(&["from"]),
         ("report", 3) => all(&["to"]),
         _ => Vec::new(),
@@ -150,6 +150,7 @@ mod tests {
         assert_eq!(offered("offer 0ms é"), [""; 0]);
         assert_eq!(candidates("order now 7", &known()), (10, vec!["7".to_string()]));
         assert_eq!(offered("aw"), ["away"]);
+        assert_eq!((offered("ac"), offered("account evening.csv ")), (vec!["account".to_string()], vec!["over".to_string()]));
         assert_eq!(offered("away 0ms x"), ["XYZ", "XQ"]);
         assert_eq!(offered("away now XYZ p"), ["put"]);
         assert_eq!(offered("away now XYZ put "), ["front", "trailing"]);

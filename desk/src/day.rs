@@ -16,7 +16,7 @@ use crate::sitting::Sitting;
 use crate::source::Source;
 use crate::standing::level;
 use crate::sums::Sums;
-use mbrumzheg::{Answer, Event, Level, Offer, Root, Unit, Verdict};
+use mbrumzheg::{Account, Answer, Event, Level, Offer, Root, Unit, Verdict};
 
 /// So many orders sent away are told one by one.
 pub const MOST_ORDERS: usize = 200;
@@ -41,6 +41,8 @@ pub struct Day {
     pub entries: Entries,
     /// The figures.
     pub sums: Sums,
+    /// The account of the whole day.
+    pub account: Account,
 }
 
 impl Day {
@@ -60,6 +62,7 @@ impl Day {
             return Err(format!("the desk reckons otherwise than the library for {counts}, so it writes no page of this day"));
         }
         day.close(&mut sitting);
+        day.account = sitting.account;
         Ok(day)
     }
 
@@ -74,6 +77,7 @@ impl Day {
             lanes: vec![Lane::default(); profile.roots.len() + 1],
             entries: Entries::default(),
             sums: Sums::default(),
+            account: Account::new(),
         }
     }
 

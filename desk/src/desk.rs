@@ -5,6 +5,7 @@ use crate::asked::Names;
 use crate::check;
 use crate::command::{self, Command};
 use crate::complete::Known;
+use crate::evening;
 use crate::files;
 use crate::help;
 use crate::keeping::Caution;
@@ -83,6 +84,8 @@ impl Desk {
             Command::Remaining(words) => self.remaining(&words),
             Command::Profile(None) => self.profile(),
             Command::Profile(Some(kept)) => self.save_profile(&kept),
+            Command::Account(None) => self.sitting().map(|sitting| evening::table(&sitting.profile, &sitting.account)),
+            Command::Account(Some(kept)) => self.save_account(&kept),
             Command::Status => table::status(self.sitting()?).map_err(|refusal| refusal.to_string()),
             Command::Clear => self.clear(),
             Command::Save { kept, in_words } => self.save(&kept, in_words),

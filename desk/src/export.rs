@@ -1,6 +1,7 @@
 //! The figures of a page as JSON and as CSV.
 
 use crate::day::Day;
+use crate::evening;
 use crate::figures::{self, CountFigures};
 use crate::json::{list, object, text};
 use crate::lane::{Lane, Told};
@@ -28,6 +29,7 @@ pub fn json(profile: &Profile, day: &Day, made: &Made) -> String {
         ("times", times(day.times)),
         ("stretch", times(day.stretch)),
         ("counts", format!("{{{}}}", counts.collect::<Vec<_>>().join(","))),
+        ("account", objects(evening::json(profile, &day.account).into_iter())),
         ("rules", objects(limits.iter().map(|figures| named(&LIMIT_FIELDS, &limit_values(profile, figures))))),
         ("levels", objects(levels(day).iter().map(|(level, lane)| named(&LEVEL_FIELDS, &level_values(profile, *level, lane))))),
         ("locks", objects(told(day).iter().map(|told| named(&LOCK_FIELDS, &lock_values(profile, told))))),
@@ -47,7 +49,7 @@ fn objects(all: impl Iterator<Item = String>) -> String {
     format!("[\n{}\n]", all.collect::<Vec<_>>().join(",\n"))
 }
 
-/// The same figures as tables of commas: counts, limits, levels and locks, an empty line between them.
+/// The same figures as tables of commas: counts, account, limits, levels and locks, an empty line between them.
 pub fn csv(profile: &Profile, day: &Day, made: &Made) -> String {
     let mut lines = Vec::new();
     let mut pair = |name: &str, value: String| lines.push(format!("{},{}", cell(name), cell(&value)));
@@ -66,6 +68,8 @@ pub fn csv(profile: &Profile, day: &Day, made: &Made) -> String {
         }
     }
     figures::counts(profile, day).iter().for_each(|(name, count)| pair(name, count.to_string()));
+    lines.push(String::new());
+    lines.extend(evening::csv_lines(profile, &day.account));
     lines.push(String::new());
     lines.push(LIMIT_FIELDS.join(","));
     lines.extend(figures::limits(profile, day).iter().map(|figures| row(&limit_values(profile, figures))));

@@ -46,9 +46,10 @@ pub fn write_words(name: &str, sitting: &Sitting, over: bool) -> Result<(), Stri
     whole(name, all).map_err(|error| cannot_write(name, &error))
 }
 
-/// Writes a profile's text; a file that is there already stays as it is, unless `over` says that it may be written over.
-pub fn write_profile(name: &str, text: &str, over: bool) -> Result<(), String> {
-    may_keep(name, "profile", over)?;
+/// Writes a profile's text or an account's, for the command that asks; a file that is there already stays as it is, unless `over` says that it may be
+/// written over.
+pub fn write_text(name: &str, command: &str, text: &str, over: bool) -> Result<(), String> {
+    may_keep(name, command, over)?;
     whole(name, |to| to.write_all(text.as_bytes())).map_err(|error| cannot_write(name, &error))
 }
 

@@ -5,6 +5,7 @@ use crate::asked::Names;
 use crate::command::Kept;
 use crate::day::Day;
 use crate::desk::Desk;
+use crate::evening;
 use crate::files;
 use crate::form::Form;
 use crate::progress::Progress;
@@ -89,8 +90,15 @@ impl Desk {
     /// Writes them to a file, which arms a unit with the same rules.
     pub(crate) fn save_profile(&mut self, Kept { file, over }: &Kept) -> Result<String, String> {
         let text = self.sitting()?.active()?;
-        files::write_profile(file, &text, *over)?;
+        files::write_text(file, "profile", &text, *over)?;
         Ok(format!("saved {} to {file}", counted(text.lines().count(), "rule")))
+    }
+
+    /// Writes the day's account to a file, as a table of commas.
+    pub(crate) fn save_account(&mut self, Kept { file, over }: &Kept) -> Result<String, String> {
+        let sitting = self.sitting()?;
+        files::write_text(file, "account", &evening::csv(&sitting.profile, &sitting.account), *over)?;
+        Ok(format!("saved the account of {} and the firm to {file}", counted(sitting.profile.roots.len(), "root")))
     }
 
     pub(crate) fn report(&mut self, file: &str, stretch: Option<(String, String)>) -> Result<String, String> {

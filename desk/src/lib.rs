@@ -12,6 +12,7 @@ pub mod counts;
 pub mod day;
 pub mod desk;
 pub mod entries;
+pub mod evening;
 pub mod explain;
 pub mod export;
 pub mod figures;

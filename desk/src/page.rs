@@ -24,6 +24,7 @@ pub fn page(profile: &Profile, day: &Day, made: &Made) -> String {
     let body = [
         format!("<header><h1>{title}</h1><p>{}</p></header>", about(day)),
         format!("<section id=\"overview\"><h2>Overview</h2>{}{}</section>", counts(profile, day), tables::overview(profile, &limits)),
+        tables::account(profile, day),
         format!("<section id=\"locks\"><h2>Locks over time</h2>{}{}</section>", drawn.lanes, tables::locks(profile, day)),
         tables::away(profile, day),
         format!("<section id=\"legend\"><h2>Legend</h2>{}<h3>What a reset zeroes and lifts</h3>{}</section>", legend(), tables::resets()),

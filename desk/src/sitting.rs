@@ -9,7 +9,7 @@ use crate::register::Register;
 use crate::resets;
 use crate::spool::Spool;
 use crate::standing::{level, Standing};
-use mbrumzheg::{Answer, Armed, Event, Level, Marks, Offer, Refusal, Report, Root, Time, Unit, Verdict};
+use mbrumzheg::{Account, Answer, Armed, Event, Level, Marks, Offer, Refusal, Report, Root, Time, Unit, Verdict};
 
 /// The unit that the desk works with.
 pub type ArmedUnit = Unit<Box<[u64]>, Armed>;
@@ -32,6 +32,8 @@ pub struct Sitting {
     pub standing: Standing,
     /// The orders sent away that are open.
     pub away: Register,
+    /// The day's account, which the library keeps.
+    pub account: Account,
     ledger: Ledger,
 }
 
@@ -52,7 +54,8 @@ impl Sitting {
         let profile = Profile::of_accepted(text);
         let (standing, ledger) = (Standing::of(&profile), Ledger::of(&profile));
         let sources = Sources { profile: file.to_string(), ..Sources::default() };
-        Sitting { unit, profile, day: Spool::default(), place: 0, unsaved: 0, sources, standing, away: Register::default(), ledger }
+        let (day, away, account) = Default::default();
+        Sitting { unit, profile, day, place: 0, unsaved: 0, sources, standing, away, account, ledger }
     }
 
     /// The rules that the unit runs as a profile's text, as the library writes it.
@@ -77,7 +80,7 @@ impl Sitting {
     pub fn answer_piece(&mut self, piece: &Piece, watch: &mut dyn Watch) -> Passed {
         self.place += 1;
         let event = piece.event();
-        let answer = event.map_or(Err(Refusal::FaultyRecord), |event| self.unit.answer(event));
+        let answer = event.map_or(Err(Refusal::FaultyRecord), |event| self.unit.accounted_answer(&mut self.account, event));
         let mut passed = Passed::new(self.place, event, answer);
         if let (Some(event), Ok(answer)) = (event, answer) {
             self.ledger.advance(event.time().ms(), watch);

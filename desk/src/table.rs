@@ -72,7 +72,7 @@ fn locks(sitting: &Sitting, shown: Shown) -> Vec<String> {
 }
 
 /// A sentence in lines of at most 80 columns, those after the first set in.
-fn wrapped(text: &str) -> Vec<String> {
+pub fn wrapped(text: &str) -> Vec<String> {
     let (mut lines, mut line) = (Vec::new(), String::new());
     for word in text.split(' ') {
         if line.chars().count() + 1 + word.chars().count() > 80 {

@@ -3,6 +3,7 @@
 use crate::chart::escaped;
 use crate::day::{Day, MOST_ORDERS};
 use crate::entries::{Entry, Group};
+use crate::evening;
 use crate::export;
 use crate::figures::{face, CountFigures};
 use crate::marks::Kind;
@@ -64,6 +65,24 @@ fn overview_row(profile: &Profile, figures: &CountFigures) -> Vec<String> {
         rule.amount(figures.back).to_string(),
         if figures.past() > 0 { rule.amount(figures.past()).to_string() } else { String::new() },
     ]
+}
+
+/// The day's account: a row for each root, and the firm's last.
+pub fn account(profile: &Profile, day: &Day) -> String {
+    let heads = [
+        ("Of", ""),
+        ("Orders accepted", "n"),
+        ("Orders rejected", "n"),
+        ("Fills", "n"),
+        ("Contracts", "n"),
+        ("Notional", "n"),
+        ("Cuts", "n"),
+        ("Trips", "n"),
+        ("Away reports", "n more"),
+    ];
+    let rows = evening::rows(profile, &day.account);
+    let rows = rows.iter().map(|row| evening::cells(row).iter().map(|cell| escaped(cell)).collect());
+    format!("<section id=\"account\"><h2>Account of the day</h2>{}</section>", table("evening", &heads, rows))
 }
 
 /// What the locks of each level come to, and the locks one by one, with what was rejected for each.

@@ -30,7 +30,7 @@ pub const LOCK_FORM: &str = "lock [TIME] ROOT|firm";
 pub const REMAINING_FORM: &str = "remaining [TIME] [firm|ROOT|rule NUMBER] [call|put front|trailing]";
 
 /// The commands, in the order of the list.
-pub const COMMANDS: [Topic; 19] = [
+pub const COMMANDS: [Topic; 20] = [
     Topic {
         name: "arm",
         form: "arm FILE",
@@ -115,6 +115,16 @@ pub const COMMANDS: [Topic; 19] = [
                effect, no empty fields at the end. To arm with that text gives the same rules. A file that is there already is left alone, \
                unless over is typed after its name.",
         examples: &["profile", "profile active", "profile active over"],
+    },
+    Topic {
+        name: "account",
+        form: "account [FILE [over]]",
+        short: "the day's account: each root's figures, and the firm's",
+        long: "Shows for each root, and then for the firm, orders accepted and rejected, fills, contracts, notional, cuts, trips and reports from \
+               away, as the library counts them, or writes them to FILE as a table of commas, notional in ten-thousandths of a dollar. Orders \
+               sent away count as orders, what comes back in its own column and as trips alone, refused events nowhere. A file that is there \
+               already is left alone, unless over is typed after its name.",
+        examples: &["account", "account evening.csv", "account evening.csv over"],
     },
     Topic {
         name: "status",

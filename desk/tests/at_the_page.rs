@@ -31,6 +31,7 @@ fn what_a_person_does_at_the_page() {
     fs::write(place.join("day"), [0xFF; 16]).expect("written");
     browser.keys("#day", &place.join("day").to_string_lossy());
     lines(&browser, 3);
+    browser.wait("document.querySelector('#account-rows').innerText.includes('firm ABCD')");
     assert!(browser.text("#lines tr").contains("refused with 16"), "{}", browser.text("#lines tr"));
     unlocked_by_keys_and_saved(&browser);
     let complaints = browser.complaints();

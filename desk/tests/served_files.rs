@@ -13,12 +13,15 @@ use std::fs;
 fn a_day_is_saved_as_records_or_in_words() {
     let place = workplace("files");
     let serving = Serving::begin(&place, &[]);
-    for path in ["day.records", "day.txt"] {
+    for path in ["day.records", "day.txt", "account.csv"] {
         assert_eq!(get(&serving, path).0, 409, "nothing is armed");
     }
     assert_eq!(post(&serving, "arm", b"ABCD,abs_vol,XYZ,100").0, 200);
     assert_eq!(post(&serving, "line", b"offer 0ms XYZ call front 1.00 120").0, 200);
     assert_eq!(get(&serving, "day.records").1.len(), 16);
+    let account = String::from_utf8(get(&serving, "account.csv").1).expect("text");
+    assert_eq!(account.lines().nth(1), Some("XYZ,0,0,1,100,1000000,1,1,0"));
+    assert_eq!(state(&serving).get("armed").get("account").list().len(), 3, "the columns' names, a root and the firm");
     assert_eq!(state(&serving).get("unsaved"), &Json::Bool(false));
     assert_eq!(post(&serving, "line", b"order 1.250ms XYZ reset t").0, 200);
     assert_eq!(state(&serving).get("unsaved"), &Json::Bool(true));

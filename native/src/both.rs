@@ -1,5 +1,7 @@
 //! Both programs, called by lines of a script, for cases by name.
 
+use second::account::FIGURES;
+
 use crate::pair::{as_it_is, Pair};
 use crate::scripts::Step;
 use crate::Row;
@@ -36,11 +38,25 @@ impl Both {
         self
     }
 
-    /// Both refuse each line with this number, zeros beside it and not one number of the memory changed.
+    /// Both refuse each line with this number, zeros beside it and not one number of the memory or the account changed.
     pub fn refuses(&mut self, refusal: u64, lines: &[&str]) -> &mut Both {
-        let before = self.0.second().numbers().to_vec();
+        let (before, account) = (self.0.second().numbers().to_vec(), self.0.account().0.to_vec());
         lines.iter().for_each(|line| assert_eq!(self.run(line), [refusal, 0, 0, 0, 0], "{line}"));
         assert_eq!(self.0.second().numbers(), before, "refusals change nothing");
+        assert_eq!(self.0.account().0, account, "refusals change nothing");
+        self
+    }
+
+    /// The figures of a row of the account, which is what the list of events and answers makes it.
+    pub fn figures(&mut self, row: usize) -> [u64; FIGURES] {
+        self.0.finish().unwrap_or_else(|difference| panic!("{difference}"));
+        let figures = &self.0.account().0[FIGURES * row..][..FIGURES];
+        figures.try_into().expect("eight figures")
+    }
+
+    /// Puts a figure into the account of both.
+    pub fn put_figure(&mut self, row: usize, figure: usize, number: u64) -> &mut Both {
+        self.run(&format!("account-damage {} {number}", FIGURES * row + figure));
         self
     }
 

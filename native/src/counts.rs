@@ -5,40 +5,39 @@ use std::hint::black_box;
 use std::path::Path;
 use std::process::Command;
 
-use crate::beside::run_hand;
-use crate::lines::{lines, Line};
+use crate::calls::{run_hand, run_library};
+use crate::lines::{lines, no_account, Line};
 use crate::measure::pass;
-use crate::pair::run_library;
 
-/// Runs a line's call on a memory and a room.
-type Who = fn(&Line, &mut [u64], &mut [u8]);
+/// Runs a line's call on a memory, an account and a room.
+type Who = fn(&Line, &mut [u64], &mut [u64], &mut [u8]);
 
 /// What is counted on each line.
 const WHO: [Who; 4] = [nothing, plain_pass, library, hand];
 /// How many calls are counted for each.
 const CALLS: u64 = 20;
 
-fn nothing(line: &Line, _: &mut [u64], _: &mut [u8]) {
+fn nothing(line: &Line, _: &mut [u64], _: &mut [u64], _: &mut [u8]) {
     black_box(&line.call);
 }
 
-fn plain_pass(_: &Line, m: &mut [u64], _: &mut [u8]) {
+fn plain_pass(_: &Line, m: &mut [u64], _: &mut [u64], _: &mut [u8]) {
     black_box(pass(m));
 }
 
-fn library(line: &Line, m: &mut [u64], room: &mut [u8]) {
-    black_box(run_library(black_box(&line.call), m, room));
+fn library(line: &Line, m: &mut [u64], account: &mut [u64], room: &mut [u8]) {
+    black_box(run_library(black_box(&line.call), m, account, room));
 }
 
-fn hand(line: &Line, m: &mut [u64], room: &mut [u8]) {
-    black_box(run_hand(black_box(&line.call), m, room));
+fn hand(line: &Line, m: &mut [u64], account: &mut [u64], room: &mut [u8]) {
+    black_box(run_hand(black_box(&line.call), m, account, room));
 }
 
 /// The function whose instructions are counted.
 #[no_mangle]
 #[inline(never)]
-pub extern "C" fn mbrumzheg_counted(who: usize, line: &Line, m: &mut Vec<u64>, room: &mut Vec<u8>) {
-    WHO[who](line, m, room);
+pub extern "C" fn mbrumzheg_counted(who: usize, line: &Line, m: &mut Vec<u64>, account: &mut Vec<u64>, room: &mut Vec<u8>) {
+    WHO[who](line, m, account, room);
 }
 
 /// The function after which the count so far is written down.
@@ -52,10 +51,11 @@ pub extern "C" fn mbrumzheg_counted_all(who: usize) {
 pub fn run_counted() {
     for line in lines() {
         for who in 0..WHO.len() {
-            let (mut m, mut room) = (line.state.clone(), line.call.room());
+            let (mut m, mut account, mut room) = (line.state.clone(), no_account(), line.call.room());
             for _ in 0..CALLS {
                 m.copy_from_slice(&line.state);
-                mbrumzheg_counted(black_box(who), &line, black_box(&mut m), black_box(&mut room));
+                account.fill(0);
+                mbrumzheg_counted(black_box(who), &line, black_box(&mut m), black_box(&mut account), black_box(&mut room));
             }
             mbrumzheg_counted_all(black_box(who));
         }

@@ -1,6 +1,7 @@
 //! The same calls on the same memory, written by hand for speed: what the proved library is measured against.
 //! It keeps the whole contract: the refusals in their order, the test of soundness, and every number of the memory after.
 
+mod account;
 mod away;
 mod counted;
 mod map;
@@ -12,6 +13,7 @@ mod register;
 mod reset;
 mod sound;
 
+pub use account::{accounted_close, accounted_lockout, accounted_offer, accounted_order, accounted_report, accounted_send};
 pub use away::{close, report, send};
 pub use profile_out::profile;
 pub use records::{read_record, write_record};
@@ -124,30 +126,36 @@ pub fn remaining(m: &[u64], time: u64, rule: u64, unit: u64) -> Row {
 }
 
 pub fn lockout(m: &mut [u64], time: u64, level: u64, root: u64) -> Row {
-    row(state_mut(m).and_then(|m| {
-        armed_at(m, time)?;
-        match level {
-            0 if root < m[ROOT_COUNT] => m[ROOTS_LOCKED] |= 1 << root,
-            1 if root == 0 => m[FIRM_LOCKED] = 1,
-            _ => return Err(13),
-        }
-        m[CLOCK] = time;
-        Ok([0; 4])
-    }))
+    row(state_mut(m).and_then(|m| locked_out(m, time, level, root)))
+}
+
+/// A lockout on lent memory.
+fn locked_out(m: &mut State, time: u64, level: u64, root: u64) -> Result<[u64; 4], u64> {
+    armed_at(m, time)?;
+    match level {
+        0 if root < m[ROOT_COUNT] => m[ROOTS_LOCKED] |= 1 << root,
+        1 if root == 0 => m[FIRM_LOCKED] = 1,
+        _ => return Err(13),
+    }
+    m[CLOCK] = time;
+    Ok([0; 4])
 }
 
 pub fn order(m: &mut [u64], time: u64, root: u64, reset: u64) -> Row {
-    row(state_mut(m).and_then(|m| {
-        armed_at(m, time)?;
-        if root >= m[ROOT_COUNT] || reset > LAST_RESET {
-            return Err(13);
-        }
-        m[CLOCK] = time;
-        if reset != 0 {
-            carry_out(m, root, reset);
-        }
-        Ok([verdict(m, root), 0, 0, 0])
-    }))
+    row(state_mut(m).and_then(|m| ordered(m, time, root, reset)))
+}
+
+/// An order on lent memory.
+fn ordered(m: &mut State, time: u64, root: u64, reset: u64) -> Result<[u64; 4], u64> {
+    armed_at(m, time)?;
+    if root >= m[ROOT_COUNT] || reset > LAST_RESET {
+        return Err(13);
+    }
+    m[CLOCK] = time;
+    if reset != 0 {
+        carry_out(m, root, reset);
+    }
+    Ok([verdict(m, root), 0, 0, 0])
 }
 
 pub fn offer(m: &mut [u64], time: u64, root: u64, unit: u64, premium: u64, contracts: u64) -> Row {

@@ -2,8 +2,10 @@
 
 pub mod beside;
 pub mod both;
+pub mod calls;
 pub mod counts;
 pub mod damage;
+pub mod evening;
 pub mod hand;
 pub mod lines;
 pub mod measure;
@@ -13,22 +15,25 @@ pub mod program;
 pub mod rates;
 pub mod records;
 pub mod run;
+pub mod running;
 pub mod scripts;
 pub mod shrink;
 pub mod steps;
 pub mod tally;
 
 pub use library::{
-    arm, clear, close, lockout, narrow, offer, order, profile, read_record, read_record16, remaining, report, send, status, text, widen,
-    write_record, write_record16, Row, SIZE,
+    accounted_close, accounted_lockout, accounted_offer, accounted_order, accounted_report, accounted_send, arm, clear, close, lockout,
+    narrow, offer, order, profile, read_record, read_record16, remaining, report, send, status, text, widen, write_record, write_record16,
+    Row, SIZE,
 };
 
 /// The proved library.
 #[cfg(feature = "library")]
 mod library {
     pub use mbrumzheg::raw::{
-        arm, clear, close, lockout, narrow, offer, order, profile, read_record16, remaining, report, send, status, text, widen,
-        write_record, write_record16, Row, SIZE,
+        accounted_close, accounted_lockout, accounted_offer, accounted_order, accounted_report, accounted_send, arm, clear, close, lockout,
+        narrow, offer, order, profile, read_record16, remaining, report, send, status, text, widen, write_record, write_record16, Row,
+        SIZE,
     };
 
     /// An event record read: the refusal, then kind, time, root, unit, premium, contracts, reset and level.
@@ -43,7 +48,8 @@ mod library {
 #[cfg(not(feature = "library"))]
 mod library {
     pub use crate::hand::{
-        arm, clear, close, lockout, offer, order, profile, read_record, read_record16, remaining, report, send, status, text,
+        accounted_close, accounted_lockout, accounted_offer, accounted_order, accounted_report, accounted_send, arm, clear, close, lockout,
+        offer, order, profile, read_record, read_record16, remaining, report, send, status, text,
     };
     pub use second::lent::Row;
     pub use second::place::NUMBERS as SIZE;

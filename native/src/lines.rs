@@ -1,11 +1,18 @@
 //! What is measured: each line is one call on one state, the same for the proved library, the hand-written calls and the second program.
 
-use second::unit::{self, Away, Unit};
+mod accounts;
 
-use crate::beside::run_hand;
-use crate::pair::run_library;
+use second::account::{Account, NUMBERS as ACCOUNT};
+use second::unit::{Away, Unit};
+
+use crate::calls::{run_hand, run_library, run_unit};
 use crate::scripts::{Kind, Step};
-use crate::{Row, SIZE};
+use crate::SIZE;
+
+/// An account of zeros, which every line's call has beside it.
+pub fn no_account() -> Vec<u64> {
+    vec![0; ACCOUNT]
+}
 
 /// One line of the table: a call, and the state before it.
 pub struct Line {
@@ -20,53 +27,30 @@ impl Line {
     fn new(name: String, before: &[Step], call: Step) -> Line {
         let (mut state, mut unit) = (vec![0; SIZE], Unit::new());
         for step in before {
-            let row = run_library(step, &mut state, &mut []);
-            assert_eq!((row[0], run_unit(step, &mut unit, &mut [])), (0, row), "{name}: {step}");
+            let row = run_library(step, &mut state, &mut [], &mut []);
+            assert_eq!((row[0], run_unit(step, &mut unit, &mut Account::default(), &mut [])), (0, row), "{name}: {step}");
         }
         let line = Line { name, call, state, unit };
         line.check();
         line
     }
 
-    /// All three answer alike and leave the same room, none refuses, and by hand the memory is left as by the library.
+    /// All three answer alike and leave the same account and room, none refuses, and by hand the memory is left as by the library.
     fn check(&self) {
         let (mut one, mut other, mut unit) = (self.state.clone(), self.state.clone(), self.unit.clone());
+        let (mut accounts, mut account) = ([no_account(), no_account()], Account::default());
         let mut rooms = [(); 3].map(|_| self.call.room());
         let [library_room, hand_room, second_room] = &mut rooms;
-        let row = run_library(&self.call, &mut one, library_room);
-        assert_eq!((row[0], run_hand(&self.call, &mut other, hand_room)), (0, row), "{}", self.name);
-        assert_eq!((run_unit(&self.call, &mut unit, second_room), one), (row, other), "{}", self.name);
+        let row = run_library(&self.call, &mut one, &mut accounts[0], library_room);
+        assert_eq!((row[0], run_hand(&self.call, &mut other, &mut accounts[1], hand_room)), (0, row), "{}", self.name);
+        assert_eq!((run_unit(&self.call, &mut unit, &mut account, second_room), one), (row, other), "{}", self.name);
+        assert!(accounts[0] == accounts[1] && accounts[0] == account.rows.as_flattened(), "{}", self.name);
         assert!(rooms[0] == rooms[1] && rooms[0] == rooms[2], "{}", self.name);
     }
 
     /// Is it a call on a state, which has to be tested?
     pub fn tests_state(&self) -> bool {
         self.call.kind != Kind::Arm && self.call.kind != Kind::Clear
-    }
-}
-
-/// Runs a call on the second program's own state.
-pub fn run_unit(step: &Step, unit: &mut Unit, room: &mut [u8]) -> Row {
-    let [a, b, c, d, e, ..] = step.numbers;
-    let first = |numbers: &[u64]| {
-        let mut row = [0; 5];
-        row[..numbers.len()].copy_from_slice(numbers);
-        row
-    };
-    match step.kind {
-        Kind::Arm => unit.arm(&step.profile).numbers(),
-        Kind::Clear => first(&[unit.clear().refusal]),
-        Kind::Order => unit.order(a, b, c).numbers(),
-        Kind::Lockout => unit.lockout(a, b, c).numbers(),
-        Kind::Offer => unit.offer(a, b, c, d, e).numbers(),
-        Kind::Send => unit.send(a, step.order()).numbers(),
-        Kind::Report => unit.report(a, b, c).numbers(),
-        Kind::Close => unit.close(a, b).numbers(),
-        Kind::Remaining => first(&unit.remaining(a, b, c).numbers()),
-        Kind::Status => unit.status().numbers(),
-        Kind::Text => first(&unit::text(a, room).numbers()),
-        Kind::Profile => first(&unit.profile(room).numbers()),
-        Kind::Length | Kind::Damage => unreachable!("no call"),
     }
 }
 
@@ -244,5 +228,6 @@ fn profiles_out() -> Vec<Line> {
 
 /// All lines.
 pub fn lines() -> Vec<Line> {
-    small().into_iter().chain(offers()).chain(aways()).chain(arms()).chain(profiles_out()).collect()
+    let plain = small().into_iter().chain(offers()).chain(aways()).chain(arms()).chain(profiles_out());
+    accounts::with_accounted(plain.collect())
 }

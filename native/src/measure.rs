@@ -3,11 +3,11 @@
 use std::hint::black_box;
 use std::time::{Duration, Instant};
 
+use second::account::Account;
 use second::unit::Unit;
 
-use crate::beside::run_hand;
-use crate::lines::{run_unit, Line};
-use crate::pair::run_library;
+use crate::calls::{run_hand, run_library, run_unit};
+use crate::lines::{no_account, Line};
 use crate::scripts::{Kind, Step};
 use crate::SIZE;
 
@@ -59,10 +59,11 @@ impl Default for Least {
 impl Least {
     /// Measures a line for so long: rounds take turns, so that what disturbs one disturbs all.
     pub fn measure(&mut self, line: &Line, time: Duration) {
-        let (mut m, mut unit, mut room) = (line.state.clone(), line.unit.clone(), line.call.room());
+        let mut lent = Lent { numbers: line.state.clone(), account: no_account(), room: line.call.room() };
+        let mut second = (line.unit.clone(), Account::default());
         let (mut rounds, start) = (0, Instant::now());
         while rounds < ROUNDS || start.elapsed() < time {
-            let turn = turn(line, &mut m, &mut unit, &mut room);
+            let turn = turn(line, &mut lent, &mut second);
             self.0.iter_mut().zip(turn).for_each(|(least, time)| *least = least.min(time));
             rounds += 1;
         }
@@ -75,30 +76,43 @@ impl Least {
     }
 }
 
+/// What is lent to a call.
+struct Lent {
+    numbers: Vec<u64>,
+    account: Vec<u64>,
+    room: Vec<u8>,
+}
+
 /// One round of each.
-fn turn(line: &Line, m: &mut Vec<u64>, unit: &mut Unit, room: &mut [u8]) -> [f64; 6] {
-    let restore = |m: &mut Vec<u64>| m.copy_from_slice(&line.state);
+fn turn(line: &Line, lent: &mut Lent, second: &mut (Unit, Account)) -> [f64; 6] {
+    let restore = |lent: &mut Lent| {
+        lent.numbers.copy_from_slice(&line.state);
+        lent.account.fill(0);
+    };
     let status = Step::new(Kind::Status, &[]);
     [
-        round(m, restore, |_| {}),
-        round(m, restore, |m| {
-            black_box(pass(m));
+        round(lent, restore, |_| {}),
+        round(lent, restore, |lent| {
+            black_box(pass(&lent.numbers));
         }),
-        round(m, restore, |m| {
-            black_box(run_library(black_box(&line.call), m, black_box(&mut *room)));
+        round(lent, restore, |lent| {
+            black_box(run_library(black_box(&line.call), &mut lent.numbers, &mut lent.account, &mut lent.room));
         }),
-        round(m, restore, |m| {
-            black_box(run_hand(black_box(&line.call), m, black_box(&mut *room)));
+        round(lent, restore, |lent| {
+            black_box(run_hand(black_box(&line.call), &mut lent.numbers, &mut lent.account, &mut lent.room));
         }),
         round(
-            unit,
-            |unit| unit.clone_from(&line.unit),
-            |unit| {
-                black_box(run_unit(black_box(&line.call), unit, black_box(&mut *room)));
+            second,
+            |(unit, account)| {
+                unit.clone_from(&line.unit);
+                *account = Account::default();
+            },
+            |(unit, account)| {
+                black_box(run_unit(black_box(&line.call), unit, account, black_box(&mut line.call.room())));
             },
         ),
-        round(m, restore, |m| {
-            black_box(run_hand(black_box(&status), m, &mut []));
+        round(lent, restore, |lent| {
+            black_box(run_hand(black_box(&status), &mut lent.numbers, &mut [], &mut []));
         }),
     ]
 }

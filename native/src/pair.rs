@@ -1,19 +1,29 @@
-//! The proved library and the second program side by side, on memory of their own each.
+//! The proved library and the second program side by side, on memory and accounts of their own each.
 
 use std::fmt;
 use std::panic::{catch_unwind, AssertUnwindSafe};
 
+use second::account::NUMBERS as ACCOUNT;
 use second::lent::{Lent, Row};
-use second::unit;
 
+use crate::calls::{run_library, run_second};
+use crate::running::Running;
 use crate::scripts::{Kind, Step};
 use crate::SIZE;
 
+/// What the second program left after a call.
+pub struct Left<'a> {
+    pub second: &'a mut Lent,
+    pub account: &'a mut [u64],
+    pub row: &'a mut Row,
+    pub room: &'a mut [u8],
+}
+
 /// Changes what the second program answered or left: a wrong version of it, for trying the comparison itself.
-pub type Twist = fn(&Step, &mut Lent, &mut Row, &mut [u8]);
+pub type Twist = fn(&Step, Left);
 
 /// The second program as it is.
-pub fn as_it_is(_: &Step, _: &mut Lent, _: &mut Row, _: &mut [u8]) {}
+pub fn as_it_is(_: &Step, _: Left) {}
 
 /// The most numbers that are lent here.
 const MOST_LENT: u64 = 200_000;
@@ -30,9 +40,20 @@ pub enum Difference {
         library: u64,
         second: u64,
     },
+    Account {
+        place: usize,
+        library: u64,
+        second: u64,
+    },
     Room {
         library: Vec<u8>,
         second: Vec<u8>,
+    },
+    /// A figure of the account is not what the list of events and answers makes it.
+    Figure {
+        place: usize,
+        library: u64,
+        computed: u64,
     },
     /// The second program did not come to an answer.
     Panic {
@@ -47,25 +68,47 @@ impl fmt::Display for Difference {
             Difference::Memory { place, library, second } => {
                 write!(f, "in number {place} of the memory the library leaves {library}, the second program {second}")
             }
+            Difference::Account { place, library, second } => {
+                write!(f, "in number {place} of the account the library leaves {library}, the second program {second}")
+            }
             Difference::Room { library, second } => {
                 write!(f, "in the room the library leaves {}, the second program {}", library.escape_ascii(), second.escape_ascii())
+            }
+            Difference::Figure { place, library, computed } => {
+                write!(f, "number {place} of the account is {library}, and by the list of events and answers {computed}")
             }
             Difference::Panic { library } => write!(f, "the library answers {library:?}, the second program panics"),
         }
     }
 }
 
-/// Both, on memory that was equal before the next step.
+/// Both, on memory and accounts that were equal before the next step.
 pub struct Pair {
     memory: Vec<u64>,
     second: Lent,
+    account: Vec<u64>,
+    second_account: Vec<u64>,
+    /// How many numbers of the account are lent.
+    account_length: usize,
+    running: Option<Running>,
+    /// How many events the lists had that the account was compared with.
+    pub listed: u64,
     twist: Twist,
 }
 
 impl Pair {
-    /// Memory of zeros for a state, all of it lent.
+    /// Memory of zeros for a state and an account, all of it lent.
     pub fn new(twist: Twist) -> Pair {
-        Pair { memory: vec![0; SIZE], second: Lent::new(vec![0; SIZE]), twist }
+        Pair {
+            memory: vec![0; SIZE],
+            second: Lent::new(vec![0; SIZE]),
+            account: vec![0; ACCOUNT],
+            second_account: vec![0; ACCOUNT],
+            account_length: ACCOUNT,
+            running: None,
+            listed: 0,
+            twist,
+        }
     }
 
     /// The second program.
@@ -73,43 +116,85 @@ impl Pair {
         &mut self.second
     }
 
+    /// All numbers of the account, and how many of them are lent.
+    pub fn account(&self) -> (&[u64], usize) {
+        (&self.second_account, self.account_length)
+    }
+
     /// Runs a step on both, and gives the row that both answer.
     pub fn step(&mut self, step: &Step) -> Result<Row, Difference> {
+        if !(step.accounted || step.asks()) {
+            self.finish()?;
+        }
+        if !step.is_call() {
+            self.change(step);
+            return Ok([0; 5]);
+        }
+        if step.accounted && self.running.is_none() {
+            self.running = Some(Running::new(&self.account, self.second.unit().armed.as_ref()));
+        }
+        let row = self.call(step)?;
+        if let (Some(running), true, Some(event)) = (&mut self.running, step.accounted, step.event()) {
+            running.push(event, row);
+            if running.is_long() {
+                self.finish()?;
+            }
+        }
+        Ok(row)
+    }
+
+    /// Compares the account with the list of events and answers so far, and begins another.
+    pub fn finish(&mut self) -> Result<(), Difference> {
+        let Some(running) = self.running.take() else { return Ok(()) };
+        self.listed += running.length();
+        match running.difference(&self.account) {
+            Some((place, computed)) => Err(Difference::Figure { place, library: self.account[place], computed }),
+            None => Ok(()),
+        }
+    }
+
+    /// Changes lengths or numbers from outside.
+    fn change(&mut self, step: &Step) {
         let [first, number, ..] = step.numbers;
+        let (length, place) = (first.min(MOST_LENT) as usize, first.min(MOST_LENT - 1) as usize);
         match step.kind {
             Kind::Length => {
-                self.grow(first.min(MOST_LENT) as usize);
-                self.second.set_length(first.min(MOST_LENT) as usize);
-                return Ok([0; 5]);
+                if length > self.memory.len() {
+                    grow([&mut self.memory, self.second.numbers_mut()], length);
+                }
+                self.second.set_length(length);
             }
             Kind::Damage => {
-                let place = first.min(MOST_LENT - 1) as usize;
-                self.grow(place + 1);
+                grow([&mut self.memory, self.second.numbers_mut()], place + 1);
                 self.memory[place] = number;
                 self.second.numbers_mut()[place] = number;
-                return Ok([0; 5]);
             }
-            _ => {}
+            Kind::AccountLength => {
+                grow([&mut self.account, &mut self.second_account], length);
+                self.account_length = length;
+            }
+            _ => {
+                grow([&mut self.account, &mut self.second_account], place + 1);
+                self.account[place] = number;
+                self.second_account[place] = number;
+            }
         }
+    }
+
+    /// Runs a call on both.
+    fn call(&mut self, step: &Step) -> Result<Row, Difference> {
         let mut rooms = [step.room(), step.room()];
         let [library_room, second_room] = &mut rooms;
-        let library = run_library(step, &mut self.memory[..self.second.length()], library_room);
-        let answered = catch_unwind(AssertUnwindSafe(|| run_second(step, &mut self.second, second_room)));
-        let Ok(mut second) = answered else { return Err(Difference::Panic { library }) };
-        (self.twist)(step, &mut self.second, &mut second, &mut rooms[1]);
-        self.compare(library, second, rooms)
+        let (lent, lent_account) = (self.second.length(), self.account_length);
+        let library = run_library(step, &mut self.memory[..lent], &mut self.account[..lent_account], library_room);
+        let (second, account) = (&mut self.second, &mut self.second_account[..lent_account]);
+        let answered = catch_unwind(AssertUnwindSafe(|| run_second(step, second, account, second_room)));
+        let Ok(mut row) = answered else { return Err(Difference::Panic { library }) };
+        (self.twist)(step, Left { second: &mut self.second, account: &mut self.second_account, row: &mut row, room: &mut rooms[1] });
+        self.compare(library, row, rooms)
     }
 
-    /// Makes both memories at least so long; what is past the state is no 0.
-    fn grow(&mut self, length: usize) {
-        if length > self.memory.len() {
-            let more: Vec<u64> = (self.memory.len()..length).map(|place| !(place as u64)).collect();
-            self.memory.extend_from_slice(&more);
-            self.second.numbers_mut().extend_from_slice(&more);
-        }
-    }
-
-    /// The row, if answers, rooms and the whole memories agree.
+    /// The row, if answers, rooms, the whole memories and the whole accounts agree.
     fn compare(&self, library: Row, second: Row, rooms: [Vec<u8>; 2]) -> Result<Row, Difference> {
         if library != second {
             return Err(Difference::Answer { library, second });
@@ -118,58 +203,38 @@ impl Pair {
         if library_room != second_room {
             return Err(Difference::Room { library: library_room, second: second_room });
         }
-        if self.memory[..] == *self.second.numbers() {
-            return Ok(library);
+        if let Some((place, library, second)) = first_other(&self.memory, self.second.numbers()) {
+            return Err(Difference::Memory { place, library, second });
         }
-        let mut places = self.memory.iter().zip(self.second.numbers()).enumerate();
-        let (place, (library, second)) = places.find(|(_, (library, second))| library != second).expect("a difference");
-        Err(Difference::Memory { place, library: *library, second: *second })
+        if let Some((place, library, second)) = first_other(&self.account, &self.second_account) {
+            return Err(Difference::Account { place, library, second });
+        }
+        Ok(library)
     }
 }
 
-/// Runs a call on the library.
-pub fn run_library(step: &Step, m: &mut [u64], room: &mut [u8]) -> Row {
-    let [a, b, c, d, e, f, g] = step.numbers;
-    match step.kind {
-        Kind::Arm => crate::arm(m, &step.profile),
-        Kind::Clear => crate::clear(m),
-        Kind::Order => crate::order(m, a, b, c),
-        Kind::Lockout => crate::lockout(m, a, b, c),
-        Kind::Offer => crate::offer(m, a, b, c, d, e),
-        Kind::Send => crate::send(m, a, b, c, d, e, f, g),
-        Kind::Report => crate::report(m, a, b, c),
-        Kind::Close => crate::close(m, a, b),
-        Kind::Remaining => crate::remaining(m, a, b, c),
-        Kind::Status => crate::status(m),
-        Kind::Text => crate::text(a, room),
-        Kind::Profile => crate::profile(m, room),
-        Kind::Length | Kind::Damage => unreachable!("no call"),
+/// The first place at which two lists of as many numbers differ, and what stands there.
+fn first_other(one: &[u64], other: &[u64]) -> Option<(usize, u64, u64)> {
+    if one == other {
+        return None;
     }
+    let mut places = one.iter().zip(other).enumerate();
+    places.find(|(_, (one, other))| one != other).map(|(place, (one, other))| (place, *one, *other))
 }
 
-/// Runs a call on the second program.
-fn run_second(step: &Step, second: &mut Lent, room: &mut [u8]) -> Row {
-    let [a, b, c, d, e, ..] = step.numbers;
-    let two = |[refusal, value]: [u64; 2]| [refusal, value, 0, 0, 0];
-    match step.kind {
-        Kind::Arm => second.arm(&step.profile),
-        Kind::Clear => second.clear(),
-        Kind::Order => second.change(|unit| unit.order(a, b, c).numbers()),
-        Kind::Lockout => second.change(|unit| unit.lockout(a, b, c).numbers()),
-        Kind::Offer => second.change(|unit| unit.offer(a, b, c, d, e).numbers()),
-        Kind::Send => second.change(|unit| unit.send(a, step.order()).numbers()),
-        Kind::Report => second.change(|unit| unit.report(a, b, c).numbers()),
-        Kind::Close => second.change(|unit| unit.close(a, b).numbers()),
-        Kind::Remaining => second.ask(|unit| two(unit.remaining(a, b, c).numbers())),
-        Kind::Status => second.ask(|unit| unit.status().numbers()),
-        Kind::Text => two(unit::text(a, room).numbers()),
-        Kind::Profile => second.ask(|unit| two(unit.profile(room).numbers())),
-        Kind::Length | Kind::Damage => unreachable!("no call"),
+/// Makes both at least so long; what is past the state or the account is no 0.
+fn grow(both: [&mut Vec<u64>; 2], length: usize) {
+    for numbers in both {
+        if length > numbers.len() {
+            let more = (numbers.len()..length).map(|place| !(place as u64));
+            numbers.extend(more);
+        }
     }
 }
 
 /// The place of the first step after which the two differ, and how.
 pub fn first_difference(script: &[Step], twist: Twist) -> Option<(usize, Difference)> {
     let mut pair = Pair::new(twist);
-    script.iter().enumerate().find_map(|(place, step)| pair.step(step).err().map(|difference| (place, difference)))
+    let found = script.iter().enumerate().find_map(|(place, step)| pair.step(step).err().map(|difference| (place, difference)));
+    found.or_else(|| pair.finish().err().map(|difference| (script.len() - 1, difference)))
 }

@@ -60,21 +60,24 @@ pub fn run(end: End, seed: u64, twist: Twist) -> Outcome {
 /// Runs one day; gives its steps up to a difference, if there is one.
 fn run_day(seed: u64, twist: Twist, tally: &mut Tally) -> Option<Vec<Step>> {
     let (mut day, mut pair, mut script) = (Day::new(seed), Pair::new(twist), Vec::new());
-    while let Some(step) = day.next(pair.second()) {
-        tally.before(&step, pair.second());
+    while let Some(step) = day.next(&mut pair) {
+        tally.before(&step, &mut pair);
         let row = pair.step(&step);
         script.push(step);
         match (row, script.last()) {
-            (Ok(row), Some(step)) => tally.after(step, row, pair.second()),
+            (Ok(row), Some(step)) => tally.after(step, row, &mut pair),
             _ => return Some(script),
         }
     }
-    None
+    let finished = pair.finish();
+    tally.listed += pair.listed;
+    finished.err().map(|_| script)
 }
 
 /// How many days and calls there were, and how many calls a second.
 pub fn rate(days: u64, tally: &Tally, spent: Duration) -> String {
-    format!("{days} days, {} calls, {:.0} a second", tally.calls, tally.calls as f64 / spent.as_secs_f64())
+    let (calls, accounted) = (tally.calls, tally.accounted);
+    format!("{days} days, {calls} calls, {accounted} of them accounted, {:.0} a second", calls as f64 / spent.as_secs_f64())
 }
 
 /// A script and the difference that it shows, as text that can be run again.

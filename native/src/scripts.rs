@@ -1,15 +1,20 @@
 //! Scripts: one step a line, in plain text that can be run again.
 
+mod calls;
+
 use std::fmt;
 use std::str::FromStr;
 
+use second::event::Event;
 use second::unit::Away;
 
-/// What a step does: lends so many numbers, puts a number into the memory, or calls.
+/// What a step does: lends so many numbers, puts a number into the memory, the same for the account, or calls.
 #[derive(Clone, Copy, Debug, PartialEq, Eq)]
 pub enum Kind {
     Length,
     Damage,
+    AccountLength,
+    AccountDamage,
     Arm,
     Clear,
     Order,
@@ -24,12 +29,14 @@ pub enum Kind {
     Profile,
 }
 
-/// Each kind with its word and how many numbers follow it: the length; place and number; none (Arm has a text instead); none; time, root and
+/// Each kind with its word and how many numbers follow it: the length; place and number; the same two of the account; none (Arm has a text instead); none; time, root and
 /// reset; time, level and root; time, root, unit, premium and contracts; the same, identity and reports; time, identity and contracts; time and
 /// identity; time, rule and unit; none; verdict and room; room.
-const WORDS: [(&str, Kind, usize); 14] = [
+const WORDS: [(&str, Kind, usize); 16] = [
     ("length", Kind::Length, 1),
     ("damage", Kind::Damage, 2),
+    ("account-length", Kind::AccountLength, 1),
+    ("account-damage", Kind::AccountDamage, 2),
     ("arm", Kind::Arm, 0),
     ("clear", Kind::Clear, 0),
     ("order", Kind::Order, 3),
@@ -44,6 +51,9 @@ const WORDS: [(&str, Kind, usize); 14] = [
     ("profile", Kind::Profile, 1),
 ];
 
+/// The word before a call that keeps the account.
+const ACCOUNTED: &str = "accounted ";
+
 /// The most numbers that a kind has.
 pub const MOST_NUMBERS: usize = 7;
 
@@ -54,6 +64,8 @@ const MOST_ROOM: u64 = 65_536;
 #[derive(Clone, Debug, PartialEq, Eq)]
 pub struct Step {
     pub kind: Kind,
+    /// Is it a call that keeps the account?
+    pub accounted: bool,
     /// The kind's numbers in the order of its line, then zeros.
     pub numbers: [u64; MOST_NUMBERS],
     /// The profile of Arm, empty in the others.
@@ -65,7 +77,7 @@ impl Step {
     pub fn new(kind: Kind, own: &[u64]) -> Step {
         let mut numbers = [0; MOST_NUMBERS];
         numbers[..own.len()].copy_from_slice(own);
-        Step { kind, numbers, profile: Vec::new() }
+        Step { kind, accounted: false, numbers, profile: Vec::new() }
     }
 
     /// A sending of an order.
@@ -76,7 +88,7 @@ impl Step {
 
     /// Arm from a text.
     pub fn arm(profile: Vec<u8>) -> Step {
-        Step { kind: Kind::Arm, numbers: [0; MOST_NUMBERS], profile }
+        Step { kind: Kind::Arm, accounted: false, numbers: [0; MOST_NUMBERS], profile }
     }
 
     /// Is it a call with a time, which is then its first number?
@@ -87,7 +99,32 @@ impl Step {
 
     /// Is it a call, and not a change of the memory from outside?
     pub fn is_call(&self) -> bool {
-        !matches!(self.kind, Kind::Length | Kind::Damage)
+        !matches!(self.kind, Kind::Length | Kind::Damage | Kind::AccountLength | Kind::AccountDamage)
+    }
+
+    /// Is it a call that changes nothing?
+    pub fn asks(&self) -> bool {
+        matches!(self.kind, Kind::Remaining | Kind::Status | Kind::Text | Kind::Profile)
+    }
+
+    /// The call that keeps the account, of an event; others as they are.
+    pub fn accounted(mut self) -> Step {
+        self.accounted = self.event().is_some();
+        self
+    }
+
+    /// The event of a call that an account may be kept of.
+    pub fn event(&self) -> Option<Event> {
+        let [time, b, c, d, e, ..] = self.numbers;
+        match self.kind {
+            Kind::Order => Some(Event::Order { time, root: b, reset: c }),
+            Kind::Lockout => Some(Event::Lockout { time, level: b, root: c }),
+            Kind::Offer => Some(Event::Offer { time, root: b, unit: c, premium: d, contracts: e }),
+            Kind::Send => Some(Event::Send { time, order: self.order() }),
+            Kind::Report => Some(Event::Report { time, identity: b, contracts: c }),
+            Kind::Close => Some(Event::Close { time, identity: b }),
+            _ => None,
+        }
     }
 
     /// A room as the call is lent one, no two neighbours of its bytes alike; empty for a call that writes no text.
@@ -120,7 +157,7 @@ fn word(kind: Kind) -> (&'static str, usize) {
 
 impl fmt::Display for Step {
     fn fmt(&self, f: &mut fmt::Formatter) -> fmt::Result {
-        write!(f, "{}", word(self.kind).0)?;
+        write!(f, "{}{}", if self.accounted { ACCOUNTED } else { "" }, word(self.kind).0)?;
         if !self.profile.is_empty() {
             write!(f, " {}", self.profile.escape_ascii())?;
         }
@@ -133,6 +170,10 @@ impl FromStr for Step {
 
     fn from_str(line: &str) -> Result<Step, String> {
         let bad = || format!("no step: {line}");
+        if let Some(plain) = line.strip_prefix(ACCOUNTED) {
+            let step = plain.parse::<Step>()?.accounted();
+            return if step.accounted { Ok(step) } else { Err(bad()) };
+        }
         let (first, rest) = line.split_once(' ').unwrap_or((line, ""));
         let (_, kind, count) = *WORDS.iter().find(|(word, _, _)| *word == first).ok_or_else(bad)?;
         if kind == Kind::Arm {

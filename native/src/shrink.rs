@@ -58,6 +58,8 @@ fn shorten(mut script: Vec<Step>, keeps: &mut dyn FnMut(&[Step]) -> Option<usize
             shorten_profile(&mut script, place, &mut |script| keeps(script).is_some());
             move_earlier(&mut script, place, &mut |script| keeps(script).is_some());
             lower_numbers(&mut script, place, &mut |script| keeps(script).is_some());
+            let plain = Step { accounted: false, ..script[place].clone() };
+            replaced(&mut script, place, plain, &mut |script| keeps(script).is_some());
         }
         if script == before {
             return script;

@@ -1,16 +1,19 @@
 //! The steps of one day, drawn from a seed: calls near the second program's limits and window ends, arbitrary numbers, lengths and damage.
 
+mod accounts;
 mod full;
 
 use std::collections::VecDeque;
 
-use second::gen::{self, Call, Maker, Random};
+use second::gen::{self, Maker, Random};
 use second::lent::Lent;
 use second::place::MARK;
 use second::unit::LOG_PLACES;
 use second::LAST_TIME;
 
+use self::accounts::Keeping;
 use crate::damage::{any_number, damage};
+use crate::pair::Pair;
 use crate::profiles::clashing;
 use crate::scripts::{Kind, Step};
 use crate::SIZE;
@@ -25,6 +28,7 @@ pub struct Day {
     repair: Vec<Step>,
     /// Calls that are still to be planned.
     left: u64,
+    keeping: Keeping,
 }
 
 impl Day {
@@ -33,7 +37,8 @@ impl Day {
         let mut random = Random::new(seed);
         let calls = random.pick(&[50, 300, 300, 1_000, 4_000]);
         let maker = Maker::beside(random.number(), calls as usize);
-        let mut day = Day { random, maker, queue: VecDeque::new(), repair: Vec::new(), left: calls };
+        let mut day = Day { random, maker, queue: VecDeque::new(), repair: Vec::new(), left: calls, keeping: Keeping::none(seed) };
+        day.begin_account();
         let length = SIZE as u64 + day.random.pick(&[0, 0, 0, 1, 2, 100]);
         day.queue.push_back(Step::new(Kind::Length, &[if day.random.once_in(200) { 70_000 } else { length }]));
         if day.random.once_in(4) {
@@ -59,12 +64,13 @@ impl Day {
     }
 
     /// The next step, by how the second program stands; none when the day is over.
-    pub fn next(&mut self, second: &mut Lent) -> Option<Step> {
+    pub fn next(&mut self, pair: &mut Pair) -> Option<Step> {
         if self.queue.is_empty() && self.left > 0 {
             self.left -= 1;
-            self.plan(second);
+            self.plan(pair.second());
         }
-        self.queue.pop_front()
+        let step = self.queue.pop_front()?;
+        Some(self.kept(step, pair))
     }
 
     /// Plans at least one step.
@@ -92,21 +98,7 @@ impl Day {
 
     /// A call near the limits and window ends of the second program.
     fn usual(&mut self, second: &mut Lent) -> Step {
-        match self.maker.next_on(second.unit()) {
-            Call::Arm { seed } => Step::arm(gen::profile(seed)),
-            Call::ArmValid { seed } => Step::arm(gen::valid_profile(seed)),
-            Call::Clear => Step::new(Kind::Clear, &[]),
-            Call::Order { time, root, reset } => Step::new(Kind::Order, &[time, root, reset]),
-            Call::Lockout { time, level, root } => Step::new(Kind::Lockout, &[time, level, root]),
-            Call::Offer { time, root, unit, premium, contracts } => Step::new(Kind::Offer, &[time, root, unit, premium, contracts]),
-            Call::Send { time, order } => Step::send(time, order),
-            Call::Report { time, identity, contracts } => Step::new(Kind::Report, &[time, identity, contracts]),
-            Call::Close { time, identity } => Step::new(Kind::Close, &[time, identity]),
-            Call::Remaining { time, rule, unit } => Step::new(Kind::Remaining, &[time, rule, unit]),
-            Call::Status => Step::new(Kind::Status, &[]),
-            Call::Text { verdict, room } => Step::new(Kind::Text, &[verdict, room]),
-            Call::Profile { room } => Step::new(Kind::Profile, &[room]),
-        }
+        self.maker.next_on(second.unit()).into()
     }
 
     /// A profile out: room for it to the byte, for one byte less or more, for any part of it, for more, or none.

@@ -1,29 +1,31 @@
 //! What came up in a run: so that a run that saw too little does not pass.
 
+mod accounts;
 mod away;
 mod groups;
+mod lengths;
 mod lifted;
 mod register;
 mod room;
+mod shown;
 mod units;
-
-use std::fmt;
 
 use second::lent::{Lent, Row};
 use second::unit::{Armed, LOG_PLACES};
 
 use self::groups::*;
+use self::lengths::{lent_place, out_place};
+use crate::pair::Pair;
 use crate::scripts::{Kind, Step};
-use crate::SIZE;
-
-/// The refusals of calls on memory and of Text; 16 is for records alone.
-const REFUSALS: [usize; 18] = [1, 2, 3, 4, 5, 6, 7, 8, 9, 10, 11, 12, 13, 14, 15, 17, 18, 19];
 
 /// Counts of what came up.
-#[derive(Default)]
 pub struct Tally {
     pub calls: u64,
-    refusals: [u64; 20],
+    /// The calls that keep an account.
+    pub accounted: u64,
+    /// The events of lists from which the account's figures were computed.
+    pub listed: u64,
+    refusals: [u64; 22],
     /// Offers that left a log of 512 entries.
     full_logs: u64,
     seen: [[u64; 12]; WANTED.len()],
@@ -34,11 +36,39 @@ pub struct Tally {
     entries: usize,
     /// The state before a sending, a report or a closing.
     armed: Option<Armed>,
+    /// The account before an accounted call.
+    account: Vec<u64>,
+}
+
+impl Default for Tally {
+    /// Nothing came up yet.
+    fn default() -> Tally {
+        Tally {
+            calls: 0,
+            accounted: 0,
+            listed: 0,
+            refusals: [0; 22],
+            full_logs: 0,
+            seen: [[0; 12]; WANTED.len()],
+            damaged: None,
+            lifts: Vec::new(),
+            entries: 0,
+            armed: None,
+            account: Vec::new(),
+        }
+    }
 }
 
 impl Tally {
     /// Looks at a step before it is run.
-    pub fn before(&mut self, step: &Step, second: &mut Lent) {
+    pub fn before(&mut self, step: &Step, pair: &mut Pair) {
+        if step.accounted {
+            let (account, length) = pair.account();
+            self.account.clear();
+            self.account.extend_from_slice(account);
+            accounts::before(account, length).into_iter().for_each(|(group, place)| self.see(ACCOUNTS + group, place));
+        }
+        let second = pair.second();
         if step.kind == Kind::Damage && self.damaged.is_none() {
             let [place, number, ..] = step.numbers;
             self.damaged = (second.numbers().get(place as usize) != Some(&number)).then(|| second.is_unsound());
@@ -73,11 +103,17 @@ impl Tally {
     }
 
     /// Looks at a call's row and at what it left.
-    pub fn after(&mut self, step: &Step, row: Row, second: &mut Lent) {
+    pub fn after(&mut self, step: &Step, row: Row, pair: &mut Pair) {
         if !step.is_call() {
             return;
         }
         self.calls += 1;
+        if step.accounted {
+            self.accounted += 1;
+            let seen = accounts::seen(step, row, &self.account, pair);
+            seen.into_iter().for_each(|(group, place)| self.see(ACCOUNTS + group, place));
+        }
+        let second = pair.second();
         self.refusals[row[0] as usize] += 1;
         self.see(CALLS, step.kind as usize - Kind::Arm as usize);
         match step.kind {
@@ -92,15 +128,6 @@ impl Tally {
             Kind::Offer => self.see_offer(step, row, second),
             _ => {}
         }
-    }
-
-    /// What has to come up and did not.
-    pub fn missing(&self) -> Vec<String> {
-        let refusals = REFUSALS.into_iter().filter(|refusal| self.refusals[*refusal] == 0).map(|refusal| format!("refusal {refusal}"));
-        let rows = WANTED.iter().zip(&self.seen);
-        let names = rows.flat_map(|((group, names), seen)| names.iter().zip(seen).map(move |(name, count)| (group, name, count)));
-        let names = names.filter(|(_, _, count)| **count == 0).map(|(group, name, _)| format!("{group} {name}"));
-        refusals.chain(names).chain((self.full_logs == 0).then(|| "a full log".into())).collect()
     }
 
     fn see(&mut self, group: usize, place: usize) {
@@ -205,38 +232,5 @@ impl Tally {
             (0..beside.len()).filter(|place| beside[*place]).for_each(|place| self.see(BESIDE, place));
             used.into_iter().for_each(|place| self.see(USED, place));
         }
-    }
-}
-
-/// The place of a length in its group.
-fn lent_place(length: usize) -> usize {
-    match length {
-        0 | 1 => length,
-        length if length + 1 == SIZE => 2,
-        length if length < SIZE => 3,
-        length => 4 + (length - SIZE).min(2),
-    }
-}
-
-/// The place of a profile out in its group, by its room and row.
-fn out_place(room: u64, [refusal, size, ..]: Row) -> usize {
-    match refusal {
-        0 => usize::from(room > size),
-        1 if size == 0 => 4,
-        1 => 2 + usize::from(room + 1 < size),
-        4 => 5,
-        _ => 6,
-    }
-}
-
-impl fmt::Display for Tally {
-    fn fmt(&self, f: &mut fmt::Formatter) -> fmt::Result {
-        write!(f, "refusals:")?;
-        [0].into_iter().chain(REFUSALS).try_for_each(|refusal| write!(f, " {refusal}={}", self.refusals[refusal]))?;
-        for ((group, names), seen) in WANTED.iter().zip(&self.seen) {
-            let counts: Vec<String> = names.iter().zip(seen).map(|(name, count)| format!("{name} {count}")).collect();
-            write!(f, "\n{group}: {}", counts.join(", "))?;
-        }
-        write!(f, "\nfills that left a full log: {}", self.full_logs)
     }
 }

@@ -4,6 +4,7 @@ use native::beside::{days, no_slip, Slip};
 use native::profiles::clashing;
 use native::scripts::Kind;
 use native::{arm, hand, offer, order, profile, report, send, status, SIZE};
+use second::account::{CUTS, FILLS, FIRM_ROW};
 use second::gen::{self, Random};
 use second::place::{CLOCK, ROOTS_TRIPPED, TOTALS};
 
@@ -22,33 +23,49 @@ const CALLS: u64 = 200_000;
 
 #[test]
 fn slips_are_found() {
-    let slips: [Slip; 8] = [
-        |_, _, row, _| row[2] -= u64::from(row[2] > 1_000),
-        |step, m, row, _| {
-            if row[0] == 0 && step.numbers[2] == 1 && m.len() >= SIZE {
-                m[SIZE - 1] |= 1
+    let slips: [Slip; 11] = [
+        |_, left| left.row[2] -= u64::from(left.row[2] > 1_000),
+        |step, left| {
+            if left.row[0] == 0 && step.numbers[2] == 1 && left.numbers.len() >= SIZE {
+                left.numbers[SIZE - 1] |= 1
             }
         },
-        |_, m, row, _| {
-            if row[0] == 15 {
-                m[CLOCK] += 1
+        |_, left| {
+            if left.row[0] == 15 {
+                left.numbers[CLOCK] += 1
             }
         },
-        |step, m, row, _| {
-            if step.kind == Kind::Order && row[0] == 0 && step.numbers[2] == 4 {
-                m[TOTALS] = 0
+        |step, left| {
+            if step.kind == Kind::Order && left.row[0] == 0 && step.numbers[2] == 4 {
+                left.numbers[TOTALS] = 0
             }
         },
-        |step, m, row, _| {
-            if step.kind == Kind::Report && row[0] == 0 && row[3] == 1 {
-                m[ROOTS_TRIPPED] = 0
+        |step, left| {
+            if step.kind == Kind::Report && left.row[0] == 0 && left.row[3] == 1 {
+                left.numbers[ROOTS_TRIPPED] = 0
             }
         },
-        |_, _, row, _| row[0] = if row[0] == 17 { 18 } else { row[0] },
-        |_, _, row, _| row[0] = if row[0] == 2 { 0 } else { row[0] },
-        |step, _, row, room| {
-            if let (Kind::Profile, Some(past)) = (step.kind, room.get_mut(row[1] as usize)) {
+        |_, left| left.row[0] = if left.row[0] == 17 { 18 } else { left.row[0] },
+        |_, left| left.row[0] = if left.row[0] == 2 { 0 } else { left.row[0] },
+        |step, left| {
+            if let (Kind::Profile, Some(past)) = (step.kind, left.room.get_mut(left.row[1] as usize)) {
                 *past = b'\n'
+            }
+        },
+        // a refused event is applied; a report counts as a fill; a cut to nothing is no cut
+        |_, left| {
+            if left.row[0] == 21 {
+                left.numbers[CLOCK] += 1
+            }
+        },
+        |step, left| {
+            if step.accounted && step.kind == Kind::Report && left.row[0] == 0 {
+                left.account[8 * FIRM_ROW + FILLS] += 1
+            }
+        },
+        |step, left| {
+            if step.accounted && step.kind == Kind::Offer && left.row[..3] == [0, 0, 0] {
+                left.account[8 * FIRM_ROW + CUTS] -= 1
             }
         },
     ];

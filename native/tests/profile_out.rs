@@ -1,6 +1,7 @@
 //! Profiles out again: what the library writes arms cleared memory to the same numbers, and is written again as the same bytes.
 
-use native::pair::{as_it_is, run_library, Pair};
+use native::calls::run_library;
+use native::pair::{as_it_is, Pair};
 use native::profiles::clashing;
 use native::scripts::{Kind, Step};
 use native::steps::Day;
@@ -34,7 +35,7 @@ fn run_events(m: &mut [u64], seed: u64, text: &[u8]) {
             Call::Offer { time, root, unit, premium, contracts } => Step::new(Kind::Offer, &[time, root, unit, premium, contracts]),
             _ => continue,
         };
-        run_library(&step, m, &mut []);
+        run_library(&step, m, &mut [], &mut []);
     }
 }
 
@@ -67,7 +68,7 @@ fn rules_and_roots_of_any_sound_state_are_armed_again() {
     let (mut days, mut damaged) = (0, 0);
     for seed in 0..150 {
         let (mut day, mut pair, mut from_outside) = (Day::new(seed), Pair::new(as_it_is), false);
-        while let Some(step) = day.next(pair.second()) {
+        while let Some(step) = day.next(&mut pair) {
             pair.step(&step).unwrap_or_else(|difference| panic!("{step}: {difference}"));
             from_outside = match step.kind {
                 Kind::Damage => true,

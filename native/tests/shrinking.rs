@@ -1,9 +1,9 @@
 //! The comparison itself is tried: against a wrong version of the second program it must find a difference and make its script short.
 
-use native::pair::{as_it_is, first_difference, Difference, Twist};
+use native::pair::{as_it_is, first_difference, Difference, Left, Twist};
 use native::run::{report, run, End};
 use native::scripts::{parse, print, Kind, Step};
-use second::lent::{Lent, Row};
+use second::account::{FIGURES, FILLS, FIRM_ROW};
 use second::place::{CLOCK, FIRM_TRIPPED};
 
 /// In how many days a wrong version has to show.
@@ -22,7 +22,7 @@ fn found(twist: Twist) -> (String, Difference) {
 }
 
 /// Grants one contract too many where a firm rule alone cuts.
-fn grants_too_much(step: &Step, _: &mut Lent, row: &mut Row, _: &mut [u8]) {
+fn grants_too_much(step: &Step, Left { row, .. }: Left) {
     if step.kind == Kind::Offer && row[3..] == [0, 1] && row[2] > 0 && row[2] < step.numbers[4] {
         row[2] += 1;
     }
@@ -40,7 +40,7 @@ fn a_wrong_grant_is_found_and_made_short() {
 }
 
 /// Leaves the clock one too late after a reset of both levels past the first second.
-fn moves_the_clock(step: &Step, second: &mut Lent, row: &mut Row, _: &mut [u8]) {
+fn moves_the_clock(step: &Step, Left { second, row, .. }: Left) {
     if step.kind == Kind::Order && row[0] == 0 && step.numbers[2] == 3 && step.numbers[0] > 1_000 {
         second.numbers_mut()[CLOCK] += 1;
     }
@@ -56,7 +56,7 @@ fn a_wrong_number_in_memory_is_found_and_made_short() {
 }
 
 /// Counts a fill of one millisecond too long ago in Remaining.
-fn counts_too_long(step: &Step, second: &mut Lent, row: &mut Row, _: &mut [u8]) {
+fn counts_too_long(step: &Step, Left { second, row, .. }: Left) {
     let [time, rule, ..] = step.numbers;
     let Some(armed) = &second.unit().armed else { return };
     let window = armed.profile.rules.get(rule as usize).and_then(|rule| rule.window);
@@ -76,7 +76,7 @@ fn times_that_hang_together_are_lowered_together() {
 }
 
 /// Takes a state whose firm mark is 2 for a sound one.
-fn overlooks_a_mark(step: &Step, second: &mut Lent, row: &mut Row, _: &mut [u8]) {
+fn overlooks_a_mark(step: &Step, Left { second, row, .. }: Left) {
     if step.kind == Kind::Status && row[0] == 2 && second.numbers()[FIRM_TRIPPED] == 2 {
         row[0] = 0;
     }
@@ -92,7 +92,7 @@ fn a_wrong_judgement_of_damage_is_found_and_made_short() {
 }
 
 /// Leaves a zero after the text of a profile out.
-fn ends_the_text_with_zero(step: &Step, _: &mut Lent, row: &mut Row, room: &mut [u8]) {
+fn ends_the_text_with_zero(step: &Step, Left { row, room, .. }: Left) {
     if let (Kind::Profile, 0, Some(past)) = (step.kind, row[0], room.get_mut(row[1] as usize)) {
         *past = 0;
     }
@@ -109,7 +109,7 @@ fn a_wrong_byte_past_a_text_is_found_and_made_short() {
 }
 
 /// Takes room for a profile out that is one byte short for enough.
-fn takes_too_little_room(step: &Step, _: &mut Lent, row: &mut Row, _: &mut [u8]) {
+fn takes_too_little_room(step: &Step, Left { row, .. }: Left) {
     if step.kind == Kind::Profile && row[0] == 1 && row[1] == step.numbers[0] + 1 {
         row[0] = 0;
     }
@@ -125,14 +125,58 @@ fn a_wrong_refusal_for_room_is_found_and_made_short() {
     assert_eq!(lines[1], format!("profile {}", size - 1));
 }
 
+/// Counts a cut to nothing as a fill.
+fn fills_with_nothing(step: &Step, Left { account, row, .. }: Left) {
+    if step.accounted && step.kind == Kind::Offer && row[..3] == [0; 3] {
+        account[FIGURES * FIRM_ROW + FILLS] += 1;
+    }
+}
+
+#[test]
+fn a_wrong_figure_is_found_and_made_short() {
+    let (text, difference) = found(fills_with_nothing);
+    assert_eq!(difference, Difference::Account { place: FIGURES * FIRM_ROW + FILLS, library: 0, second: 1 });
+    let lines: Vec<&str> = text.lines().collect();
+    assert!((2..=3).contains(&lines.len()) && lines[0].starts_with("arm "), "{text}");
+    assert!(lines[lines.len() - 1].starts_with("accounted offer 0 0 "), "{text}");
+}
+
+/// Lets a figure pass the most by one.
+fn passes_by_one(_: &Step, Left { row, .. }: Left) {
+    if row[0] == 21 {
+        row[0] = 0;
+    }
+}
+
+#[test]
+fn a_wrong_refusal_for_a_figure_is_found_and_made_short() {
+    let (text, difference) = found(passes_by_one);
+    assert_eq!(difference, Difference::Answer { library: [21, 0, 0, 0, 0], second: [0; 5] });
+    let lines: Vec<&str> = text.lines().collect();
+    assert!(lines.len() == 3 && lines.iter().any(|line| line.ends_with(" 1000000000000000000")), "{text}");
+}
+
 #[test]
 fn a_script_is_read_as_it_was_written() {
     let text = "length 2764\narm A,abs_vol,Q,5,\\x00\\xff\\\\\\'\\\"\\r\\t,x\\n\narm\nclear\norder 20 0 1\nlockout 1 0 2\n\
-                offer 10 0 0 70000 200\nsend 10 0 3 70000 200 65535 16\nreport 11 65535 7\nclose 12 65535\nremaining 10 0 3\nstatus\ntext 1 20\nprofile 40\ndamage 5 18446744073709551615\n";
+                offer 10 0 0 70000 200\nsend 10 0 3 70000 200 65535 16\nreport 11 65535 7\nclose 12 65535\nremaining 10 0 3\nstatus\ntext 1 20\nprofile 40\ndamage 5 18446744073709551615\n\
+                accounted order 20 0 1\naccounted send 10 0 3 70000 200 65535 16\naccount-length 519\naccount-damage 519 7\n";
     let script = parse(text).expect("a script");
     assert_eq!(script[1].profile, b"A,abs_vol,Q,5,\x00\xff\\'\"\r\t,x\n");
     assert_eq!(print(&script), text);
-    for bad in ["offer 1 2 3 4", "offer 1 2 3 4 5 6", "order 1 -2 3", "orders 1 2 3", "arm \\", "arm \\xg0", "status 1", "profile"] {
+    for bad in [
+        "offer 1 2 3 4",
+        "offer 1 2 3 4 5 6",
+        "order 1 -2 3",
+        "orders 1 2 3",
+        "arm \\",
+        "arm \\xg0",
+        "status 1",
+        "profile",
+        "accounted status",
+        "accounted",
+        "account-length",
+    ] {
         assert!(parse(bad).is_err(), "{bad}");
     }
 }

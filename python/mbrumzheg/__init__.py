@@ -12,8 +12,9 @@ free
 """
 
 from . import raw
+from .account import Account, Column, Figures
 from .event import Answer, Closing, Event, Lockout, Offer, Order, Report, Sending
-from .raw import PROFILE_MOST, SIZE
+from .raw import ACCOUNT_SIZE, PROFILE_MOST, SIZE
 from .record import RECORD16_SIZE, RECORD_SIZE, from_record, from_record16, narrow, records, records16, widen
 from .refusal import Refusal, Refused
 from .rule import Measure, Rule, Scope
@@ -24,14 +25,18 @@ from .view import Marks
 __version__ = "0.2.0"
 
 __all__ = [
+    "ACCOUNT_SIZE",
     "PROFILE_MOST",
     "RECORD16_SIZE",
     "RECORD_SIZE",
     "SIZE",
+    "Account",
     "Answer",
     "Closing",
+    "Column",
     "Contracts",
     "Event",
+    "Figures",
     "Identity",
     "Level",
     "Lockout",

@@ -19,7 +19,7 @@ Bytes = ctypes.c_char_p
 Length = ctypes.c_size_t
 Number = ctypes.c_uint64
 
-# each function's parameters; memory, text, room and record are a pointer and a length, and the last one is the row
+# each function's parameters; memory, account, text, room and record are a pointer and a length, and the last one is the row
 _FUNCTIONS = {
     "mbrumzheg_arm": [Numbers, Length, Bytes, Length, Numbers],
     "mbrumzheg_clear": [Numbers, Length, Numbers],
@@ -29,6 +29,12 @@ _FUNCTIONS = {
     "mbrumzheg_send": [Numbers, Length] + [Number] * 7 + [Numbers],
     "mbrumzheg_report": [Numbers, Length, Number, Number, Number, Numbers],
     "mbrumzheg_close": [Numbers, Length, Number, Number, Numbers],
+    "mbrumzheg_accounted_order": [Numbers, Length, Numbers, Length] + [Number] * 3 + [Numbers],
+    "mbrumzheg_accounted_lockout": [Numbers, Length, Numbers, Length] + [Number] * 3 + [Numbers],
+    "mbrumzheg_accounted_offer": [Numbers, Length, Numbers, Length] + [Number] * 5 + [Numbers],
+    "mbrumzheg_accounted_send": [Numbers, Length, Numbers, Length] + [Number] * 7 + [Numbers],
+    "mbrumzheg_accounted_report": [Numbers, Length, Numbers, Length] + [Number] * 3 + [Numbers],
+    "mbrumzheg_accounted_close": [Numbers, Length, Numbers, Length] + [Number] * 2 + [Numbers],
     "mbrumzheg_remaining": [Numbers, Length, Number, Number, Number, Numbers],
     "mbrumzheg_status": [Numbers, Length, Numbers],
     "mbrumzheg_root_named": [Numbers, Length, Bytes, Length, Numbers],

@@ -10,6 +10,7 @@ import ctypes
 from typing import TYPE_CHECKING, Tuple
 
 from . import _place
+from ._raw_account import ACCOUNT_SIZE, accounted_close, accounted_lockout, accounted_offer, accounted_order, accounted_report, accounted_send
 from ._raw_records import RECORD16_SIZE, RECORD_SIZE, Event16Numbers, Event16Row, EventNumbers
 from ._raw_records import narrow, read_record, read_record16, widen, write_record, write_record16
 from ._rows import NewRow as _Row
@@ -22,6 +23,7 @@ if TYPE_CHECKING:
     from ._rows import Memory, Room
 
 __all__ = [
+    "ACCOUNT_SIZE",
     "PROFILE_MOST",
     "RECORD16_SIZE",
     "RECORD_SIZE",
@@ -33,6 +35,12 @@ __all__ = [
     "TEXT_SIZE",
     "Row",
     "RuleRow",
+    "accounted_close",
+    "accounted_lockout",
+    "accounted_offer",
+    "accounted_order",
+    "accounted_report",
+    "accounted_send",
     "arm",
     "clear",
     "close",

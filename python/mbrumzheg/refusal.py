@@ -7,7 +7,7 @@ from typing import Optional
 
 
 class Refusal(IntEnum):
-    """A refusal: its number from 1 to 20. A refused call changes nothing."""
+    """A refusal: its number from 1 to 21. A refused call changes nothing."""
 
     NO_ROOM = 1
     UNSOUND = 2
@@ -29,6 +29,7 @@ class Refusal(IntEnum):
     IDENTITY_CLASH = 18
     OVER_REPORTED = 19
     UNFIT = 20
+    ACCOUNT_FULL = 21
 
     @property
     def sentence(self) -> str:
@@ -43,8 +44,8 @@ class Refusal(IntEnum):
 
 
 _SENTENCES = {
-    Refusal.NO_ROOM: "the lent memory has fewer than 2,763 numbers, or the room is shorter than the call asks for",
-    Refusal.UNSOUND: "the memory is marked, but what stands in it is no sound state",
+    Refusal.NO_ROOM: "the lent memory has fewer than 2,763 numbers, the account fewer than 520, or the room is shorter than the call asks for",
+    Refusal.UNSOUND: "the memory is marked, but what stands in it is no sound state, or a figure of the account is above 10^18",
     Refusal.ARMED_ALREADY: "the memory's armed mark is not 0, so clear it before arming",
     Refusal.NOT_ARMED: "the memory is not armed, so no rule stands behind this call",
     Refusal.PROFILE_LENGTH: "the profile is empty or longer than 65,536 bytes",
@@ -63,6 +64,7 @@ _SENTENCES = {
     Refusal.IDENTITY_CLASH: "an order of this identity is open already or, for a report or a closing, none is",
     Refusal.OVER_REPORTED: "the report has more contracts than are open, or the order has no report left",
     Refusal.UNFIT: "the record does not fit the old form: its kind is above 2, its time not in whole milliseconds, or its reset above 3",
+    Refusal.ACCOUNT_FULL: "a figure of the account would pass 10^18, so the event was not applied",
 }
 
 

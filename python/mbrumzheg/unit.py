@@ -7,6 +7,8 @@ from dataclasses import dataclass
 from typing import Optional, Union
 
 from . import raw
+from ._accounted import Accounted
+from ._judged import accepted, judged
 from .event import Answer, Closing, Event, Lockout, Offer, Order, Report, Sending
 from .refusal import Refusal, Refused
 from .values import Level, Reset, Root, Time, UnitOfRoot, Verdict
@@ -23,20 +25,7 @@ class Status:
     lowest_locked: Optional[Root]
 
 
-def _accepted(row: raw.Row) -> raw.Row:
-    """The row of a call that was not refused."""
-    if row[0]:
-        raise Refused(Refusal(row[0]))
-    return row
-
-
-def _judged(row: raw.Row) -> Answer:
-    """The answer in a row."""
-    _, verdict, grant, root_trip, firm_trip = _accepted(row)
-    return Answer(Verdict(verdict), grant, root_trip == 1, firm_trip == 1)
-
-
-class Unit(View):
+class Unit(View, Accounted):
     """A risk unit on memory of its own, not armed at first: until `arm` has accepted a profile, the library refuses every call with NOT_ARMED.
 
     >>> from mbrumzheg import Contracts, Offer, Premium, Time, Unit, UnitOfRoot
@@ -77,35 +66,35 @@ class Unit(View):
 
     def clear(self) -> None:
         """Sets the state to zeros; the unit has to be armed again."""
-        _accepted(raw.clear(self._memory))
+        accepted(raw.clear(self._memory))
 
     def order(self, time: Time, root: Root, reset: Reset = Reset.NONE) -> Verdict:
         """An order: the reset comes first, then the verdict."""
-        return _judged(raw.order(self._memory, time, root, reset)).verdict
+        return judged(raw.order(self._memory, time, root, reset)).verdict
 
     def lockout(self, time: Time, level: Level) -> Verdict:
         """Locks a root or the firm by the user's hand; it answers FREE."""
-        return _judged(raw.lockout(self._memory, time, *level.numbers())).verdict
+        return judged(raw.lockout(self._memory, time, *level.numbers())).verdict
 
     def offer(self, offer: Offer) -> Answer:
         """An offered fill, cut to what the rules allow."""
-        return _judged(raw.offer(self._memory, offer.time, offer.root, offer.unit, offer.premium, offer.contracts))
+        return judged(raw.offer(self._memory, offer.time, offer.root, offer.unit, offer.premium, offer.contracts))
 
     def send(self, sending: Sending) -> Verdict:
         """Sends an order away. It gets the verdict of an order without a reset; at FREE alone the register, which holds 64, takes it up, and with a rate rule in
         the profile a place of the log is kept for each report that may come."""
         order = (sending.root, sending.unit, sending.premium, sending.contracts, sending.identity, sending.reports)
-        return _judged(raw.send(self._memory, sending.time, *order)).verdict
+        return judged(raw.send(self._memory, sending.time, *order)).verdict
 
     def report(self, report: Report) -> Answer:
         """A fill of an order sent away. It is counted as it was filled, at the premium of its sending, whether anything is locked or not, and uses one of the
         order's reports. The grant is its contracts. A rule trips if an absolute one is then at its limit or above, or a rate rule above; this is answered also
         where the level had tripped before."""
-        return _judged(raw.report(self._memory, report.time, report.identity, report.contracts))
+        return judged(raw.report(self._memory, report.time, report.identity, report.contracts))
 
     def close(self, closing: Closing) -> Verdict:
         """Closes an order sent away: its identity is free again, and so are the places that were kept for reports that did not come. It answers FREE."""
-        return _judged(raw.close(self._memory, closing.time, closing.identity)).verdict
+        return judged(raw.close(self._memory, closing.time, closing.identity)).verdict
 
     def answer(self, event: Event) -> Answer:
         """Any event."""
@@ -128,11 +117,11 @@ class Unit(View):
         Refused with UNKNOWN for a rule that the profile does not have, and for a unit that is not the rule's: for a firm rule any but CALLS_FRONT, which is 0,
         for a rule of one unit any but its own. A rule of a whole root has all four; `Scope.units` names those of each.
         """
-        return _accepted(raw.remaining(self._memory, time, rule, unit))[1]
+        return accepted(raw.remaining(self._memory, time, rule, unit))[1]
 
     def status(self) -> Status:
         """How the roots stand."""
-        _, tripped, locked_by_user, locked, lowest = _accepted(raw.status(self._memory))
+        _, tripped, locked_by_user, locked, lowest = accepted(raw.status(self._memory))
         return Status(tripped, locked_by_user, locked, Root(lowest) if lowest <= Root.MOST else None)
 
     def __repr__(self) -> str:

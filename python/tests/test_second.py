@@ -1,6 +1,6 @@
 """The package against the independent second program: days of calls from seeds, and files of records.
 
-SECOND names the folder of the programs `second` and `second-fuzz`.
+SECOND names the folder of the programs `second`, `second-evening` and `second-fuzz`.
 """
 
 from __future__ import annotations
@@ -13,7 +13,7 @@ from collections import Counter
 from pathlib import Path
 from typing import Callable, Optional, Tuple
 
-from mbrumzheg import Closing, Event, Level, Lockout, Marks, Measure, Offer, Order, Refusal, Refused, Report, Rule, Sending, Unit, raw, records16
+from mbrumzheg import Account, Closing, Event, Level, Lockout, Marks, Measure, Offer, Order, Refusal, Refused, Report, Rule, Sending, Unit, raw, records16
 from mbrumzheg import Contracts, Identity, Premium, Reports, Reset, Root, Time, UnitOfRoot
 
 SECOND = Path(os.environ.get("SECOND", Path(__file__).parents[2] / "target/cargo/release"))
@@ -206,6 +206,34 @@ class Second(unittest.TestCase):
             self.assertEqual(lines, done.stdout.decode().splitlines(), f"seed {seed}")
             armed += len(lines) > 1
         self.assertGreater(armed, FILES // 4)
+
+    def test_the_evenings_table_is_the_second_programs(self) -> None:
+        armed = 0
+        for seed in range(FILES):
+            text, stretch = fuzz("profile", seed), fuzz("records", seed, RECORDS)
+            with tempfile.TemporaryDirectory() as folder:
+                Path(folder, "profile").write_bytes(text)
+                done = subprocess.run([SECOND / "second-evening"], cwd=folder, input=stretch, check=True, stdout=subprocess.PIPE)
+            lines = self.evening(text, stretch)
+            self.assertEqual(lines, done.stdout.decode().splitlines(), f"seed {seed}")
+            armed += not lines[0].startswith("refused")
+        self.assertGreater(armed, FILES // 4)
+
+    def evening(self, text: bytes, stretch: bytes) -> list[str]:
+        """The table of a day, by this package: a line a root, then the firm's."""
+        try:
+            unit = Unit().arm(text)
+        except Refused as refused:
+            return [f"refused {int(refused.refusal)} {refused.line or 0}"]
+        account = Account()
+        for read in records16(stretch):
+            if not isinstance(read, Refusal):
+                try:
+                    unit.accounted_answer(account, read)
+                except Refused:
+                    pass
+        rows = [(name, account.root(root)) for root, name in unit.roots()]
+        return [" ".join([name, *map(str, figures)]) for name, figures in [*rows, (unit.firm, account.firm())]]
 
     def lines(self, text: bytes, stretch: bytes) -> list[str]:
         """The program's lines, by this package."""

@@ -7,8 +7,8 @@ import unittest
 from dataclasses import replace
 from pathlib import Path
 
-from mbrumzheg import Answer, Contracts, Event, Level, Lockout, Marks, Offer, Order, Premium, Refusal, Refused, Reset, Root, Status, Time, Unit, UnitOfRoot
-from mbrumzheg import Verdict, PROFILE_MOST, RECORD16_SIZE, RECORD_SIZE, SIZE, __version__, raw
+from mbrumzheg import Answer, Column, Contracts, Level, Marks, Offer, Order, Premium, Refusal, Refused, Reset, Root, Status, Time, Unit, UnitOfRoot
+from mbrumzheg import Verdict, ACCOUNT_SIZE, PROFILE_MOST, RECORD16_SIZE, RECORD_SIZE, SIZE, __version__, raw
 
 EXAMPLE = "ABCD,abs_vol,XYZ,1000,0"
 REPOSITORY = Path(__file__).parents[2]
@@ -175,7 +175,11 @@ class Units(unittest.TestCase):
             self.assertIn(f'case MBRUMZHEG_{refusal.name}: return "{refusal.sentence}";', words)
         self.assertEqual([named[case.name] for case in [*UnitOfRoot, *Verdict]], [*UnitOfRoot, *Verdict])
         self.assertEqual([named[f"RESET_{case.name}"] for case in Reset], list(Reset))
+        self.assertEqual([named[f"COLUMN_{column.name}"] for column in Column], list(Column))
+        for column in Column:
+            self.assertIn(f'case MBRUMZHEG_COLUMN_{column.name}: return "{column.text}";', words)
         self.assertIn(f"#define MBRUMZHEG_SIZE {SIZE}\n", header)
+        self.assertIn(f"#define MBRUMZHEG_ACCOUNT_SIZE {ACCOUNT_SIZE}\n", header)
         self.assertIn(f"#define MBRUMZHEG_PROFILE_MOST {PROFILE_MOST}\n", header)
         self.assertIn(f"#define MBRUMZHEG_RECORD16_BYTES {RECORD16_SIZE}\n", header)
         self.assertIn(f"#define MBRUMZHEG_RECORD_BYTES {RECORD_SIZE}\n", header)

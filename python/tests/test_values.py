@@ -8,6 +8,7 @@ import unittest
 from typing import Any
 
 import mbrumzheg
+from mbrumzheg import account
 from mbrumzheg import Contracts, Identity, Level, ParseError, Premium, Refusal, Refused, Reports, Reset, Root, Time, UnitOfRoot, Verdict, raw, record, unit, values, view
 
 
@@ -99,7 +100,7 @@ class Values(unittest.TestCase):
         self.assertEqual(raw.offer(memory, 0, 0, 0, 10_000, (1 << 64) - 1), (14, 0, 0, 0, 0))
 
     def test_the_examples_in_the_texts_run(self) -> None:
-        for module in (mbrumzheg, record, unit, values, view):
+        for module in (mbrumzheg, account, record, unit, values, view):
             done = doctest.testmod(module)
             self.assertEqual(done.failed, 0)
             self.assertGreater(done.attempted, 0)

@@ -60,6 +60,8 @@ extern crate std;
 #[doc = include_str!("../README.md")]
 struct Paper;
 
+mod account;
+mod accounted;
 mod away;
 mod event;
 mod memory;
@@ -77,11 +79,12 @@ mod values;
 mod view;
 mod words;
 
+pub use account::{Account, Column, Figures};
 pub use away::{Closing, Identity, Report, Reports, Sending};
 pub use event::{Answer, Event, Offer};
 pub use memory::Memory;
 pub use profile::PROFILE_MOST;
-pub use raw::SIZE;
+pub use raw::{ACCOUNT_SIZE, SIZE};
 pub use record::{narrow, widen, RECORD16_SIZE, RECORD_SIZE};
 pub use refusal::Refusal;
 pub use refused::{ArmRefusal, Refused, RoomRefusal};

@@ -3,13 +3,18 @@
 //! Nothing here is unsafe to call: the library checks every number and the whole memory itself. The types of the rest of this
 //! crate are the better way in; these functions are for whoever has numbers, as a comparison with another program does.
 
+mod account;
 mod records;
 
+pub use account::{accounted_close, accounted_lockout, accounted_offer, accounted_order, accounted_report, accounted_send};
 pub use records::{narrow, read_record, read_record16, widen, write_record, write_record16};
 pub use records::{Event16Numbers, Event16Row, EventNumbers};
 
 /// How many 64-bit numbers the state takes. More may be lent; the rest is neither read nor written.
 pub const SIZE: usize = crate::place::SIZE;
+
+/// How many 64-bit numbers an account takes. More may be lent; the rest is neither read nor written.
+pub const ACCOUNT_SIZE: usize = 520;
 
 /// An answer: five numbers, the refusal first (0 if the call was not refused).
 pub type Row = [u64; 5];

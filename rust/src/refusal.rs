@@ -3,7 +3,7 @@
 use core::error::Error;
 use core::fmt;
 
-/// A refusal: its number from 1 to 20, a name and a sentence. A refused call changes nothing in the lent memory.
+/// A refusal: its number from 1 to 21, a name and a sentence. A refused call changes nothing in the lent memory.
 ///
 /// ```
 /// use mbrumzheg::Refusal;
@@ -15,9 +15,9 @@ use core::fmt;
 #[non_exhaustive]
 #[repr(u8)]
 pub enum Refusal {
-    /// 1: the memory, or the room for a text, is too short.
+    /// 1: the memory, the account, or the room for a text, is too short.
     NoRoom = 1,
-    /// 2: the memory is marked, yet holds no sound state.
+    /// 2: the memory is marked, yet holds no sound state, or a figure of the account is above 10^18.
     Unsound = 2,
     /// 3: arming memory whose mark is not 0.
     ArmedAlready = 3,
@@ -55,11 +55,13 @@ pub enum Refusal {
     OverReported = 19,
     /// 20: a record that does not fit the old form.
     Unfit = 20,
+    /// 21: a figure of the account would pass 10^18.
+    AccountFull = 21,
 }
 
 impl Refusal {
     /// Every refusal, by number.
-    pub const ALL: [Refusal; 20] = [
+    pub const ALL: [Refusal; 21] = [
         Refusal::NoRoom,
         Refusal::Unsound,
         Refusal::ArmedAlready,
@@ -80,15 +82,16 @@ impl Refusal {
         Refusal::IdentityClash,
         Refusal::OverReported,
         Refusal::Unfit,
+        Refusal::AccountFull,
     ];
 
-    /// The refusal of a number from 1 to 20.
+    /// The refusal of a number from 1 to 21.
     pub fn from_number(number: u64) -> Option<Refusal> {
         let place = usize::try_from(number.checked_sub(1)?).ok()?;
         Refusal::ALL.get(place).copied()
     }
 
-    /// The number, 1 to 20.
+    /// The number, 1 to 21.
     pub const fn number(self) -> u64 {
         self as u64
     }
@@ -116,14 +119,17 @@ impl Refusal {
             Refusal::IdentityClash => "identity open or not",
             Refusal::OverReported => "more than is open",
             Refusal::Unfit => "does not fit the old form",
+            Refusal::AccountFull => "account full",
         }
     }
 
     /// What it means, in a sentence without its first capital and full stop.
     pub const fn sentence(self) -> &'static str {
         match self {
-            Refusal::NoRoom => "the lent memory has fewer than 2,763 numbers, or the room is shorter than the call asks for",
-            Refusal::Unsound => "the memory is marked, but what stands in it is no sound state",
+            Refusal::NoRoom => {
+                "the lent memory has fewer than 2,763 numbers, the account fewer than 520, or the room is shorter than the call asks for"
+            }
+            Refusal::Unsound => "the memory is marked, but what stands in it is no sound state, or a figure of the account is above 10^18",
             Refusal::ArmedAlready => "the memory's armed mark is not 0, so clear it before arming",
             Refusal::NotArmed => "the memory is not armed, so no rule stands behind this call",
             Refusal::ProfileLength => "the profile is empty or longer than 65,536 bytes",
@@ -148,6 +154,7 @@ impl Refusal {
             Refusal::Unfit => {
                 "the record does not fit the old form: its kind is above 2, its time not in whole milliseconds, or its reset above 3"
             }
+            Refusal::AccountFull => "a figure of the account would pass 10^18, so the event was not applied",
         }
     }
 }

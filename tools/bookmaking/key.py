@@ -17,7 +17,7 @@ KEY = [
     ("leb a b, ltb a b, eqb a b", "The tests for `a ≤ b`, for `a < b`, and for `a` and `b` the same.", "_≤_ _<_ leb ltb eqb"),
     ("List A", "A list: `[]`, which is empty, or `x ∷ xs`, which has `x` in front. `xs ++ ys` is one after the other.", "List [] _∷_ _++_"),
     ("length xs, take n xs, drop n xs", "How long a list is; its first `n`; what comes after them. `getD xs i d` is what stands at place `i`, counted from 0, and `d` where "
-     "the list is too short, and `set xs i x` the list with `x` there.", "length take drop getD set"),
+     "the list is too short; `set xs i x` is the list with `x` there, and `sets xs i ys` the list with the numbers of `ys` in the places from `i` on.", "length take drop getD set sets"),
     ("map f xs", "`f` of each, in order. `replicate n x` is `n` times `x`. `List·Memᴰ x xs` is: `x` is one of `xs`.", "map replicate List·Memᴰ"),
     ("String, code", "A text, and the number of one of its characters.", "String [] _∷_ code"),
     ("record R where ..", "What an `R` has, by name. `record { a = x; b = y }` makes one; `r .a` is its `a`. If its parts are statements, `R` says all of them.", ""),

@@ -15,7 +15,7 @@ use Rattle.records.specs.declared.Event16.the-variants.{Order, Offer, Lockout, 
 use Rattle.records.specs.declared.Reading16.the-variants.{Is}
 use Rattle.records.proofs.Moved.{fields16-are}
 use Rattle.records.proofs.Promises16.{picked}
-use Rattle.answering.specs.Run.{callOf, readingAnswer, memoryOf, recordAnswer, recordMemory}
+use Rattle.answering.specs.Run.{recordCall, readingAnswer, memoryOf, recordAnswer, recordMemory}
 use Rattle.answering.specs.Times.{callTime, stampOf, wholeFields, RemainderDropped}
 
 -- the values of a record that is read as an event are its fields
@@ -23,8 +23,8 @@ fields-of : (s : List ℕ) (e : Event16) → read16Of s ≡ Is e → fieldsOf wi
 unfolding read16Of
 fields-of s e h = let p = picked (accepts form16 s) (eventAt form16 s) e h in fields16-are s (p .0) .0 ∙ ap values16Of (p .1)
 
-time-of : (e : Event16) → callTime (callOf e) ≡ getD (values16Of e) 1 0 / 1000
-unfolding callTime callOf values16Of
+time-of : (e : Event16) → callTime (recordCall e) ≡ getD (values16Of e) 1 0 / 1000
+unfolding callTime recordCall values16Of
 time-of (Order time root reset) = refl
 time-of (Offer time root unit premium contracts) = refl
 time-of (Lockout time level root) = refl
@@ -49,8 +49,8 @@ callFrom v =
 abbrev whole : List ℕ → List ℕ
 whole v = getD v 0 0 ∷ getD v 1 0 / 1000 ∷ drop 2 v
 
-call-from : (e : Event16) → callOf e ≡ callFrom (whole (values16Of e))
-unfolding callOf values16Of
+call-from : (e : Event16) → recordCall e ≡ callFrom (whole (values16Of e))
+unfolding recordCall values16Of
 call-from (Order time root reset) = refl
 call-from (Offer time root unit premium contracts) = refl
 call-from (Lockout time level root) = refl
@@ -58,13 +58,13 @@ call-from (Sending time root unit premium contracts identity reports) = refl
 call-from (Report time identity contracts) = refl
 call-from (Closing time identity) = refl
 
-same-call : (s t : List ℕ) (e x : Event16) → read16Of s ≡ Is e → read16Of t ≡ Is x → wholeFields s ≡ wholeFields t → callOf e ≡ callOf x
+same-call : (s t : List ℕ) (e x : Event16) → read16Of s ≡ Is e → read16Of t ≡ Is x → wholeFields s ≡ wholeFields t → recordCall e ≡ recordCall x
 unfolding wholeFields
 same-call s t e x p q h =
     call-from e ∙ ap (λ (v : List ℕ). callFrom (whole v)) (sym (fields-of s e p)) ∙ ap callFrom h
     ∙ ap (λ (v : List ℕ). callFrom (whole v)) (fields-of t x q) ∙ sym (call-from x)
 
-same-answer : (s t : List ℕ) (e x : Event16) → read16Of s ≡ Is e → read16Of t ≡ Is x → callOf e ≡ callOf x → (xs : List ℕ)
+same-answer : (s t : List ℕ) (e x : Event16) → read16Of s ≡ Is e → read16Of t ≡ Is x → recordCall e ≡ recordCall x → (xs : List ℕ)
     → (recordAnswer xs s ≡ recordAnswer xs t) × (recordMemory xs s ≡ recordMemory xs t)
 unfolding readingAnswer memoryOf
 same-answer s t e x p q h xs = rw (p, q, h) (refl, refl)

@@ -51,28 +51,28 @@ abbrev pub milliseconds : ℕ → ℕ
 milliseconds time = time / 1000
 
 -- an offer, or an order to be sent away, at a time in microseconds
-abbrev pub offered : ℕ → ℕ → ℕ → ℕ → ℕ → Offered
-offered time root unit premium contracts =
+abbrev pub offerSaid : ℕ → ℕ → ℕ → ℕ → ℕ → Offered
+offerSaid time root unit premium contracts =
     record { time = milliseconds time; root = root; unit = unit; premium = premium; contracts = contracts }
 
 -- the call that an event asks for: a record counts microseconds, a call whole milliseconds
-unfoldable pub callOf : Event16 → Call
-callOf (Order time root reset) = order (milliseconds time) root reset
-callOf (Offer time root unit premium contracts) = offer (offered time root unit premium contracts)
-callOf (Lockout time level root) = lockout (milliseconds time) level root
-callOf (Sending time root unit premium contracts identity reports) =
-    send (offered time root unit premium contracts) identity reports
-callOf (Report time identity contracts) = report (milliseconds time) identity contracts
-callOf (Closing time identity) = close (milliseconds time) identity
+unfoldable pub recordCall : Event16 → Call
+recordCall (Order time root reset) = order (milliseconds time) root reset
+recordCall (Offer time root unit premium contracts) = offer (offerSaid time root unit premium contracts)
+recordCall (Lockout time level root) = lockout (milliseconds time) level root
+recordCall (Sending time root unit premium contracts identity reports) =
+    send (offerSaid time root unit premium contracts) identity reports
+recordCall (Report time identity contracts) = report (milliseconds time) identity contracts
+recordCall (Closing time identity) = close (milliseconds time) identity
 
 -- what a record is answered: what its event's call is, or 16
 unfoldable pub readingAnswer : List ℕ → Reading16 → Answer
-readingAnswer xs (Is e) = callAnswer xs (callOf e)
+readingAnswer xs (Is e) = callAnswer xs (recordCall e)
 readingAnswer xs Faulty = Refused (read16Refusal Faulty)
 
 -- the memory after a record: a faulty one changes nothing
 unfoldable pub memoryOf : List ℕ → Reading16 → List ℕ
-memoryOf xs (Is e) = callMemory xs (callOf e)
+memoryOf xs (Is e) = callMemory xs (recordCall e)
 memoryOf xs Faulty = xs
 
 abbrev pub recordAnswer : List ℕ → List ℕ → Answer

@@ -8,7 +8,7 @@ use Rattle.machine.specs.Calls.{Call, order, lockout, offer, remaining, status,
 use Rattle.records.specs.Event16.{widths16, read16Of}
 use Rattle.records.specs.declared.Event16.{Event16}
 use Rattle.records.specs.declared.Reading16.the-variants.{Is}
-use Rattle.answering.specs.Run.{callOf, recordAnswer, recordMemory}
+use Rattle.answering.specs.Run.{recordCall, recordAnswer, recordMemory}
 
 -- the time of a call; Status has none, and no record asks for it
 unfoldable pub callTime : Call → ℕ
@@ -31,8 +31,8 @@ wholeFields s = getD (fieldsOf widths16 s) 0 0 ∷ stampOf s / 1000 ∷ drop 2 (
 
 pub record RemainderDropped : Type 0 where
   -- the call's time is the record's divided by 1000, the remainder dropped
-  pub divided : (s : List ℕ) (e : Event16) → read16Of s ≡ Is e → callTime (callOf e) ≡ stampOf s / 1000
+  pub divided : (s : List ℕ) (e : Event16) → read16Of s ≡ Is e → callTime (recordCall e) ≡ stampOf s / 1000
   -- two records that differ only in that remainder ask for the same call, get the same answer and leave the same memory
   pub alike :
       (s t : List ℕ) (e x : Event16) → read16Of s ≡ Is e → read16Of t ≡ Is x → wholeFields s ≡ wholeFields t
-      → (callOf e ≡ callOf x) × ((xs : List ℕ) → (recordAnswer xs s ≡ recordAnswer xs t) × (recordMemory xs s ≡ recordMemory xs t))
+      → (recordCall e ≡ recordCall x) × ((xs : List ℕ) → (recordAnswer xs s ≡ recordAnswer xs t) × (recordMemory xs s ≡ recordMemory xs t))

@@ -7,7 +7,7 @@ ghost use Rattle.calls.specs.Calls.{armAnswer, armMemory, callAnswer, callMemor
 ghost use Rattle.profile.specs.declared.Reading.the-variants.{Accepted, Refused as NotArmed};
 ghost use Rattle.records.specs.Event16.{bytes16};
 ghost use Rattle.answering.specs.Lines.{spaced, armLine, recordLine};
-ghost use Rattle.answering.specs.Run.{Line, FitsRoom, Fitted, inFront, openedOf, milliseconds as millisecondsOf, offered as offeredOf, callOf, recordAnswer, recordMemory, recordAt, fitting as fittingOf, taken, memoryAfter, linesOf, ranOf};
+ghost use Rattle.answering.specs.Run.{Line, FitsRoom, Fitted, inFront, openedOf, milliseconds as millisecondsOf, offerSaid as offeredOf, recordCall, recordAnswer, recordMemory, recordAt, fitting as fittingOf, taken, memoryAfter, linesOf, ranOf};
 use machine::Answer;
 use machine::Offer;
 use profile::Reading as Arming;
@@ -36,7 +36,7 @@ pub struct Ran {
 }
 
 // Writes numbers from a place on, a space before each and LF at the end, and answers the place after it.
-fn put_spaced(numbers: &[u64], room: &mut [u8], at: usize) -> usize
+pub fn put_spaced(numbers: &[u64], room: &mut [u8], at: usize) -> usize
     requires { ⌜ at + length (now numbers) * 21 + 1 ≤ length (now room) ⌝ }
     ensures { λ r. ⌜ r ≡ at + length (spaced (now (numbers .entry))) ⌝ }
     ensures { λ r. ⌜ now (room .exit) ≡ sets (now (room .entry)) at (spaced (now (numbers .entry))) ⌝ }
@@ -113,14 +113,14 @@ fn put_line(place: u64, answer: Answer, room: &mut [u8], at: usize) -> usize
 }
 
 // Microseconds in whole milliseconds: the remainder is dropped.
-fn milliseconds(time: u64) -> u64
+pub fn milliseconds(time: u64) -> u64
     ensures { λ r. ⌜ r ≡ millisecondsOf time ⌝ }
 {
     time / 1000
 }
 
 // An offer, or an order to be sent away, at a time in microseconds.
-fn offered(time: u64, root: u64, unit: u64, premium: u64, contracts: u64) -> Offer
+pub fn offered(time: u64, root: u64, unit: u64, premium: u64, contracts: u64) -> Offer
     ensures { λ r. ⌜ r ≡ offeredOf time root unit premium contracts ⌝ }
 {
     Offer {
@@ -134,8 +134,8 @@ fn offered(time: u64, root: u64, unit: u64, premium: u64, contracts: u64) -> Off
 
 // Answers an event in memory: the rules count in whole milliseconds.
 fn answer_event(m: &mut [u64], e: Event16) -> Answer
-    ensures { λ r. ⌜ r ≡ callAnswer (now (m .entry)) (callOf e) ⌝ }
-    ensures { λ r. ⌜ now (m .exit) ≡ callMemory (now (m .entry)) (callOf e) ⌝ }
+    ensures { λ r. ⌜ r ≡ callAnswer (now (m .entry)) (recordCall e) ⌝ }
+    ensures { λ r. ⌜ now (m .exit) ≡ callMemory (now (m .entry)) (recordCall e) ⌝ }
 {
     match e {
         Event16::Order { time, root, reset } => calls::order(m, milliseconds(time), root, reset),

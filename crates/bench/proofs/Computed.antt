@@ -22,7 +22,7 @@ use Rattle.machine.specs.Offers.{counted, coversOffer, grantOf, sameLevel, trip
 use Rattle.machine.specs.Refusals.{used, logFull, noPlaces, overdrawn, firstOf, badTime, isRoot, refusalOf}
 use Rattle.machine.specs.Register.{hasIdentity, isOpen, sentAt, fillOf, sentOf, usedUp, registerBy, registerAfter, keptPlaces, noSent}
 use Rattle.machine.specs.Remaining.{noAccount, ruleNumbered, isCell, cellAt, accountAt, accountFor, leftOf, standing}
-use Rattle.machine.specs.Judge.{filled, offered, sentAway, ordered, judged, unless, judge, stepIn, step, numbers}
+use Rattle.machine.specs.Judge.{filled, offered, sentAway, ordered, judged, unless, judge, stepIn, step, numbers, isRefusal}
 use Rattle.bits.specs.Locks.{bit, withBit, withoutBit, either, count, here, first, standingOf}
 use Rattle.text.specs.Text.{bytes, all, onto, pieces, indexOf, made, numeral, fieldNumber, nameOf}
 use Rattle.line.specs.Line.{typeOf, isAbsolute, limitsOf, limitOf, kindOf, timeOf, letterOf, malformed, otherFirm, outOfRange, levelClash, unitClash, faultOf, scopeOf, ruleOf, lineOf}
@@ -38,12 +38,20 @@ use Rattle.rules.specs.declared.Kind.the-variants.{Absolute}
 use Rattle.rules.specs.declared.Limit.the-variants.{Volume}
 use Rattle.machine.specs.declared.Answer.the-variants.{Judged}
 use Rattle.demand.specs.Run.{afterCall, runFrom}
+use Rattle.tables.specs.Inner.Tables.{zeros}
+use Rattle.figures.specs.Happenings.{orderedOf, offeredOf, reportedOf, happeningOf}
+use Rattle.figures.specs.Figures as figures
+use Rattle.figures.specs.Account as account
+use Rattle.figures.specs.Account.{rowPlace, rowAt, accountAfter, isAccount}
+use Rattle.accounted.specs.Accounted.{callOf, isShortAccount}
 use Rattle.bench.specs.Lent.{numbersIn}
 use Rattle.bench.specs.Library.{hundred, forty}
 use Rattle.bench.specs.Rows.{Row, callsOf, answersThen, machineAnswers, seen, wanted}
 use Rattle.bench.specs.Table.{benchTable, examples}
-use Rattle.bench.specs.Away.{away}
+use Rattle.bench.specs.Away.{awayRows}
 use Rattle.bench.specs.Tried.{tried, Fault, refusedTexts}
+use Rattle.bench.specs.Accounts.{AccountRow, accountRows}
+use Rattle.bench.proofs.Counting.{lentOn, countedOn, answerOn, Counted, afterOn, countedFrom}
 
 -- a row's text is of bytes, and its calls' numbers have 64 bits
 abbrev pub isText : List ℕ → Bool
@@ -66,6 +74,32 @@ saidAs fault = NotRead (fault .number) (fault .line)
 abbrev pub hundredRule : Rule
 hundredRule = record { scope = WholeRoot 0; kind = Absolute; limit = Volume (record { 0 = 100 }) }
 
+-- the calls of a row of the account on the machine, and what is seen of them
+abbrev pub countedBy : AccountRow → Counted
+countedBy row =
+    countedFrom
+    (record {
+      state = runFrom (record { now = armed (outcomeOf (bytes (row .text)) .profile); history = [] }) (row .before) .now;
+      account = row .account;
+      history = [];
+    })
+    (map (λ c. c .0) (row .day))
+
+pub record SeenAccount : Type 0 where
+  pub refusal : ℕ
+  pub answers : List (List ℕ)
+  pub left : List ℕ
+
+abbrev pub seenAccount : AccountRow → SeenAccount
+seenAccount row = record {
+  refusal = outcomeOf (bytes (row .text)) .refusal;
+  answers = map numbers (answersThen (countedBy row .history) []);
+  left = countedBy row .account;
+}
+
+abbrev pub wantedAccount : AccountRow → SeenAccount
+wantedAccount row = record { refusal = 0; answers = map (λ c. c .1) (row .day); left = row .left }
+
 -- every row is seen as wanted, and every faulty text is read so; of three such offers the first two are granted whole, and of the third 20
 computed : (every fits (benchTable ++ (examples ++ tried)) ≡ true)
     × (map seen (benchTable ++ (examples ++ tried)) ≡ map wanted (benchTable ++ (examples ++ tried)))
@@ -75,8 +109,9 @@ computed : (every fits (benchTable ++ (examples ++ tried)) ≡ true)
     × (outcomeOf hundred .profile .rules ≡ hundredRule ∷ [])
     × (machineAnswers (armed (outcomeOf hundred .profile)) (offer forty ∷ offer forty ∷ offer forty ∷ [])
     ≡ Judged 0 40 false false ∷ Judged 0 40 false false ∷ Judged 0 20 true false ∷ [])
-unfolding every benchTable examples tried away refusedTexts readingOf seen wanted afterCall runFrom answersThen machineAnswers same bit withBit withoutBit either count here first standingOf levelNamed all onto pieces indexOf made numeral fieldNumber nameOf typeOf isAbsolute limitsOf limitOf kindOf timeOf letterOf malformed otherFirm outOfRange levelClash unitClash faultOf scopeOf ruleOf lineOf withRoot rootsWith numbered joined howMany isFirmRule onUnit crowded tooMany afterLine readOn outcomeOf levelOf covers isRate counts countedOf held executions added ceiling share zeroing lifting largest allowance trips isPassed overruns unflagged isFlagged flagOf entryShare sumOf keep recent hasRate unitsOf isUnitOf placeIn scopeFor ofUnit cellsBy cellsOf rulesIn noLocks fresh armed resets effectOf clockAfter isTripped isByUser isLocked verdictOf lifted trippedBy lockedOut wiped unflaggedLog counted coversOffer grantOf anyOf sameLevel tripsBy levelTrips credited windowOf longest entryOf joinedLog used logFull noPlaces overdrawn firstOf badTime isRoot refusalOf leftOf ruleNumbered isCell cellAt accountAt accountFor noAccount standing accountsAfter locksAfter logAfter registerBy registerAfter hasIdentity isOpen sentAt fillOf sentOf usedUp keptPlaces noSent partAfter after filled sentAway offered ordered judged unless judge stepIn step amountNumber amountIn numbers
-computed = (refl, refl, refl, refl, refl, refl, refl)
+    × (map seenAccount accountRows ≡ map wantedAccount accountRows)
+unfolding every benchTable examples tried awayRows accountRows callOf happeningOf orderedOf offeredOf reportedOf figures.accepted figures.rejected figures.fills figures.contracts figures.notional figures.cuts figures.tripAt figures.tripsOf figures.away figures.happeningRoot figures.figuresOf figures.plus figures.rowNumbers rowPlace rowAt account.rowAdded accountAfter isAccount isShortAccount lentOn countedOn answerOn afterOn countedFrom isRefusal zeros refusedTexts readingOf seen wanted afterCall runFrom answersThen machineAnswers same bit withBit withoutBit either count here first standingOf levelNamed all onto pieces indexOf made numeral fieldNumber nameOf typeOf isAbsolute limitsOf limitOf kindOf timeOf letterOf malformed otherFirm outOfRange levelClash unitClash faultOf scopeOf ruleOf lineOf withRoot rootsWith numbered joined howMany isFirmRule onUnit crowded tooMany afterLine readOn outcomeOf levelOf covers isRate counts countedOf held executions added ceiling share zeroing lifting largest allowance trips isPassed overruns unflagged isFlagged flagOf entryShare sumOf keep recent hasRate unitsOf isUnitOf placeIn scopeFor ofUnit cellsBy cellsOf rulesIn noLocks fresh armed resets effectOf clockAfter isTripped isByUser isLocked verdictOf lifted trippedBy lockedOut wiped unflaggedLog counted coversOffer grantOf anyOf sameLevel tripsBy levelTrips credited windowOf longest entryOf joinedLog used logFull noPlaces overdrawn firstOf badTime isRoot refusalOf leftOf ruleNumbered isCell cellAt accountAt accountFor noAccount standing accountsAfter locksAfter logAfter registerBy registerAfter hasIdentity isOpen sentAt fillOf sentOf usedUp keptPlaces noSent partAfter after filled sentAway offered ordered judged unless judge stepIn step amountNumber amountIn numbers
+computed = (refl, refl, refl, refl, refl, refl, refl, refl)
 
 pub rows-fit : every fits (benchTable ++ (examples ++ tried)) ≡ true
 rows-fit = computed .0
@@ -99,3 +134,6 @@ hundred-rule = computed .5
 pub forties : machineAnswers (armed (outcomeOf hundred .profile)) (offer forty ∷ offer forty ∷ offer forty ∷ [])
     ≡ Judged 0 40 false false ∷ Judged 0 40 false false ∷ Judged 0 20 true false ∷ []
 forties = computed .6
+
+pub accounts-right : map seenAccount accountRows ≡ map wantedAccount accountRows
+accounts-right = computed .7

@@ -1,10 +1,12 @@
 pub mod Words
 pub mod Runs
+pub mod Counting
 pub mod Computed
 pub mod Bench
 pub mod Tried
 pub mod Rewritten
 pub mod Records
+pub mod Accounts
 pub mod Contracts
 pub mod Witness
 pub mod ShutOut

@@ -8,8 +8,8 @@ use Rattle.records.specs.Form.{accepts, eventAt, stands, recordOf, wroteValues}
 use Rattle.records.specs.Event.{valuesOf, eventOf, isValid, writeRefusal}
 use Rattle.records.specs.Event16.{values16Of, awayEventOf, event16Of, isValid16, form16, read16Of, read16Refusal}
 use Rattle.records.specs.Moves.{movingOf, movedRecord, moved, widened, narrowed, movesBack, moveRefusal, widening, narrowing}
-use Rattle.answering.specs.Run.{callOf}
-use Rattle.bench.specs.Records.{Tried16, tried16, triedWriting, written16, widened12, narrowed16, asked, seen16, wanted16, seenWriting, seenMove, wantedMove, RecordRows}
+use Rattle.answering.specs.Run.{recordCall}
+use Rattle.bench.specs.Records.{Tried16, tried16, triedWriting, written16, widened12, narrowed16, askedCalls, seen16, wanted16, seenWriting, seenMove, wantedMove, RecordRows}
 
 -- lists made the same way, element by element
 each : {A B : Type 0} (f g : A → B) (xs : List A) → map f xs ≡ map g xs → All (λ x. f x ≡ g x) xs
@@ -38,8 +38,8 @@ back : map (seenMove narrowing) narrowed16 ≡ map wantedMove narrowed16
 unfolding narrowed16 seenMove wantedMove moveRefusal movingOf moved movedRecord narrowed movesBack accepts stands same values16Of awayEventOf event16Of isValid16 total packed unpacked eights fieldsOf bytesOf
 back = refl
 
-calls : map (λ row. callOf (row .0)) asked ≡ map (λ row. row .1) asked
-unfolding asked callOf
+calls : map (λ row. recordCall (row .0)) askedCalls ≡ map (λ row. row .1) askedCalls
+unfolding askedCalls recordCall
 calls = refl
 
 pub record-rows : RecordRows
@@ -49,5 +49,5 @@ record-rows = record {
   written = each (λ row. recordOf form16 (row .0)) (λ row. row .1) written16 written;
   widened = each (seenMove widening) wantedMove widened12 moves;
   narrowed = each (seenMove narrowing) wantedMove narrowed16 back;
-  calls = each (λ row. callOf (row .0)) (λ row. row .1) asked calls;
+  calls = each (λ row. recordCall (row .0)) (λ row. row .1) askedCalls calls;
 }

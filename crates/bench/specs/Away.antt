@@ -3,7 +3,7 @@ use Prim.Native.Nat.{ℕ, zero, suc}
 use mathlib.Core.List.{List, [], _∷_, _++_}
 use Rattle.machine.specs.Calls.{Call, order, send, report, close}
 use Rattle.bench.specs.Rows.{Row}
-use Rattle.bench.specs.Table.{fill, at, grants, leaves, leavesOn, orderRow, lockoutRow, stands, verdictRow, refused, offerOf}
+use Rattle.bench.specs.Table.{fill, at, grants, leaves, leavesOn, orderRow, lockoutRow, standingRow, verdictRow, refused, offerOf}
 
 -- an order of contracts of root 0, unit 0, at a premium of 1, to be sent away under an identity with so many reports
 abbrev sends : ℕ → ℕ → ℕ → ℕ → Call
@@ -26,8 +26,8 @@ abbrev many : ℕ → List (Call × List ℕ)
 many zero = []
 many (suc n) = many n ++ (goes 0 100 n 16 ∷ [])
 
-unfoldable pub away : List Row
-away =
+unfoldable pub awayRows : List Row
+awayRows =
     -- what comes back counts as a grant does: an offer is cut by it, an absolute rule trips when it is reached, and what is left of the order is
     -- looked at before each report
     record {
@@ -60,7 +60,7 @@ away =
     ∷ record {
       text = "ABCD,abs_vol,XYZ,100";
       windows = 0 ∷ [];
-      day = goes 0 500 1 2 ∷ back 0 1 100 (grants 100 1 0) ∷ orderRow 0 4 0 ∷ back 1 1 400 (grants 400 1 0) ∷ leaves 1 0 0 ∷ stands 1 0 1 0 ∷ [];
+      day = goes 0 500 1 2 ∷ back 0 1 100 (grants 100 1 0) ∷ orderRow 0 4 0 ∷ back 1 1 400 (grants 400 1 0) ∷ leaves 1 0 0 ∷ standingRow 1 0 1 0 ∷ [];
     }
     -- a rate rule trips above its limit, not at it; the firm's rules count what came back too
     ∷ record {

@@ -6,3 +6,4 @@ pub mod Away
 pub mod Records
 pub mod Tried
 pub mod Rewritten
+pub mod Accounts

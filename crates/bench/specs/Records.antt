@@ -11,7 +11,7 @@ use Rattle.records.specs.Event.{writeRefusal}
 use Rattle.records.specs.Event16.{bytes16, widths16, form16, read16Of, read16Refusal}
 use Rattle.records.specs.Moves.{Move, movingOf, moved, widening, narrowing, moveRefusal}
 use Rattle.records.specs.declared.Event16.{Event16}
-use Rattle.answering.specs.Run.{callOf}
+use Rattle.answering.specs.Run.{recordCall}
 use Rattle.rules.specs.Allowance.{All}
 use Rattle.records.specs.declared.Event16.the-variants.{Order, Offer, Lockout, Sending, Report, Closing}
 
@@ -178,8 +178,8 @@ narrowed16 =
     ∷ []
 
 -- the call that an event asks for: whole milliseconds, the remainder dropped
-unfoldable pub asked : List (Event16 × Call)
-asked =
+unfoldable pub askedCalls : List (Event16 × Call)
+askedCalls =
     (Order 1_999 0 4, order 1 0 4)
     ∷ (Order 1_001 0 5, order 1 0 5)
     ∷ (Order 999 0 0, order 0 0 0)
@@ -215,4 +215,4 @@ pub record RecordRows : Type 0 where
   pub written : All (λ row. recordOf form16 (row .0) ≡ row .1) written16
   pub widened : All (λ row. seenMove widening row ≡ wantedMove row) widened12
   pub narrowed : All (λ row. seenMove narrowing row ≡ wantedMove row) narrowed16
-  pub calls : All (λ row. callOf (row .0) ≡ row .1) asked
+  pub calls : All (λ row. recordCall (row .0) ≡ row .1) askedCalls

@@ -34,8 +34,8 @@ abbrev pub lockoutRow : ℕ → ℕ → Call × List ℕ
 lockoutRow time level = (lockout time level 0, 0 ∷ 0 ∷ 0 ∷ 0 ∷ 0 ∷ [])
 
 -- how many roots are tripped, locked by the user, locked at all, and the lowest locked root
-abbrev pub stands : ℕ → ℕ → ℕ → ℕ → Call × List ℕ
-stands tripped user locked lowest = (status, 0 ∷ tripped ∷ user ∷ locked ∷ lowest ∷ [])
+abbrev pub standingRow : ℕ → ℕ → ℕ → ℕ → Call × List ℕ
+standingRow tripped user locked lowest = (status, 0 ∷ tripped ∷ user ∷ locked ∷ lowest ∷ [])
 
 -- a verdict, with nothing granted and nothing tripped
 abbrev pub verdictRow : ℕ → List ℕ

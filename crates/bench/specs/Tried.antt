@@ -11,15 +11,15 @@ use Rattle.machine.specs.Calls.{Call, order, lockout, remaining}
 use Rattle.bench.specs.Lent.{Memory, Text, Verdict}
 use Rattle.bench.specs.Library.{Library}
 use Rattle.bench.specs.Rows.{Row}
-use Rattle.bench.specs.Table.{fill, at, grants, leaves, leavesOn, orderRow, lockoutRow, stands, verdictRow, refused, offerOf}
-use Rattle.bench.specs.Away.{away}
+use Rattle.bench.specs.Table.{fill, at, grants, leaves, leavesOn, orderRow, lockoutRow, standingRow, verdictRow, refused, offerOf}
+use Rattle.bench.specs.Away.{awayRows}
 
 -- a root that is full and a firm that is locked out, orders at one time, and what is left of the two root rules and of the firm's; nothing is locked then
 abbrev cleaned : List (Call × List ℕ) → ℕ → ℕ → ℕ → Row
 cleaned orders total logged firm = record {
   text = "ABCD,abs_vol,XYZ,10\nABCD,rate_vol,XYZ,50,1000\nABCD,abs_vol,,15,,T";
   windows = 0 ∷ 1000 ∷ 0 ∷ [];
-  day = at 0 1 10 (grants 10 1 0) ∷ lockoutRow 1 1 ∷ orders ++ (leaves 5 0 total ∷ leaves 5 1 logged ∷ leaves 5 2 firm ∷ stands 0 0 0 64 ∷ []);
+  day = at 0 1 10 (grants 10 1 0) ∷ lockoutRow 1 1 ∷ orders ++ (leaves 5 0 total ∷ leaves 5 1 logged ∷ leaves 5 2 firm ∷ standingRow 0 0 0 64 ∷ []);
 }
 
 -- two full roots and a locked firm, orders at one time, and how the roots stand then
@@ -30,9 +30,9 @@ apart orders = record {
   day =
       fill 0 0 0 1 10 (grants 10 1 0)
       ∷ fill 0 1 0 1 10 (grants 10 1 0)
-      ∷ stands 2 0 2 0
+      ∷ standingRow 2 0 2 0
       ∷ lockoutRow 1 1
-      ∷ orders ++ (stands 0 0 0 64 ∷ leaves 5 0 10 ∷ leaves 5 1 10 ∷ []);
+      ∷ orders ++ (standingRow 0 0 0 64 ∷ leaves 5 0 10 ∷ leaves 5 1 10 ∷ []);
 }
 
 unfoldable pub tried : List Row
@@ -111,7 +111,7 @@ tried =
           ∷ lockoutRow 6 0
           ∷ orderRow 7 5 2
           ∷ orderRow 8 4 0
-          ∷ stands 0 0 0 64
+          ∷ standingRow 0 0 0 64
           ∷ [];
     }
     -- E does so for the firm, and leaves the root locked; 6 is both
@@ -150,17 +150,17 @@ tried =
       text = "ABCD,abs_vol,XYZ,10\nABCD,abs_vol,QRS,10";
       windows = 0 ∷ 0 ∷ [];
       day =
-          stands 0 0 0 64
+          standingRow 0 0 0 64
           ∷ fill 0 1 0 1 10 (grants 10 1 0)
-          ∷ stands 1 0 1 1
+          ∷ standingRow 1 0 1 1
           ∷ lockoutRow 1 0
-          ∷ stands 1 1 2 0
+          ∷ standingRow 1 1 2 0
           ∷ at 2 1 1 (verdictRow 2)
           ∷ lockoutRow 3 1
           ∷ orderRow 4 0 1
           ∷ orderRow 5 2 2
           ∷ orderRow 6 1 0
-          ∷ stands 1 0 1 1
+          ∷ standingRow 1 0 1 1
           ∷ [];
     }
     -- 12, 13 and 14, and that 12 comes before 13, and 13 before 14
@@ -200,10 +200,10 @@ tried =
           ∷ lockoutRow 0 1
           ∷ leaves 0 0 100
           ∷ refused (remaining 0 0 1) 13
-          ∷ stands 0 0 0 64
+          ∷ standingRow 0 0 0 64
           ∷ [];
     }
-    ∷ away
+    ∷ awayRows
 
 -- a text that Arm refuses, with the number and the line
 pub record Fault : Type 0 where

@@ -5,6 +5,7 @@ ghost use Rattle.machine.specs.Judge.{numbers};
 ghost use Rattle.calls.specs.Calls.{armAnswer, armMemory, clearAnswer, clearMemory, callAnswer, callMemory, textAnswer, textMemory};
 ghost use Rattle.capi.specs.Rows.{armRow, clearRow, textRow};
 
+pub mod accounts;
 pub mod events;
 pub mod told;
 

@@ -44,6 +44,18 @@ use Rattle.capi.proofs.events.mbrumzheg_widen.Kinds as mbrumzheg-widen-kinds
 use Rattle.capi.proofs.events.mbrumzheg_widen.Reads as mbrumzheg-widen-reads
 use Rattle.capi.proofs.events.mbrumzheg_narrow.Kinds as mbrumzheg-narrow-kinds
 use Rattle.capi.proofs.events.mbrumzheg_narrow.Reads as mbrumzheg-narrow-reads
+use Rattle.capi.proofs.accounts.mbrumzheg_accounted_order.Kinds as mbrumzheg-accounted-order-kinds
+use Rattle.capi.proofs.accounts.mbrumzheg_accounted_order.Reads as mbrumzheg-accounted-order-reads
+use Rattle.capi.proofs.accounts.mbrumzheg_accounted_lockout.Kinds as mbrumzheg-accounted-lockout-kinds
+use Rattle.capi.proofs.accounts.mbrumzheg_accounted_lockout.Reads as mbrumzheg-accounted-lockout-reads
+use Rattle.capi.proofs.accounts.mbrumzheg_accounted_offer.Kinds as mbrumzheg-accounted-offer-kinds
+use Rattle.capi.proofs.accounts.mbrumzheg_accounted_offer.Reads as mbrumzheg-accounted-offer-reads
+use Rattle.capi.proofs.accounts.mbrumzheg_accounted_send.Kinds as mbrumzheg-accounted-send-kinds
+use Rattle.capi.proofs.accounts.mbrumzheg_accounted_send.Reads as mbrumzheg-accounted-send-reads
+use Rattle.capi.proofs.accounts.mbrumzheg_accounted_report.Kinds as mbrumzheg-accounted-report-kinds
+use Rattle.capi.proofs.accounts.mbrumzheg_accounted_report.Reads as mbrumzheg-accounted-report-reads
+use Rattle.capi.proofs.accounts.mbrumzheg_accounted_close.Kinds as mbrumzheg-accounted-close-kinds
+use Rattle.capi.proofs.accounts.mbrumzheg_accounted_close.Reads as mbrumzheg-accounted-close-reads
 
 pub mbrumzheg-arm : Determines 3 mbrumzheg-arm-kinds.ps mbrumzheg-arm-kinds.r mbrumzheg-arm-reads.Asked mbrumzheg-arm-reads.Learnt
 mbrumzheg-arm κs args asked x y u v p q = (refl, λ i. (alike (p .0) (q .0) i, (v .1 .0, (alike (p .1) (q .1) i, v .1 .1 .1))))
@@ -107,3 +119,21 @@ mbrumzheg-widen κs args asked x y u v p q = (refl, λ i. (v .0, (alike (p .0) (
 
 pub mbrumzheg-narrow : Determines 3 mbrumzheg-narrow-kinds.ps mbrumzheg-narrow-kinds.r mbrumzheg-narrow-reads.Asked mbrumzheg-narrow-reads.Learnt
 mbrumzheg-narrow κs args asked x y u v p q = (refl, λ i. (v .0, (alike (p .0) (q .0) i, (alike (p .1) (q .1) i, v .1 .1 .1))))
+
+pub mbrumzheg-accounted-order : Determines 3 mbrumzheg-accounted-order-kinds.ps mbrumzheg-accounted-order-kinds.r mbrumzheg-accounted-order-reads.Asked mbrumzheg-accounted-order-reads.Learnt
+mbrumzheg-accounted-order κs args asked x y u v p q = (refl, λ i. (alike (p .0) (q .0) i, (alike (p .1 .0) (q .1 .0) i, (v .1 .1 .0, (v .1 .1 .1 .0, (v .1 .1 .1 .1 .0, (alike (p .1 .1) (q .1 .1) i, v .1 .1 .1 .1 .1 .1)))))))
+
+pub mbrumzheg-accounted-lockout : Determines 3 mbrumzheg-accounted-lockout-kinds.ps mbrumzheg-accounted-lockout-kinds.r mbrumzheg-accounted-lockout-reads.Asked mbrumzheg-accounted-lockout-reads.Learnt
+mbrumzheg-accounted-lockout κs args asked x y u v p q = (refl, λ i. (alike (p .0) (q .0) i, (alike (p .1 .0) (q .1 .0) i, (v .1 .1 .0, (v .1 .1 .1 .0, (v .1 .1 .1 .1 .0, (alike (p .1 .1) (q .1 .1) i, v .1 .1 .1 .1 .1 .1)))))))
+
+pub mbrumzheg-accounted-offer : Determines 3 mbrumzheg-accounted-offer-kinds.ps mbrumzheg-accounted-offer-kinds.r mbrumzheg-accounted-offer-reads.Asked mbrumzheg-accounted-offer-reads.Learnt
+mbrumzheg-accounted-offer κs args asked x y u v p q = (refl, λ i. (alike (p .0) (q .0) i, (alike (p .1 .0) (q .1 .0) i, (v .1 .1 .0, (v .1 .1 .1 .0, (v .1 .1 .1 .1 .0, (v .1 .1 .1 .1 .1 .0, (v .1 .1 .1 .1 .1 .1 .0, (alike (p .1 .1) (q .1 .1) i, v .1 .1 .1 .1 .1 .1 .1 .1)))))))))
+
+pub mbrumzheg-accounted-send : Determines 3 mbrumzheg-accounted-send-kinds.ps mbrumzheg-accounted-send-kinds.r mbrumzheg-accounted-send-reads.Asked mbrumzheg-accounted-send-reads.Learnt
+mbrumzheg-accounted-send κs args asked x y u v p q = (refl, λ i. (alike (p .0) (q .0) i, (alike (p .1 .0) (q .1 .0) i, (v .1 .1 .0, (v .1 .1 .1 .0, (v .1 .1 .1 .1 .0, (v .1 .1 .1 .1 .1 .0, (v .1 .1 .1 .1 .1 .1 .0, (v .1 .1 .1 .1 .1 .1 .1 .0, (v .1 .1 .1 .1 .1 .1 .1 .1 .0, (alike (p .1 .1) (q .1 .1) i, v .1 .1 .1 .1 .1 .1 .1 .1 .1 .1)))))))))))
+
+pub mbrumzheg-accounted-report : Determines 3 mbrumzheg-accounted-report-kinds.ps mbrumzheg-accounted-report-kinds.r mbrumzheg-accounted-report-reads.Asked mbrumzheg-accounted-report-reads.Learnt
+mbrumzheg-accounted-report κs args asked x y u v p q = (refl, λ i. (alike (p .0) (q .0) i, (alike (p .1 .0) (q .1 .0) i, (v .1 .1 .0, (v .1 .1 .1 .0, (v .1 .1 .1 .1 .0, (alike (p .1 .1) (q .1 .1) i, v .1 .1 .1 .1 .1 .1)))))))
+
+pub mbrumzheg-accounted-close : Determines 3 mbrumzheg-accounted-close-kinds.ps mbrumzheg-accounted-close-kinds.r mbrumzheg-accounted-close-reads.Asked mbrumzheg-accounted-close-reads.Learnt
+mbrumzheg-accounted-close κs args asked x y u v p q = (refl, λ i. (alike (p .0) (q .0) i, (alike (p .1 .0) (q .1 .0) i, (v .1 .1 .0, (v .1 .1 .1 .0, (alike (p .1 .1) (q .1 .1) i, v .1 .1 .1 .1 .1))))))

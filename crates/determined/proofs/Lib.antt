@@ -20,8 +20,11 @@ pub mod Counting
 pub mod Grant
 pub mod Reset
 pub mod Calls
+pub mod Figures
+pub mod Accounted
 pub mod Views
 pub mod Capi
 pub mod Records
 pub mod Rows
 pub mod Answering
+pub mod Tabled

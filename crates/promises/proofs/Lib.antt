@@ -16,3 +16,8 @@ pub mod Goes
 pub mod Day
 pub mod Written
 pub mod Resets
+pub mod Counted
+pub mod Accounts
+pub mod Lent
+pub mod AccountRefusals
+pub mod AccountDay

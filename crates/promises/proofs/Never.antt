@@ -13,7 +13,7 @@ use Rattle.promises.specs.Day.{NeverRefused}
 use Rattle.promises.proofs.Tests.{first-least}
 use Rattle.promises.proofs.Holds.{acts-unrefused}
 
-refusal-least : (s : State) (call : Call) (n : ℕ) → refusalOf logPlaces s call ≡ suc n → 12 ≤ suc n
+pub refusal-least : (s : State) (call : Call) (n : ℕ) → refusalOf logPlaces s call ≡ suc n → 12 ≤ suc n
 unfolding refusalOf
 refusal-least s (order time root reset) n e = first-least 12 _ (tt, (tt, tt)) n e
 refusal-least s (lockout time level root) n e = first-least 12 _ (tt, (tt, tt)) n e

@@ -39,21 +39,21 @@ module _ (xs : List ℕ) where
     λ h. (exactly xs .0 (h .0, h .1 .0), subst⁻¹ P (held-is (h .0) xs (h .1 .0)) (h .1 .1)),
   )
 
-  short-tells : Tells (isShort xs) (Short xs)
+  pub short-tells : Tells (isShort xs) (Short xs)
   unfolding isShort
   short-tells = (ltb-true (length xs) size, lt-ltb (length xs) size)
 
-  long-tells : (isShort xs ≡ false) ↔ (size ≤ length xs)
+  pub long-tells : (isShort xs ≡ false) ↔ (size ≤ length xs)
   unfolding isShort
   long-tells = (ltb-false (length xs) size, le-ltb (length xs) size)
 
-  unmarked-tells : Tells (eqb (markOf xs) 0) (markOf xs ≡ 0)
+  pub unmarked-tells : Tells (eqb (markOf xs) 0) (markOf xs ≡ 0)
   unmarked-tells = (eqb-true (markOf xs) 0, eq-eqb (markOf xs) 0)
 
-  marked-tells : (eqb (markOf xs) 0 ≡ false) ↔ (markOf xs ≡ 0 → ⊥)
+  pub marked-tells : (eqb (markOf xs) 0 ≡ false) ↔ (markOf xs ≡ 0 → ⊥)
   marked-tells = tells-not (eqb (markOf xs) 0) unmarked-tells
 
-  unsound-tells : Tells (not (isSound xs)) (Sound xs → ⊥)
+  pub unsound-tells : Tells (not (isSound xs)) (Sound xs → ⊥)
   unsound-tells = not-tells (isSound xs) (Iff·symm (exactly xs))
 
   abbrev memoryTests : List (Bool × ℕ)

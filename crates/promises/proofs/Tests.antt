@@ -75,7 +75,7 @@ NoneIs n tests = All (λ t. T (not (eqb (t .1) n))) tests
 differs : (a b : ℕ) → T (not (eqb a b)) → a ≡ b → ⊥
 differs a b t e = subst (λ (c : Bool). T (not c)) (eq-eqb a b e) t
 
-never : (tests : List (Bool × ℕ)) (n : ℕ) → NoneIs n tests → T (not (eqb n 0)) → firstOf tests ≡ n → ⊥
+pub never : (tests : List (Bool × ℕ)) (n : ℕ) → NoneIs n tests → T (not (eqb n 0)) → firstOf tests ≡ n → ⊥
 unfolding firstOf
 never [] n diff z e = differs n 0 z (sym e)
 never (t ∷ rest) n diff z e = go (t .0) e (never rest n (diff .1) z)

@@ -4,6 +4,7 @@ use super::log::Entry;
 use crate::asked::Names;
 use crate::check;
 use crate::command::{self, Command};
+use crate::evening;
 use crate::help;
 use crate::piece::Piece;
 use crate::sitting::Sitting;
@@ -45,7 +46,7 @@ pub enum Said {
 }
 
 /// What can be typed here.
-const TYPED: &str = "offer, order, lock, away, back, close, remaining, profile, status or help";
+const TYPED: &str = "offer, order, lock, away, back, close, remaining, profile, account, status or help";
 const ARM_FIRST: &str = "the unit is not armed, so nothing can be passed or asked (refusal 4); arm it first";
 
 impl Bench {
@@ -101,6 +102,7 @@ impl Bench {
         }
         match command {
             Command::Status => table::status(sitting).map(Said::Words).map_err(|refusal| refusal.to_string()),
+            Command::Account(None) => Ok(Said::Words(evening::table(&sitting.profile, &sitting.account))),
             Command::Profile(None) => sitting.active().map(|text| Said::Words(text.trim_end().to_string())),
             Command::Remaining(words) => {
                 let (time, shown) = names.table(&words)?;
@@ -143,6 +145,11 @@ impl Bench {
         self.log.push(entry.clone());
         self.typed.push(typed);
         entry
+    }
+
+    /// The day's account as a table of commas.
+    pub fn account(&self) -> Result<String, String> {
+        self.armed().map(|sitting| evening::csv(&sitting.profile, &sitting.account))
     }
 
     /// The rules that the unit runs, as a profile's text.

@@ -50,6 +50,10 @@ fn shown(bench: &mut Bench, request: &Request) -> Reply {
             Ok(text) => with(Reply::of("text/plain; charset=utf-8", text), "Content-Disposition: attachment; filename=\"active-profile\""),
             Err(advice) => Reply::text(409, &advice),
         },
+        "account.csv" => match bench.account() {
+            Ok(text) => with(Reply::of("text/csv; charset=utf-8", text), "Content-Disposition: attachment; filename=\"account.csv\""),
+            Err(advice) => Reply::text(409, &advice),
+        },
         "report.html" => report(bench, "report.html", HTML).map_or_else(|reply| reply, |reply| with(reply, OF_REPORT)),
         "report.json" => report(bench, "report.json", JSON).unwrap_or_else(|reply| reply),
         "report.csv" => report(bench, "report.csv", "text/csv; charset=utf-8").unwrap_or_else(|reply| reply),

@@ -6,6 +6,7 @@ use crate::asked::Names;
 use crate::away;
 use crate::check::meaning;
 use crate::counts::Count;
+use crate::evening;
 use crate::json::{list, maybe, object, text};
 use crate::ledger::Used;
 use crate::profile::Rule;
@@ -66,6 +67,7 @@ fn armed(sitting: &Sitting, at: &str) -> Result<String, String> {
         ("status", list([status.tripped, status.locked_by_user, status.locked, lowest].map(|number| number.to_string()))),
         ("levels", list(levels)),
         ("rules", list(rules)),
+        ("account", evening::shown(&sitting.profile, &sitting.account)),
         ("away", list(sitting.away.orders().iter().map(|order| of_order(sitting, order)))),
     ]))
 }

@@ -19,7 +19,7 @@ use native::SIZE;
 const TURNS: u32 = 6;
 const LINE: Duration = Duration::from_millis(50);
 /// How wide a line's name is printed.
-const WIDE: usize = 82;
+const WIDE: usize = 93;
 
 fn main() {
     let word = std::env::args().nth(1);

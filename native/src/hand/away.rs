@@ -12,7 +12,7 @@ pub fn send(m: &mut [u64], time: u64, root: u64, unit: u64, premium: u64, contra
 }
 
 /// A sending on lent memory.
-fn sent(m: &mut State, o: &Offer, identity: u64, reports: u64) -> Result<[u64; 4], u64> {
+pub fn sent(m: &mut State, o: &Offer, identity: u64, reports: u64) -> Result<[u64; 4], u64> {
     let sound = armed_at(m, o.time)?;
     if o.root >= m[ROOT_COUNT] || o.unit >= UNITS || identity > LAST_IDENTITY {
         return Err(13);
@@ -47,43 +47,49 @@ fn place_of(m: &State, of: u64) -> Option<usize> {
 }
 
 pub fn report(m: &mut [u64], time: u64, identity: u64, contracts: u64) -> Row {
-    row(state_mut(m).and_then(|m| {
-        let sound = armed_at(m, time)?;
-        if identity > LAST_IDENTITY {
-            return Err(13);
-        }
-        if contracts.wrapping_sub(1) >= MOST_CONTRACTS {
-            return Err(14);
-        }
-        let place = place_of(m, identity).ok_or(18u64)?;
-        let (first, second) = (m[place], m[place + 1]);
-        if contracts > second & CONTRACTS || first & REPORTS == 0 {
-            return Err(19);
-        }
-        m[place] = first - 1;
-        m[place + 1] = second - contracts;
-        let fill = Offer { time, root: first >> 7 & 63, unit: first >> 5 & 3, premium: second >> 20, contracts };
-        m[CLOCK] = time;
-        let trips = Covering::new(m, &fill).report(m, &fill);
-        if sound.longest > 0 {
-            join(m, &fill, contracts, sound.longest);
-        }
-        Ok(trips.answer(m, fill.root, contracts))
-    }))
+    row(state_mut(m).and_then(|m| reported(m, time, identity, contracts).map(|(answer, _)| answer)))
+}
+
+/// A report on lent memory: its answer, and its order's root.
+pub fn reported(m: &mut State, time: u64, identity: u64, contracts: u64) -> Result<([u64; 4], u64), u64> {
+    let sound = armed_at(m, time)?;
+    if identity > LAST_IDENTITY {
+        return Err(13);
+    }
+    if contracts.wrapping_sub(1) >= MOST_CONTRACTS {
+        return Err(14);
+    }
+    let place = place_of(m, identity).ok_or(18u64)?;
+    let (first, second) = (m[place], m[place + 1]);
+    if contracts > second & CONTRACTS || first & REPORTS == 0 {
+        return Err(19);
+    }
+    m[place] = first - 1;
+    m[place + 1] = second - contracts;
+    let fill = Offer { time, root: first >> 7 & 63, unit: first >> 5 & 3, premium: second >> 20, contracts };
+    m[CLOCK] = time;
+    let trips = Covering::new(m, &fill).report(m, &fill);
+    if sound.longest > 0 {
+        join(m, &fill, contracts, sound.longest);
+    }
+    Ok((trips.answer(m, fill.root, contracts), fill.root))
 }
 
 pub fn close(m: &mut [u64], time: u64, identity: u64) -> Row {
-    row(state_mut(m).and_then(|m| {
-        armed_at(m, time)?;
-        if identity > LAST_IDENTITY {
-            return Err(13);
-        }
-        let place = place_of(m, identity).ok_or(18u64)?;
-        let end = ORDERS + 2 * m[REGISTER] as usize;
-        m.copy_within(place + 2..end, place);
-        m[end - 2..end].fill(0);
-        m[REGISTER] -= 1;
-        m[CLOCK] = time;
-        Ok([0; 4])
-    }))
+    row(state_mut(m).and_then(|m| closed(m, time, identity)))
+}
+
+/// A closing on lent memory.
+pub fn closed(m: &mut State, time: u64, identity: u64) -> Result<[u64; 4], u64> {
+    armed_at(m, time)?;
+    if identity > LAST_IDENTITY {
+        return Err(13);
+    }
+    let place = place_of(m, identity).ok_or(18u64)?;
+    let end = ORDERS + 2 * m[REGISTER] as usize;
+    m.copy_within(place + 2..end, place);
+    m[end - 2..end].fill(0);
+    m[REGISTER] -= 1;
+    m[CLOCK] = time;
+    Ok([0; 4])
 }

@@ -1,9 +1,9 @@
 //! The groups of what has to come up.
 
-use super::{away, lifted, register, room, units};
+use super::{accounts, away, lifted, register, room, units};
 
 /// What has to come up at least once, beside each refusal of a call on memory, in groups that are printed a line each.
-pub const WANTED: [(&str, &[&str]); 25] = [
+pub const WANTED: [(&str, &[&str]); 37] = [
     ("calls", &["arm", "clear", "order", "lockout", "offer", "send", "report", "close", "remaining", "status", "text", "profile"]),
     ("offers", &["granted whole", "cut above 0", "cut to 0", "under a locked firm", "under a locked root"]),
     ("trips", &["of a root", "of the firm", "of both", "of an absolute rule just reached"]),
@@ -29,6 +29,18 @@ pub const WANTED: [(&str, &[&str]); 25] = [
     ("reports trip", away::TRIPPED),
     ("reports refused", away::NOT_REPORTED),
     ("closings", away::CLOSED),
+    ("accounted", accounts::DONE),
+    ("accounted at verdict", accounts::VERDICTS),
+    ("accounted beside", accounts::BEFORE),
+    ("accounted, 1 for", accounts::SHORT),
+    ("accounted, 2 for", accounts::UNSOUND),
+    ("figures of a root that rose", accounts::COLUMNS),
+    ("figures of the firm that rose", accounts::COLUMNS),
+    ("figures that reached the most", accounts::COLUMNS),
+    ("21 for a root's", accounts::PASSED),
+    ("21 for the firm's", accounts::PASSED_FIRM),
+    ("accounted, and no figure rose", accounts::NOWHERE),
+    ("accounted, refused beside a figure at the most with", accounts::OTHERS),
 ];
 /// The groups by their places.
 pub const CALLS: usize = 0;
@@ -52,3 +64,5 @@ pub const FOUND: usize = 17;
 pub const FULL: usize = 18;
 /// Sendings, and the five groups after them.
 pub const AWAY: usize = 19;
+/// Accounted calls that were done, and the eleven groups after them.
+pub const ACCOUNTS: usize = 25;

@@ -1,5 +1,5 @@
 //! The crate and the header for C have the same names for the same numbers.
-use mbrumzheg::{Level, Refusal, Reset, Root, UnitOfRoot, Verdict, PROFILE_MOST, SIZE};
+use mbrumzheg::{Column, Level, Refusal, Reset, Root, UnitOfRoot, Verdict, ACCOUNT_SIZE, PROFILE_MOST, SIZE};
 
 /// A name as C spells it: `NoRoom` is `MBRUMZHEG_NO_ROOM`, `ResetTE` is `MBRUMZHEG_RESET_TE`.
 fn in_c(name: &str) -> String {
@@ -33,6 +33,8 @@ fn rust_and_c_have_the_same_names_and_numbers() {
     }
     has("LevelRoot".to_string(), Level::Root(Root::new(5).expect("a root number")).number());
     has("LevelFirm".to_string(), Level::Firm.number());
+    Column::ALL.iter().for_each(|column| has(format!("Column{column:?}"), column.number()));
     assert!(header.contains(&format!("#define MBRUMZHEG_SIZE {SIZE}\n")));
+    assert!(header.contains(&format!("#define MBRUMZHEG_ACCOUNT_SIZE {ACCOUNT_SIZE}\n")));
     assert!(header.contains(&format!("#define MBRUMZHEG_PROFILE_MOST {PROFILE_MOST}\n")));
 }

@@ -1,5 +1,5 @@
 -- `lines::answer_event` meets its contract: each arm is given which event it is, and its time in whole milliseconds. Assumes nothing.
-use Rattle.answering.specs.Run.{callOf}
+use Rattle.answering.specs.Run.{recordCall}
 use borrow.Author.Needs.{needs}
 use Rattle.answering.proofs.answer_event.Statement.{statement}
 use Rattle.answering.proofs.answer_event.Tie as tie
@@ -62,42 +62,42 @@ same-length : tie.Need-same-length
 same-length c = search needs
 
 returns : tie.Need-returns
-unfolding callOf
+unfolding recordCall
 returns c = rw (c .before .before .before .before .before .before .e .given .1, ← c .before .before .before .milliseconds .ensures) (c .before .before .order .ensures)
 
 same-length-2 : tie.Need-same-length-2
 same-length-2 c = search needs
 
 returns-2 : tie.Need-returns-2
-unfolding callOf
+unfolding recordCall
 returns-2 c = rw (c .before .before .before .before .before .before .e2 .given .1, ← c .before .before .before .offered .ensures) (c .before .before .offer .ensures)
 
 same-length-3 : tie.Need-same-length-3
 same-length-3 c = search needs
 
 returns-3 : tie.Need-returns-3
-unfolding callOf
+unfolding recordCall
 returns-3 c = rw (c .before .before .before .before .before .before .e3 .given .1, ← c .before .before .before .milliseconds2 .ensures) (c .before .before .lockout .ensures)
 
 same-length-4 : tie.Need-same-length-4
 same-length-4 c = search needs
 
 returns-4 : tie.Need-returns-4
-unfolding callOf
+unfolding recordCall
 returns-4 c = rw (c .before .before .before .before .before .before .e4 .given .1, ← c .before .before .before .before .offered2 .ensures) (c .before .before .send .ensures)
 
 same-length-5 : tie.Need-same-length-5
 same-length-5 c = search needs
 
 returns-5 : tie.Need-returns-5
-unfolding callOf
+unfolding recordCall
 returns-5 c = rw (c .before .before .before .before .before .before .e5 .given .1, ← c .before .before .before .milliseconds3 .ensures) (c .before .before .report .ensures)
 
 same-length-6 : tie.Need-same-length-6
 same-length-6 c = search needs
 
 returns-6 : tie.Need-returns-6
-unfolding callOf
+unfolding recordCall
 returns-6 c = rw (c .before .before .before .before .before .before .e6 .given .1, ← c .before .before .before .milliseconds4 .ensures) (c .before .before .close .ensures)
 
 pub answer-event-spec : {M : Type 1} → statement M

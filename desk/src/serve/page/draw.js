@@ -40,11 +40,24 @@ export function draw(state, sort) {
   locks(armed);
   rules(armed, sort);
   orders(armed.away);
+  account(armed.account);
   $("drawn").textContent = `at ${armed.at}`;
   $("armed-from").textContent = `The profile, ${state.profile.name}`;
   $("armed-text").textContent = state.profile.text;
   resets(state.resets);
   lines(state);
+}
+
+// What each root and the firm have come to; the first row has the names of the columns.
+function account([heads, ...rows]) {
+  const row = (cells, name) => {
+    const own = element("tr");
+    own.append(...cells.map((cell) => element(name, cell)));
+    if (name === "th") own.childNodes.forEach((cell) => cell.setAttribute("scope", "col"));
+    return own;
+  };
+  $("account-heads").replaceChildren(row(heads, "th"));
+  $("account-rows").replaceChildren(...rows.map((cells) => row(cells, "td")));
 }
 
 // What each reset does, as the desk says it.

@@ -1,0 +1,2 @@
+pub mod Accounted
+pub mod Inner

@@ -1,0 +1,9 @@
+pub mod Table
+pub mod Limits
+pub mod Roots
+pub mod Sums
+pub mod Words
+pub mod Bounds
+pub mod Greatests
+pub mod Additions
+pub mod Counts
