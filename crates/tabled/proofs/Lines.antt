@@ -15,6 +15,7 @@ use Rattle.state.proofs.Map.{decode-is}
 use Rattle.calls.specs.Calls.{memoryRefusal}
 use Rattle.answering.specs.Lines.{spaced}
 use Rattle.accounted.specs.Accounted.{isShortAccount}
+use Rattle.figures.specs.Account.{rowPlace}
 use Rattle.tabled.specs.Tabled.{rowNames, rowLine, figuresPlace, tableLine}
 
 -- the names, as the code reads them
@@ -61,7 +62,7 @@ module _ (xs account : List ℕ) (i : ℕ) (room : List ℕ) where
 
       pub root-line : i < roots → {name : ℕ} → name ≡ getD (rowNames xs) i 0
           → nameBytes name ++ spaced (take 8 (drop (i * 8) account)) ≡ tableLine xs account i
-      unfolding tableLine isShortAccount rootsIn rowLine figuresPlace
+      unfolding tableLine isShortAccount rootsIn rowLine figuresPlace rowPlace
       root-line h e = rw (
         le-ltb (length account) 520 long,
         ready,
@@ -72,7 +73,7 @@ module _ (xs account : List ℕ) (i : ℕ) (room : List ℕ) where
 
       pub firm-line : i ≤ roots → roots ≤ i → {name : ℕ} → name ≡ getD (rowNames xs) i 0
           → nameBytes name ++ spaced (take 8 (drop 512 account)) ≡ tableLine xs account i
-      unfolding tableLine isShortAccount rootsIn rowLine figuresPlace
+      unfolding tableLine isShortAccount rootsIn rowLine figuresPlace rowPlace
       firm-line a b e = rw (
         le-ltb (length account) 520 long,
         ready,

@@ -1,5 +1,5 @@
 -- The day's table: what a record leaves of a unit's memory and of its account, and the line of each row. Assumes nothing.
-use Prim.Native.Nat.{ℕ, _*_}
+use Prim.Native.Nat.{ℕ}
 use mathlib.Core.Bool.{not, cond, _||_}
 use mathlib.Core.List.{List, [], _∷_, _++_}
 use lib.ListN.{length, getD, take, drop}
@@ -7,7 +7,9 @@ use lib.Dec.{eqb, ltb}
 use Rattle.text.specs.Digits.{nameBytes}
 use Rattle.machine.specs.declared.Answer.{Answer}
 use Rattle.machine.specs.declared.Answer.the-variants.{Refused}
+use Rattle.rules.specs.declared.Level.the-variants.{Firm, Root}
 use Rattle.state.specs.State.{decode}
+use Rattle.figures.specs.Account.{rowPlace}
 use Rattle.calls.specs.Calls.{memoryRefusal}
 use Rattle.records.specs.Event16.{read16Of, read16Refusal}
 use Rattle.records.specs.declared.Reading16.{Reading16}
@@ -43,7 +45,7 @@ rowLine name account at = nameBytes name ++ spaced (figuresAt account at)
 
 -- where the figures of row i stand: the firm's row is the last of an account, whatever roots there are
 unfoldable pub figuresPlace : List ℕ → ℕ → ℕ
-figuresPlace xs i = cond (ltb i (length (decode xs .part .profile .roots))) (i * 8) 512
+figuresPlace xs i = cond (ltb i (length (decode xs .part .profile .roots))) (rowPlace (Root i)) (rowPlace Firm)
 
 -- line i of the table: nothing past the firm's, and nothing of memory or an account that is refused
 unfoldable pub tableLine : List ℕ → List ℕ → ℕ → List ℕ
