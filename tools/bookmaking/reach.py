@@ -55,7 +55,8 @@ class Sources:
 
     def lookup(self, file, name):
         """An item, the kit's module as text, or None."""
-        spelled = [name, f"_{name}_", f"_{name}", f"{name}_"]
+        several = [known for known in (*file.items, *file.imports) if known.count("_") > 2 and name in known.split("_")]
+        spelled = [name, f"_{name}_", f"_{name}", f"{name}_", *several]
         for form in spelled:
             if form in file.items:
                 return file.items[form]

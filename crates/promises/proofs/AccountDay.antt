@@ -29,10 +29,10 @@ use Rattle.accounted.specs.Accounted.{callOf, isShortAccount, lentRefusal, acco
 use Rattle.promises.specs.AnyDay.{AnyCall, arm, text, state, called, afterAny, anyFrom, anyDayOf, AnyPromised}
 use Rattle.promises.specs.AccountDay.{AccountCall, plain, keeping, isForAccount, AccountDay, accountEvent, afterAccount, accountFrom, plainCalls, begins, IsKept, SameDay, ForItsAccount, AccountDayPromised}
 use Rattle.promises.specs.Refusals.{Short}
-use Rattle.promises.specs.AccountRefusals.{ShortAccount, AccountRefusals}
+use Rattle.promises.specs.AccountRefusals.{ShortAccount}
 use Rattle.promises.proofs.Marked.{sound-marked}
 use Rattle.promises.proofs.Holds.{Holds, holds-ready, call-holds, arm-holds}
-use Rattle.promises.proofs.AccountRefusals.{account-refusals}
+use Rattle.promises.proofs.AccountRefusals.{why-one, why-two}
 use Rattle.promises.proofs.Counted.{refused-memory, refused-account, refusal-is}
 use Rattle.promises.proofs.Day.{any-day-promised}
 
@@ -150,9 +150,6 @@ reason memory account call ready h left =
     let is = refusal-is (accountedAnswer memory account call) (for-account (accountedAnswer memory account call) h) in
     go (is .0) (is .1) (eqb (is .0) 1) (eqb (is .0) 2) refl refl (rw (is .1) at h)
   where
-    why : AccountRefusals memory account call
-    why = account-refusals memory account call
-
     short : Short memory ⊎ ShortAccount account → ShortAccount account
     short (inl e) = absurd (omega (arith, e, sound-long memory ready))
     short (inr e) = e
@@ -166,10 +163,10 @@ reason memory account call ready h left =
         ⊎ (accountedAnswer memory account call ≡ Refused 21)
     go n e true b ea eb h =
         let one : accountedAnswer memory account call ≡ Refused 1 = e ∙ ap Refused (eqb-true n 1 ea) in
-        inl (one, short (why .one .0 (ap numbers one)))
+        inl (one, short (why-one memory account call one))
     go n e false true ea eb h =
         let two : accountedAnswer memory account call ≡ Refused 2 = e ∙ ap Refused (eqb-true n 2 eb) in
-        inr (inl (two, above (why .two .0 (ap numbers two) .1 .1)))
+        inr (inl (two, above (why-two memory account call two)))
     go n e false false ea eb h = inr (inr (e ∙ ap Refused (eqb-true n 21 (rw (ea, eb) at h))))
 
 -- a day on memory that holds a state

@@ -17,26 +17,20 @@ use Rattle.figures.specs.Account.{accountSize, isAccount}
 use Rattle.figures.specs.Levels.{Above}
 use Rattle.figures.proofs.Limits.{within-passes, fails-above, above-fails}
 use Rattle.accounted.specs.Accounted.{isShortAccount, lentRefusal}
-use Rattle.promises.specs.Refusals.{Short, Unmarked, Marked}
-use Rattle.promises.specs.AccountRefusals.{ShortAccount, LongAccount, Countable}
-use Rattle.promises.proofs.Tests.{Tells, either-tells, or-tells, first-at}
+use Rattle.promises.specs.Refusals.{Short, _when_else_}
+use Rattle.promises.specs.AccountRefusals.{ShortAccount}
+use Rattle.promises.proofs.Tests.{Tells, either-tells, or-tells}
+use Rattle.promises.proofs.Gives.{Leads, ends, tested}
 use Rattle.promises.proofs.Refusals.{short-tells, long-tells, unmarked-tells, marked-tells, unsound-tells}
 
--- the first of these three tests gives no other number
-other : (n : ℕ) → (n ≡ 1 → ⊥) → (n ≡ 4 → ⊥) → (n ≡ 2 → ⊥) → (n ≡ 0 → ⊥) → (a b c : Bool) → cond a 1 (cond b 4 (cond c 2 0)) ≡ n → ⊥
-other n one four two none true b c e = one (sym e)
-other n one four two none false true c e = four (sym e)
-other n one four two none false false true e = two (sym e)
-other n one four two none false false false e = none (sym e)
+-- the account memory is long enough
+abbrev pub LongAccount : List ℕ → Type 0
+LongAccount account = accountSize ≤ length account
 
 module _ (memory account : List ℕ) where
   pub short-account : Tells (isShortAccount account) (ShortAccount account)
   unfolding isShortAccount
   short-account = (ltb-true (length account) accountSize, lt-ltb (length account) accountSize)
-
-  long-account : (isShortAccount account ≡ false) ↔ LongAccount account
-  unfolding isShortAccount
-  long-account = (ltb-false (length account) accountSize, le-ltb (length account) accountSize)
 
   above-account : Tells (not (isAccount account)) (Above account)
   above-account = (λ e. fails-above account (not-true _ e), λ h. ap not (above-fails account h))
@@ -44,38 +38,37 @@ module _ (memory account : List ℕ) where
   shorts : Tells (isShort memory || isShortAccount account) (Short memory ⊎ ShortAccount account)
   shorts = either-tells (isShort memory) (isShortAccount account) (short-tells memory) short-account
 
-  -- neither is short
-  longs : ((isShort memory || isShortAccount account) ≡ false) ↔ ((size ≤ length memory) × LongAccount account)
-  longs = (
-    λ e. let o = or-no (isShort memory) (isShortAccount account) e in (long-tells memory .0 (o .0), long-account .0 (o .1)),
-    λ h. rw (long-tells memory .1 (h .0), long-account .1 (h .1)),
-  )
+  faults : Tells (not (isSound memory && isAccount account)) ((Sound memory → ⊥) ⊎ Above account)
+  faults = or-tells (isSound memory) (isAccount account) (unsound-tells memory) above-account
 
-  abbrev lentTests : List (Bool × ℕ)
-  lentTests = (isShort memory || isShortAccount account, 1) ∷ (eqb (markOf memory) 0, 4) ∷ (not (isSound memory && isAccount account), 2) ∷ []
+  -- 1, 4 and 2, and what comes after them
+  pub lent-leads : (r : ℕ) (after : ℕ → Type 0)
+      → Leads r after (lentRefusal memory account)
+      (1 when (Short memory ⊎ ShortAccount account) else 4 when (markOf memory ≡ 0) else 2 when ((Sound memory → ⊥) ⊎ Above account) else after)
+  unfolding lentRefusal firstOf
+  lent-leads r after =
+      tested r after (isShort memory || isShortAccount account) 0 _ shorts
+      (tested r after (eqb (markOf memory) 0) 3 _ (unmarked-tells memory) (tested r after (not (isSound memory && isAccount account)) 1 0 faults (ends r after)))
 
-  pub lent-one : (lentRefusal memory account ≡ 1) ↔ (Short memory ⊎ ShortAccount account)
-  unfolding lentRefusal
-  lent-one =
-      Iff·trans (first-at [] (isShort memory || isShortAccount account) 1 _ tt (tt, (tt, tt)) tt) (λ h. shorts .0 (h .1), λ h. (tt, shorts .1 h))
+  pub lent-one : lentRefusal memory account ≡ 1 → Short memory ⊎ ShortAccount account
+  unfolding lentRefusal firstOf
+  lent-one = go (isShort memory || isShortAccount account) refl (eqb (markOf memory) 0) (not (isSound memory && isAccount account))
+    where
+      go : (a : Bool) → (isShort memory || isShortAccount account) ≡ a → (b c : Bool) → _≡_ {A = ℕ} (cond a 1 (cond b 4 (cond c 2 0))) 1 → Short memory ⊎ ShortAccount account
+      go true s b c e = shorts .0 s
+      go false s true c e = absurd (omega arith)
+      go false s false true e = absurd (omega arith)
+      go false s false false e = absurd (omega arith)
 
-  pub lent-four : (lentRefusal memory account ≡ 4) ↔ (Unmarked memory × LongAccount account)
-  unfolding lentRefusal
-  lent-four =
-      Iff·trans (first-at ((isShort memory || isShortAccount account, 1) ∷ []) (eqb (markOf memory) 0) 4 _ (tt, tt) (tt, tt) tt) (
-        λ h. let l = longs .0 (h .0 .0) in ((l .0, unmarked-tells memory .0 (h .1)), l .1),
-        λ h. ((longs .1 (h .0 .0, h .1), tt), unmarked-tells memory .1 (h .0 .1)),
-      )
-
-  pub lent-two : (lentRefusal memory account ≡ 2) ↔ (Marked memory × (LongAccount account × ((Sound memory → ⊥) ⊎ Above account)))
-  unfolding lentRefusal
-  lent-two =
-      let fault = or-tells (isSound memory) (isAccount account) (unsound-tells memory) above-account in
-      Iff·trans
-      (first-at ((isShort memory || isShortAccount account, 1) ∷ (eqb (markOf memory) 0, 4) ∷ []) (not (isSound memory && isAccount account)) 2 [] (tt, (tt, tt)) tt tt) (
-        λ h. let l = longs .0 (h .0 .0) in ((l .0, marked-tells memory .0 (h .0 .1 .0)), (l .1, fault .0 (h .1))),
-        λ h. ((longs .1 (h .0 .0, h .1 .0), (marked-tells memory .1 (h .0 .1), tt)), fault .1 (h .1 .1)),
-      )
+  pub lent-two : lentRefusal memory account ≡ 2 → (Sound memory → ⊥) ⊎ Above account
+  unfolding lentRefusal firstOf
+  lent-two = go (isShort memory || isShortAccount account) (eqb (markOf memory) 0) (not (isSound memory && isAccount account)) refl
+    where
+      go : (a b c : Bool) → not (isSound memory && isAccount account) ≡ c → _≡_ {A = ℕ} (cond a 1 (cond b 4 (cond c 2 0))) 2 → (Sound memory → ⊥) ⊎ Above account
+      go true b c s e = absurd (omega arith)
+      go false true c s e = absurd (omega arith)
+      go false false true s e = faults .0 s
+      go false false false s e = absurd (omega arith)
 
   -- memory that meets no refusal leaves those of the account
   pub lent-account : memoryRefusal memory ≡ 0 → lentRefusal memory account ≡ cond (isShortAccount account) 1 (cond (not (isAccount account)) 2 0)
@@ -89,16 +82,3 @@ module _ (memory account : List ℕ) where
       go false true c h = absurd (omega arith)
       go false false false h = absurd (omega arith)
       go false false true h = refl
-
-  -- so with an account that may be counted in there is none
-  pub lent-none : memoryRefusal memory ≡ 0 → Countable account → lentRefusal memory account ≡ 0
-  lent-none ready may = lent-account ready ∙ rw (long-account .1 (may .0), within-passes account (may .1))
-
-  module _ (n : ℕ) (one : n ≡ 1 → ⊥) (four : n ≡ 4 → ⊥) (two : n ≡ 2 → ⊥) (none : n ≡ 0 → ⊥) where
-    pub lent-other : lentRefusal memory account ≡ n → ⊥
-    unfolding lentRefusal firstOf
-    lent-other e = other n one four two none (isShort memory || isShortAccount account) (eqb (markOf memory) 0) (not (isSound memory && isAccount account)) e
-
-    pub memory-other : memoryRefusal memory ≡ n → ⊥
-    unfolding memoryRefusal firstOf
-    memory-other e = other n one four two none (isShort memory) (eqb (markOf memory) 0) (not (isSound memory)) e

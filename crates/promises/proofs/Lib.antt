@@ -1,4 +1,5 @@
 pub mod Tests
+pub mod Gives
 pub mod Marked
 pub mod Judged
 pub mod Answered

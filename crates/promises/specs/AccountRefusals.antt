@@ -10,23 +10,16 @@ use Rattle.rules.specs.declared.Level.{Level}
 use Rattle.machine.specs.Calls.{Call}
 use Rattle.machine.specs.Judge.{numbers, isRefusal}
 use Rattle.state.specs.Sound.{Sound}
-use Rattle.calls.specs.Calls.{callAnswer, callMemory}
+use Rattle.calls.specs.Calls.{markOf, callAnswer, callMemory}
 use Rattle.figures.specs.Account.{accountSize, most, rowOf, accountAfter}
 use Rattle.figures.specs.Levels.{HasRow, columns, figureAt, WithinMost, Above}
 use Rattle.figures.specs.History.{addedTo}
 use Rattle.accounted.specs.Accounted.{happeningIn, accountedAnswer, accountedMemory, accountAfterCall}
-use Rattle.promises.specs.Refusals.{refusalRow, Short, Unmarked, Marked}
+use Rattle.promises.specs.Refusals.{refusalRow, Short, Holding, _when_else_, none, refusalsOf}
 
 -- 1: the account memory is short
 abbrev pub ShortAccount : List ℕ → Type 0
 ShortAccount account = length account < accountSize
-
-abbrev pub LongAccount : List ℕ → Type 0
-LongAccount account = accountSize ≤ length account
-
--- an account that a call may count in: long enough, and no figure of any row is above 10^18
-abbrev pub Countable : List ℕ → Type 0
-Countable account = LongAccount account × WithinMost account
 
 -- 21: with the call counted, some figure of some row would pass 10^18
 unfoldable pub Passing : List ℕ → List ℕ → Call → Type 0
@@ -36,32 +29,16 @@ Passing memory account call =
     × ((column : ℕ)
     × ((column < columns) × (most < figureAt (rowOf account level) column + figureAt (addedTo level (happeningIn memory call)) column))))
 
--- the numbers that the plain call refuses by: none of those that memory and account are refused by, and not 21
-pub record Plain (n : ℕ) : Type 0 where
-  pub notShort : n ≡ 1 → ⊥
-  pub notUnmarked : n ≡ 4 → ⊥
-  pub notUnsound : n ≡ 2 → ⊥
-  pub notFull : n ≡ 21 → ⊥
+-- 1, 4 and 2 are for the memory or the account, then come the refusals of the plain call, and last 21
+abbrev pub accountRefusals : List ℕ → List ℕ → Call → ℕ → Type 0
+accountRefusals memory account call =
+    1 when (Short memory ⊎ ShortAccount account) else 4 when (markOf memory ≡ 0) else 2 when ((Sound memory → ⊥) ⊎ Above account) else
+    (λ n. Holding memory (λ s. refusalsOf s call (21 when Passing memory account call else none) n))
 
 pub record AccountRefusals (memory account : List ℕ) (call : Call) : Type 0 where
-  pub one : (numbers (accountedAnswer memory account call) ≡ refusalRow 1) ↔ (Short memory ⊎ ShortAccount account)
-  pub four : (numbers (accountedAnswer memory account call) ≡ refusalRow 4) ↔ (Unmarked memory × LongAccount account)
-  pub two :
-      (numbers (accountedAnswer memory account call) ≡ refusalRow 2)
-      ↔ (Marked memory × (LongAccount account × ((Sound memory → ⊥) ⊎ Above account)))
-  -- every other number but 21 exactly where the plain call has it, with an account that may be counted in
-  pub plain :
-      (n : ℕ) → Plain (suc n)
-      → (numbers (accountedAnswer memory account call) ≡ refusalRow (suc n))
-      ↔ (Countable account × (numbers (callAnswer memory call) ≡ refusalRow (suc n)))
-  -- 21 exactly if no other refusal comes, and a figure would pass 10^18
-  pub twentyone :
-      (numbers (accountedAnswer memory account call) ≡ refusalRow 21)
-      ↔ (Countable account × ((isRefusal (callAnswer memory call) ≡ false) × Passing memory account call))
-  -- and it is not refused exactly if none of these holds
-  pub accepted :
-      (isRefusal (accountedAnswer memory account call) ≡ false)
-      ↔ (Countable account × ((isRefusal (callAnswer memory call) ≡ false) × (Passing memory account call → ⊥)))
+  -- it is refused with a number exactly if these give it, and not refused exactly if they give none
+  pub refused : (n : ℕ) → (numbers (accountedAnswer memory account call) ≡ refusalRow (suc n)) ↔ accountRefusals memory account call (suc n)
+  pub accepted : (isRefusal (accountedAnswer memory account call) ≡ false) ↔ accountRefusals memory account call 0
   -- then it answers as the plain call does and leaves the memory that this leaves, and the account has counted it
   pub done :
       isRefusal (accountedAnswer memory account call) ≡ false

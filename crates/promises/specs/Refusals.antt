@@ -6,7 +6,7 @@ use mathlib.Core.Logic.{_↔_, _⊎_}
 use mathlib.Core.Bool.{Bool, true, false}
 use mathlib.Core.List.{List, [], _∷_, _++_, List·Memᴰ}
 use lib.ListN.{length, getD, take}
-use Rattle.measures.specs.Ranges.{In, times, units, premiums, offers, identities, reportsAsked}
+use Rattle.measures.specs.Ranges.{Range, In, times, units, premiums, offers, identities, reportsAsked}
 use Rattle.rules.specs.Valid.{hasRate}
 use Rattle.rules.specs.declared.Level.the-variants.{Firm, Root}
 use Rattle.text.specs.Text.{lines}
@@ -54,131 +54,84 @@ HoldsState s xs = SoundState s × (take size xs ≡ encode s)
 abbrev pub Holding : List ℕ → (State → Type 0) → Type 0
 Holding xs P = (s : State) × (HoldsState s xs × P s)
 
+-- ---- the order of the numbers
+
+-- a number is given if its sentence holds, and else what comes after it decides: so each number is given exactly if its sentence is the first that
+-- holds, and `none` gives 0
+infixr 1 _when_else_
+abbrev pub _when_else_ : ℕ → Type 0 → (ℕ → Type 0) → ℕ → Type 0
+_when_else_ number sentence after n = ((n ≡ number) × sentence) ⊎ ((sentence → ⊥) × after n)
+
+abbrev pub none : ℕ → Type 0
+none n = n ≡ 0
+
 -- ---- the calls on an armed unit
 
--- a time out of range or below the clock
+-- 12: a time out of range or below the clock
 abbrev pub BadTime : State → ℕ → Type 0
 BadTime s time = (times .most < time) ⊎ (time < s .part .clock)
 
--- 12: the call's time is such
-unfoldable pub Untimely : State → Call → Type 0
-Untimely s (order time root reset) = BadTime s time
-Untimely s (lockout time level root) = BadTime s time
-Untimely s (offer o) = BadTime s (o .time)
-Untimely s (remaining time rule unit) = BadTime s time
-Untimely s status = ⊥
-Untimely s (send o identity reports) = BadTime s (o .time)
-Untimely s (report time identity n) = BadTime s time
-Untimely s (close time identity) = BadTime s time
+-- 13: a root, a unit or an identity that is not known
+abbrev pub NoRoot : State → ℕ → Type 0
+NoRoot s root = rootsIn s ≤ root
 
--- 13: a root, unit, rule, level, reset or identity number that is not known; at level 1 the root must be 0, and what remains is asked for a unit of
--- the rule
-unfoldable pub Unknown : State → Call → Type 0
-Unknown s (order time root reset) = (rootsIn s ≤ root) ⊎ (lastReset < reset)
-Unknown s (lockout time level root) = (1 < level) ⊎ ((level ≡ 0) × (rootsIn s ≤ root)) ⊎ ((level ≡ 1) × (0 < root))
-Unknown s (offer o) = (rootsIn s ≤ o .root) ⊎ (units .most < o .unit)
-Unknown s (remaining time rule unit) = (length (rulesIn s) ≤ rule) ⊎ (List·Memᴰ unit (unitsOf (ruleNumbered (rulesIn s) rule .scope)) → ⊥)
-Unknown s status = ⊥
-Unknown s (send o identity reports) = (rootsIn s ≤ o .root) ⊎ (units .most < o .unit) ⊎ (identities .most < identity)
-Unknown s (report time identity n) = identities .most < identity
-Unknown s (close time identity) = identities .most < identity
+abbrev pub NoUnit : ℕ → Type 0
+NoUnit unit = units .most < unit
 
--- 14: premium, contracts or the number of reports out of range
-unfoldable pub Unpriced : State → Call → Type 0
-Unpriced s (order time root reset) = ⊥
-Unpriced s (lockout time level root) = ⊥
-Unpriced s (offer o) = (In premiums (o .premium) → ⊥) ⊎ (In offers (o .contracts) → ⊥)
-Unpriced s (remaining time rule unit) = ⊥
-Unpriced s status = ⊥
-Unpriced s (send o identity reports) = (In premiums (o .premium) → ⊥) ⊎ (In offers (o .contracts) → ⊥) ⊎ (In reportsAsked reports → ⊥)
-Unpriced s (report time identity n) = In offers n → ⊥
-Unpriced s (close time identity) = ⊥
+abbrev pub NoIdentity : ℕ → Type 0
+NoIdentity identity = identities .most < identity
 
--- 17: the register has no place left for an order to be sent away
-unfoldable pub RegisterFull : State → Call → Type 0
-RegisterFull s (order time root reset) = ⊥
-RegisterFull s (lockout time level root) = ⊥
-RegisterFull s (offer o) = ⊥
-RegisterFull s (remaining time rule unit) = ⊥
-RegisterFull s status = ⊥
-RegisterFull s (send o identity reports) = registerPlaces ≤ length (s .part .register)
-RegisterFull s (report time identity n) = ⊥
-RegisterFull s (close time identity) = ⊥
+-- 14: a premium, contracts or a number of reports out of its range
+abbrev pub NotIn : Range → ℕ → Type 0
+NotIn range n = In range n → ⊥
 
--- 18: the identity is open where one is sent, or not open where it is reported or closed
-unfoldable pub Misnamed : State → Call → Type 0
-Misnamed s (order time root reset) = ⊥
-Misnamed s (lockout time level root) = ⊥
-Misnamed s (offer o) = ⊥
-Misnamed s (remaining time rule unit) = ⊥
-Misnamed s status = ⊥
-Misnamed s (send o identity reports) = isOpen (s .part .register) identity ≡ true
-Misnamed s (report time identity n) = isOpen (s .part .register) identity ≡ true → ⊥
-Misnamed s (close time identity) = isOpen (s .part .register) identity ≡ true → ⊥
+-- 18: an order of this identity is open away
+abbrev pub Open : State → ℕ → Type 0
+Open s identity = isOpen (s .part .register) identity ≡ true
 
 -- 19: more contracts are reported than the order has open, or none of its reports is left
-unfoldable pub Overdrawn : State → Call → Type 0
-Overdrawn s (order time root reset) = ⊥
-Overdrawn s (lockout time level root) = ⊥
-Overdrawn s (offer o) = ⊥
-Overdrawn s (remaining time rule unit) = ⊥
-Overdrawn s status = ⊥
-Overdrawn s (send o identity reports) = ⊥
-Overdrawn s (report time identity n) =
-    (sentAt (s .part .register) identity .contracts .0 < n) ⊎ (sentAt (s .part .register) identity .reports ≡ 0)
-Overdrawn s (close time identity) = ⊥
+abbrev pub Overdrawn : State → ℕ → ℕ → Type 0
+Overdrawn s identity n = (sentAt (s .part .register) identity .contracts .0 < n) ⊎ (sentAt (s .part .register) identity .reports ≡ 0)
 
--- the fill or the order is not locked out, the profile has a rate rule, and so many places more than the use at its time are more than 512
+-- 15: the fill or the order is not locked out, the profile has a rate rule, and so many places more than the use at its time are more than 512
 pub record NoPlaces (s : State) (o : Offer) (places : ℕ) : Type 0 where
   pub firmFree : isLocked (s .part .locks) Firm ≡ false
   pub rootFree : isLocked (s .part .locks) (Root (o .root)) ≡ false
   pub rated : hasRate (rulesIn s) ≡ true
   pub full : logPlaces < used s (o .time) + places
 
--- 15: log full, for an offer that would be granted something and so needs one place, and for an order sent away with as many as it has reports
-unfoldable pub LogFull : State → Call → Type 0
-LogFull s (order time root reset) = ⊥
-LogFull s (lockout time level root) = ⊥
-LogFull s (offer o) = (0 < grantOf (s .log) o (s .part .accounts)) × NoPlaces s o 1
-LogFull s (remaining time rule unit) = ⊥
-LogFull s status = ⊥
-LogFull s (send o identity reports) = NoPlaces s o reports
-LogFull s (report time identity n) = ⊥
-LogFull s (close time identity) = ⊥
+-- what each call on a sound state is refused for, in the order in which it looks, and what may come after. At level 1 of a lockout the root must be 0;
+-- what remains is asked for a unit of the rule; an offer that would be granted something needs one place, an order sent away as many as it has reports
+unfoldable pub refusalsOf : State → Call → (ℕ → Type 0) → ℕ → Type 0
+refusalsOf s (order time root reset) after = 12 when BadTime s time else 13 when (NoRoot s root ⊎ (lastReset < reset)) else after
+refusalsOf s (lockout time level root) after =
+    12 when BadTime s time else 13 when ((1 < level) ⊎ ((level ≡ 0) × NoRoot s root) ⊎ ((level ≡ 1) × (0 < root))) else after
+refusalsOf s (offer o) after =
+    12 when BadTime s (o .time) else 13 when (NoRoot s (o .root) ⊎ NoUnit (o .unit)) else 14 when (NotIn premiums (o .premium) ⊎ NotIn offers (o .contracts)) else
+    15 when ((0 < grantOf (s .log) o (s .part .accounts)) × NoPlaces s o 1) else after
+refusalsOf s (remaining time rule unit) after =
+    12 when BadTime s time else
+    13 when ((length (rulesIn s) ≤ rule) ⊎ (List·Memᴰ unit (unitsOf (ruleNumbered (rulesIn s) rule .scope)) → ⊥)) else after
+refusalsOf s status after = after
+refusalsOf s (send o identity reports) after =
+    12 when BadTime s (o .time) else 13 when (NoRoot s (o .root) ⊎ NoUnit (o .unit) ⊎ NoIdentity identity) else
+    14 when (NotIn premiums (o .premium) ⊎ NotIn offers (o .contracts) ⊎ NotIn reportsAsked reports) else
+    17 when (registerPlaces ≤ length (s .part .register)) else 18 when Open s identity else 15 when NoPlaces s o reports else after
+refusalsOf s (report time identity n) after =
+    12 when BadTime s time else 13 when NoIdentity identity else 14 when NotIn offers n else
+    18 when (Open s identity → ⊥) else 19 when Overdrawn s identity n else after
+refusalsOf s (close time identity) after =
+    12 when BadTime s time else 13 when NoIdentity identity else 18 when (Open s identity → ⊥) else after
 
--- what a call has met that was not refused by the numbers up to one
-abbrev pub Timely : State → Call → Type 0
-Timely s call = Untimely s call → ⊥
+-- before these it looks for 1, 4 and 2
+abbrev pub callRefusals : List ℕ → Call → ℕ → Type 0
+callRefusals xs call =
+    1 when Short xs else 4 when (markOf xs ≡ 0) else 2 when (Sound xs → ⊥) else (λ n. Holding xs (λ s. refusalsOf s call none n))
 
-abbrev pub Known : State → Call → Type 0
-Known s call = Timely s call × (Unknown s call → ⊥)
-
-abbrev pub Priced : State → Call → Type 0
-Priced s call = Known s call × (Unpriced s call → ⊥)
-
-abbrev pub Placed : State → Call → Type 0
-Placed s call = Priced s call × (RegisterFull s call → ⊥)
-
-abbrev pub Named : State → Call → Type 0
-Named s call = Placed s call × (Misnamed s call → ⊥)
-
-abbrev pub Covered : State → Call → Type 0
-Covered s call = Named s call × (Overdrawn s call → ⊥)
-
--- every call on an armed unit looks for 1, 4, 2, 12, 13, 14, 17, 18, 19, 15, in this order
+-- a call on an armed unit is refused with a number exactly if these give it, and not refused exactly if they give none
 pub record CallRefusals (xs : List ℕ) (call : Call) : Type 0 where
-  pub one : (numbers (callAnswer xs call) ≡ refusalRow 1) ↔ Short xs
-  pub four : (numbers (callAnswer xs call) ≡ refusalRow 4) ↔ Unmarked xs
-  pub two : (numbers (callAnswer xs call) ≡ refusalRow 2) ↔ (Marked xs × (Sound xs → ⊥))
-  pub twelve : (numbers (callAnswer xs call) ≡ refusalRow 12) ↔ Holding xs (λ s. Untimely s call)
-  pub thirteen : (numbers (callAnswer xs call) ≡ refusalRow 13) ↔ Holding xs (λ s. Timely s call × Unknown s call)
-  pub fourteen : (numbers (callAnswer xs call) ≡ refusalRow 14) ↔ Holding xs (λ s. Known s call × Unpriced s call)
-  pub seventeen : (numbers (callAnswer xs call) ≡ refusalRow 17) ↔ Holding xs (λ s. Priced s call × RegisterFull s call)
-  pub eighteen : (numbers (callAnswer xs call) ≡ refusalRow 18) ↔ Holding xs (λ s. Placed s call × Misnamed s call)
-  pub nineteen : (numbers (callAnswer xs call) ≡ refusalRow 19) ↔ Holding xs (λ s. Named s call × Overdrawn s call)
-  pub fifteen : (numbers (callAnswer xs call) ≡ refusalRow 15) ↔ Holding xs (λ s. Covered s call × LogFull s call)
-  -- and it is not refused exactly if none of these holds
-  pub accepted : (isRefusal (callAnswer xs call) ≡ false) ↔ Holding xs (λ s. Covered s call × (LogFull s call → ⊥))
+  pub refused : (n : ℕ) → (numbers (callAnswer xs call) ≡ refusalRow (suc n)) ↔ callRefusals xs call (suc n)
+  pub accepted : (isRefusal (callAnswer xs call) ≡ false) ↔ callRefusals xs call 0
 
 -- ---- Arm
 
