@@ -30,8 +30,6 @@ use Rattle.rules.proofs.Rule.place_of.Kinds as rule-place-of-kinds
 use Rattle.rules.proofs.Rule.place_of.Reads as rule-place-of-reads
 use Rattle.rules.proofs.Rule.of_unit.Kinds as rule-of-unit-kinds
 use Rattle.rules.proofs.Rule.of_unit.Reads as rule-of-unit-reads
-use Rattle.rules.proofs.Rule.overrun.Kinds as rule-overrun-kinds
-use Rattle.rules.proofs.Rule.overrun.Reads as rule-overrun-reads
 
 pub rule-covers : Determines 0 rule-covers-kinds.ps rule-covers-kinds.r rule-covers-reads.Asked rule-covers-reads.Learnt
 rule-covers κs args asked x y u v p q = (alike p q, refl)
@@ -74,6 +72,3 @@ rule-place-of κs args asked x y u v p q = (alike p q, refl)
 
 pub rule-of-unit : Determines 0 rule-of-unit-kinds.ps rule-of-unit-kinds.r rule-of-unit-reads.Asked rule-of-unit-reads.Learnt
 rule-of-unit κs args asked x y u v p q = (alike p q, refl)
-
-pub rule-overrun : Determines 0 rule-overrun-kinds.ps rule-overrun-kinds.r rule-overrun-reads.Asked rule-overrun-reads.Learnt
-rule-overrun κs args asked x y u v p q = (alike p q, refl)
