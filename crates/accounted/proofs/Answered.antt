@@ -25,8 +25,8 @@ use Rattle.figures.specs.declared.Happening.{Happening}
 use Rattle.figures.specs.declared.Happening.the-variants.{Uncounted}
 use Rattle.figures.specs.Happenings.{happeningOf}
 use Rattle.figures.specs.Account.{accountSize, most, accountAfter, isAccount}
-use Rattle.figures.specs.Inner.Rows.{Counting, greatestOf}
-use Rattle.figures.proofs.Greatests.{greatest-most}
+use Rattle.figures.specs.Inner.Rows.{Counting, greatestOf, boundOf}
+use Rattle.figures.proofs.Greatests.{greatest-most, greatest-bound, bound-above}
 use Rattle.figures.proofs.Counts.{room-fits, nothing-fits}
 use Rattle.accounted.specs.Accounted.{isShortAccount, lentRefusal, openRoot, happeningIn, accountCounted, accountedAnswer, accountedMemory, accountAfterCall}
 use Rattle.accounted.specs.Inner.Lent.{KeptAccount, RoomyAccount, withoutAccount}
@@ -169,21 +169,26 @@ module _ (xs : List ℕ) (call : Call) {r : Answer} {ys : List ℕ} (is : r ≡ 
       unfolding accountCounted
       passed-by over = too-much xs account call kept free (subst (λ (e : Happening). isAccount (accountAfter e account) ≡ false) was over)
 
--- an account by its greatest figure
-module _ (account : List ℕ) {g : ℕ} (long : accountSize ≤ length account) (is : g ≡ greatestOf (take accountSize account)) where
+-- an account by a number that none of its figures passes
+module _ (account : List ℕ) {g : ℕ} (long : accountSize ≤ length account) (is : g ≡ boundOf (take accountSize account)) where
+  under : greatestOf (take accountSize account) ≤ g
+  under = let h = greatest-bound (take accountSize account) in omega (arith, is)
+
   pub kept-by : g ≤ most → KeptAccount account
   unfolding isAccount
   kept-by h = record {
     long = long;
-    is = sym (greatest-most most (take accountSize account)) ∙ le-leb (greatestOf (take accountSize account)) most (omega (arith, h, is));
+    is = sym (greatest-most most (take accountSize account)) ∙ le-leb (greatestOf (take accountSize account)) most (omega (arith, h, under));
   }
 
   pub over-by : most < g → isAccount account ≡ false
   unfolding isAccount
-  over-by h = sym (greatest-most most (take accountSize account)) ∙ lt-leb (greatestOf (take accountSize account)) most (omega (arith, h, is))
+  over-by h =
+      let same = bound-above (take accountSize account) (omega (arith, h, is)) in
+      sym (greatest-most most (take accountSize account)) ∙ lt-leb (greatestOf (take accountSize account)) most (omega (arith, h, is, same))
 
   pub roomy-by : g + 100_000_000_000_000 ≤ most → RoomyAccount account
-  roomy-by h = record { kept = kept-by (omega arith); room = omega (arith, h, is) }
+  roomy-by h = record { kept = kept-by (omega arith); room = omega (arith, h, under) }
 
 -- an account with room counts whatever a call was
 pub room-for : {account : List ℕ} {event : Happening} → RoomyAccount account → Counting account event → isAccount (accountAfter event account) ≡ true

@@ -48,11 +48,11 @@ pub fn apply(m: &mut [u64], a: &mut [u64], e: Event) -> Answer
     if a.len() < figures::SIZE {
         return Answer::Refused(1);
     }
-    let greatest = figures::greatest(&a[..figures::SIZE]);
-    if figures::MOST < greatest {
+    let bound = figures::bound(&a[..figures::SIZE]);
+    if figures::MOST < bound {
         return Answer::Refused(lent::without_account(m));
     }
-    if greatest <= figures::MOST - figures::ADDED_MOST {
+    if bound <= figures::MOST - figures::ADDED_MOST {
         return counted::with_room(m, a, e);
     }
     counted::near_full(m, a, e)

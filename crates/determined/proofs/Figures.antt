@@ -2,15 +2,15 @@
 use mathlib.Core.Path.{refl}
 use Rattle.determined.specs.Determines.{Determines}
 use Rattle.laws.proofs.One.{alike}
-use Rattle.figures.proofs.greatest.Kinds as greatest-kinds
-use Rattle.figures.proofs.greatest.Reads as greatest-reads
+use Rattle.figures.proofs.bound.Kinds as bound-kinds
+use Rattle.figures.proofs.bound.Reads as bound-reads
 use Rattle.figures.proofs.fits.Kinds as fits-kinds
 use Rattle.figures.proofs.fits.Reads as fits-reads
 use Rattle.figures.proofs.count.Kinds as count-kinds
 use Rattle.figures.proofs.count.Reads as count-reads
 
-pub greatest : Determines 1 greatest-kinds.ps greatest-kinds.r greatest-reads.Asked greatest-reads.Learnt
-greatest κs args asked x y u v p q = (alike p q, refl)
+pub bound : Determines 1 bound-kinds.ps bound-kinds.r bound-reads.Asked bound-reads.Learnt
+bound κs args asked x y u v p q = (alike p q, refl)
 
 pub fits : Determines 1 fits-kinds.ps fits-kinds.r fits-reads.Asked fits-reads.Learnt
 fits κs args asked x y u v p q = (alike p q, refl)

@@ -2,7 +2,7 @@
 ghost use mathlib.Core.Path.{_≡_};
 ghost use lib.ListN.{length};
 ghost use Rattle.figures.specs.Account.{accountAfter, isAccount};
-ghost use Rattle.figures.specs.Inner.Rows.{Counting, greatestOf};
+ghost use Rattle.figures.specs.Inner.Rows.{Counting, greatestOf, areLow, boundOf};
 
 mod added;
 mod rows;
@@ -59,8 +59,34 @@ pub enum Happening {
     },
 }
 
+// 2^59: a figure below it is below 10^18 with whatever an event adds.
+const LOW: u64 = 576_460_752_303_423_488;
+
+// Whether all of some numbers are below 2^59: what stands above their 59 lowest bits is joined.
+fn are_low(s: &[u64]) -> bool
+    ensures { λ r. ⌜ r ≡ areLow (now (s .entry)) ⌝ }
+{
+    let mut high: u64 = 0;
+    let mut i: usize = 0;
+    while i < s.len() {
+        high = high | (s[i] / LOW);
+        i += 1;
+    }
+    high == 0
+}
+
+// A number that none of some passes: that of all below 2^59, or else the greatest.
+pub fn bound(s: &[u64]) -> u64
+    ensures { λ r. ⌜ r ≡ boundOf (now (s .entry)) ⌝ }
+{
+    if are_low(s) {
+        return LOW - 1;
+    }
+    greatest(s)
+}
+
 // The greatest of some numbers, 0 of none.
-pub fn greatest(s: &[u64]) -> u64
+fn greatest(s: &[u64]) -> u64
     ensures { λ r. ⌜ r ≡ greatestOf (now (s .entry)) ⌝ }
 {
     let mut most: u64 = 0;

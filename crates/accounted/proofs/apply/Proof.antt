@@ -11,14 +11,14 @@ use Rattle.accounted.proofs.apply.Tie as tie
 returns : tie.Need-returns
 returns c = let s = c .before .before .before .args in short-account (s .m .now) (s .a .now) (callOf (s .e)) (c .if1 .taken)
 
-slice-reshare-prefix-greatest : tie.Need-slice-reshare-prefix-greatest
-slice-reshare-prefix-greatest c = search needs
+slice-reshare-prefix-bound : tie.Need-slice-reshare-prefix-bound
+slice-reshare-prefix-bound c = search needs
 
-slice-aggregate-greatest : tie.Need-slice-aggregate-greatest
-slice-aggregate-greatest c = sym (length-take-le 520 (c .before .before .before .before .args .a .now) (c .before .if1 .left))
+slice-aggregate-bound : tie.Need-slice-aggregate-bound
+slice-aggregate-bound c = sym (length-take-le 520 (c .before .before .before .before .args .a .now) (c .before .if1 .left))
 
-greatest-requires : tie.Need-greatest-requires
-greatest-requires c κs = search needs
+bound-requires : tie.Need-bound-requires
+bound-requires c κs = search needs
 
 without-account-requires : tie.Need-without-account-requires
 without-account-requires c κs = search needs
@@ -32,13 +32,13 @@ same-length-2 c = search needs
 returns-2 : tie.Need-returns-2
 returns-2 c =
     let s = c .before .before .before .before .before .before .before .before .args in
-    not-account (s .m .now) (s .a .now) (callOf (s .e)) (c .before .before .before .before .before .if1 .left) (over-by (s .a .now) (c .before .before .before .before .before .if1 .left) (c .before .before .before .greatest .ensures) (c .before .before .if2 .taken)) (c .without-account .ensures)
+    not-account (s .m .now) (s .a .now) (callOf (s .e)) (c .before .before .before .before .before .if1 .left) (over-by (s .a .now) (c .before .before .before .before .before .if1 .left) (c .before .before .before .bound .ensures) (c .before .before .if2 .taken)) (c .without-account .ensures)
 
 sub-if3 : tie.Need-sub-if3
 sub-if3 c = search needs
 
 with-room-requires : tie.Need-with-room-requires
-with-room-requires c κs = roomy-by (c .before .before .before .before .before .before .before .before .before .args .a .now) (c .before .before .before .before .before .before .if1 .left) (c .before .before .before .before .greatest .ensures) (omega (arith, c .before .before .if3 .taken))
+with-room-requires c κs = roomy-by (c .before .before .before .before .before .before .before .before .before .args .a .now) (c .before .before .before .before .before .before .if1 .left) (c .before .before .before .before .bound .ensures) (omega (arith, c .before .before .if3 .taken))
 
 same-length-3 : tie.Need-same-length-3
 same-length-3 c = search needs
@@ -50,7 +50,7 @@ returns-3 : tie.Need-returns-3
 returns-3 c = search needs
 
 near-full-requires : tie.Need-near-full-requires
-near-full-requires c κs = kept-by (c .before .before .before .before .before .before .before .before .before .args .a .now) (c .before .before .before .before .before .before .if1 .left) (c .before .before .before .before .greatest .ensures) (c .before .before .before .if2 .left)
+near-full-requires c κs = kept-by (c .before .before .before .before .before .before .before .before .before .args .a .now) (c .before .before .before .before .before .before .if1 .left) (c .before .before .before .before .bound .ensures) (c .before .before .before .if2 .left)
 
 same-length-5 : tie.Need-same-length-5
 same-length-5 c = search needs
@@ -66,9 +66,9 @@ apply-spec =
     tie.close
     (tie.spec
     returns
-    slice-reshare-prefix-greatest
-    slice-aggregate-greatest
-    greatest-requires
+    slice-reshare-prefix-bound
+    slice-aggregate-bound
+    bound-requires
     without-account-requires
     same-length
     same-length-2

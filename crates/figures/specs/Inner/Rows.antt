@@ -1,11 +1,12 @@
 -- What the code over an account asks for and tells: an event whose numbers are in range, a row none of whose figures is above a number, and the greatest
 -- of some numbers. Assumes nothing.
-use Prim.Native.Nat.{ℕ, _*_, _≤_, _<_, max}
+use Prim.Native.Nat.{ℕ, _*_, _/_, _≤_, _<_, max}
 use mathlib.Core.Path.{_≡_}
-use mathlib.Core.Bool.{true, not}
+use mathlib.Core.Bool.{Bool, true, not, cond}
 use mathlib.Core.List.{List, [], _∷_}
 use lib.ListN.{length}
 use lib.Dec.{eqb, ltb}
+use Rattle.laws.specs.Folds.{every}
 use Rattle.measures.specs.Ranges.{premiums, offers}
 use Rattle.figures.specs.declared.Figures.{Figures}
 use Rattle.figures.specs.declared.Happening.{Happening}
@@ -43,6 +44,14 @@ pub record AtMost (k : ℕ) (f : Figures) : Type 0 where
 unfoldable pub greatestOf : List ℕ → ℕ
 greatestOf [] = 0
 greatestOf (x ∷ xs) = max x (greatestOf xs)
+
+-- all of them are below 2^59
+unfoldable pub areLow : List ℕ → Bool
+areLow xs = every (λ n. eqb (n / 576_460_752_303_423_488) 0) xs
+
+-- a number that none of them passes: 2^59 - 1 where all are below 2^59, else the greatest
+unfoldable pub boundOf : List ℕ → ℕ
+boundOf xs = cond (areLow xs) 576_460_752_303_423_487 (greatestOf xs)
 
 -- what an order adds to a row, and what an offer that was not locked out and a report add, with the trip that counts there
 unfoldable pub orderedFigures : ℕ → Figures
