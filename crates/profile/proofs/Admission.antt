@@ -1,5 +1,5 @@
 -- A rule after a profile that is held: one too many, or held with it after its stores. Assumes nothing.
-use Prim.Native.Nat.{ℕ, _*_, _≤_, _<_}
+use Prim.Native.Nat.{ℕ, _-_, _*_, _≤_, _<_}
 use mathlib.Core.Path.{_≡_, sym, ap, _∙_}
 use mathlib.Core.Bool.{true, false, not}
 use mathlib.Core.List.{List}
@@ -19,7 +19,7 @@ use Rattle.admission.specs.declared.Tally.{Tally}
 use Rattle.admission.specs.declared.Admitted.{Admitted}
 use Rattle.admission.specs.declared.Admitted.the-variants.{With, TooMany}
 use Rattle.profile.specs.Profile.{rootsWith, numbered, joined, tooMany, rootsTable}
-use Rattle.profile.specs.Inner.Lawful.{Said, Lawful}
+use Rattle.profile.specs.Inner.Lawful.{Said, Lawful, NewestOnce}
 use Rattle.profile.specs.Inner.Held.{Held, Joins}
 use Rattle.profile.proofs.Joined.{known-of, scope-of, grow, ownOf, joined-is, joined-length, join-is, own-rule, lawful-joined}
 use Rattle.profile.proofs.Memory.{length-roots, length-rules, names-known, roots-kept, roots-put, rules-put}
@@ -37,6 +37,10 @@ module _ {p : Profile} {tally : Tally} {roots rules counts : List ℕ} (held : H
 
   names-are : take (tally .seen) roots ≡ p .roots
   names-are = rw (held .stored .roots-in, held .roots-are) (names-known (p .roots))
+
+  pub newest-once : NewestOnce (take (tally .seen) roots)
+  unfolding NewestOnce
+  newest-once = rw names-are (λ some. held .lawful .each-place (length (p .roots) - 1) (omega arith))
 
 -- a rule with its root's number, as the code comes to it
 module _ {p : Profile} {tally : Tally} {roots rules counts : List ℕ} (held : Held p tally roots rules counts) (rule : Rule) (said : Said rule)

@@ -10,7 +10,7 @@ ghost use Rattle.rules.specs.Valid.{isRule};
 ghost use Rattle.machine.specs.State.{Profile};
 ghost use Rattle.admission.specs.Inner.Counting.{noRules};
 ghost use Rattle.profile.specs.Profile.{numbered, readOn, startOf, scanOf};
-ghost use Rattle.profile.specs.Inner.Lawful.{Said};
+ghost use Rattle.profile.specs.Inner.Lawful.{Said, NewestOnce};
 ghost use Rattle.profile.specs.Inner.Held.{Held, HoldsSome, Joins, ReadingTold};
 use admission::Admitted;
 use admission::Tally;
@@ -45,14 +45,29 @@ pub fn root_number(names: &[u64], name: u64) -> u64
     i as u64
 }
 
+// The number of a root among names of which the newest is new: lines come in runs of one root, so that the newest is looked at first.
+fn likely_number(names: &[u64], name: u64) -> u64
+    requires { ⌜ NewestOnce (now names) ⌝ }
+    ensures { λ r. ⌜ r ≡ indexOf name (now (names .entry)) ⌝ }
+{
+    if 0 < names.len() {
+        let newest = names.len() - 1;
+        if names[newest] == name {
+            return newest as u64;
+        }
+    }
+    root_number(names, name)
+}
+
 // A scope with the number of its root for the name, by the names that are known.
 fn scope_numbered(scope: Scope, names: &[u64]) -> Scope
+    requires { ⌜ NewestOnce (now names) ⌝ }
     ensures { λ r. ⌜ r ≡ numbered (now (names .entry)) scope ⌝ }
 {
     match scope {
         Scope::EveryFill => Scope::EveryFill,
-        Scope::WholeRoot(name) => Scope::WholeRoot(root_number(names, name)),
-        Scope::OneUnit(name, unit) => Scope::OneUnit(root_number(names, name), unit),
+        Scope::WholeRoot(name) => Scope::WholeRoot(likely_number(names, name)),
+        Scope::OneUnit(name, unit) => Scope::OneUnit(likely_number(names, name), unit),
     }
 }
 

@@ -3,7 +3,7 @@ use mathlib.Core.Path.{sym}
 use native.Mathlib.Omega.{arith}
 use lib.Seq.{length-take-le}
 use borrow.Author.Needs.{needs}
-use Rattle.profile.proofs.Admission.{roots-long, rules-long, roots-room, own-numbered, refuses, few, own-fits, next-room, takes-known, takes-new}
+use Rattle.profile.proofs.Admission.{roots-long, rules-long, roots-room, newest-once, own-numbered, refuses, few, own-fits, next-room, takes-known, takes-new}
 use Rattle.profile.proofs.take_in.Statement.{statement}
 use Rattle.profile.proofs.take_in.Tie as tie
 
@@ -14,7 +14,7 @@ slice-aggregate-scope-numbered : tie.Need-slice-aggregate-scope-numbered
 slice-aggregate-scope-numbered c = sym (length-take-le _ _ (roots-room (c .before .before .before .before .pre .0 .1)))
 
 scope-numbered-requires : tie.Need-scope-numbered-requires
-scope-numbered-requires c κs = search needs
+scope-numbered-requires c κs = newest-once (c .before .before .before .before .pre .0 .1)
 
 -- the way back from where the rule was asked for to the start
 abbrev begun : tie.After-admit → tie.Start

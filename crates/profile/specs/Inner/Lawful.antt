@@ -1,5 +1,5 @@
 -- What holds of every profile that was read: document 01's bounds on it, and how its roots are named and numbered. Assumes nothing.
-use Prim.Native.Nat.{ℕ, _≤_, _<_}
+use Prim.Native.Nat.{ℕ, _-_, _≤_, _<_}
 use mathlib.Core.Path.{_≡_}
 use mathlib.Core.Bool.{true}
 use mathlib.Core.List.{List, []}
@@ -41,3 +41,7 @@ pub record Lawful (p : Profile) : Type 0 where
   pub each-name : (root : ℕ) → root < length (p .roots) → IsNameNumber 1 6 (getD (p .roots) root 0)
   pub each-place : (root : ℕ) → root < length (p .roots) → indexOf (getD (p .roots) root 0) (p .roots) ≡ root
   pub in-order : areInOrder (length (p .roots)) [] 0 (p .rules) ≡ true
+
+-- the newest of some names, where there is one, stands nowhere before its place
+unfoldable pub NewestOnce : List ℕ → Type 0
+NewestOnce names = 0 < length names → indexOf (getD names (length names - 1) 0) names ≡ length names - 1
