@@ -6,6 +6,8 @@ use Rattle.determined.specs.Determines.{DeterminesSeen, Determines}
 use Rattle.laws.proofs.One.{alike}
 use Rattle.text.proofs.find.Kinds as find-kinds
 use Rattle.text.proofs.find.Reads as find-reads
+use Rattle.text.proofs.find_far.Kinds as find-far-kinds
+use Rattle.text.proofs.find_far.Reads as find-far-reads
 use Rattle.text.proofs.field_at.Kinds as field-at-kinds
 use Rattle.text.proofs.field_at.Reads as field-at-reads
 use Rattle.text.proofs.equal.Kinds as equal-kinds
@@ -29,6 +31,9 @@ use Rattle.text.proofs.put_decimal.Reads as put-decimal-reads
 
 pub find : Determines 1 find-kinds.ps find-kinds.r find-reads.Asked find-reads.Learnt
 find κs args asked x y u v p q = (alike p q, refl)
+
+pub find-far : Determines 1 find-far-kinds.ps find-far-kinds.r find-far-reads.Asked find-far-reads.Learnt
+find-far κs args asked x y u v p q = (alike p q, refl)
 
 -- the answer is a part of the line that was lent: the bytes in it are determined, and where it lies is not said
 pub field-at : DeterminesSeen 1 field-at-kinds.ps field-at-kinds.r (λ κs. List ℕ) (λ κs part. part .now) field-at-reads.Asked field-at-reads.Learnt

@@ -16,7 +16,7 @@ fn line_at(text: &[u8], at: usize) -> &[u8]
     if n < at {
         return &text[n..];
     }
-    let end = text::find(text, at, b'\n');
+    let end = text::find_far(text, at, b'\n');
     &text[at..end]
 }
 

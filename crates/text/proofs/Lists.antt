@@ -1,14 +1,14 @@
 -- Laws of lists of bytes: places, the pieces of a text, and a cursor over the fields of a line. Assumes nothing.
 use Prim.Native.Nat.{ℕ, zero, suc, _+_, _-_, _≤_, _<_}
 use mathlib.Core.Path.{_≡_, refl, sym, ap, _∙_}
-use mathlib.Core.Bool.{Bool, true, false, cond}
+use mathlib.Core.Bool.{Bool, true, false, cond, _||_, false≢true}
 use mathlib.Core.List.{List, [], _∷_}
 use lib.ListN.{length, getD, take, drop, length-drop}
 use lib.Seq.{drop-drop, getD-drop, length-take-le}
 use lib.Dec.{eqb, leb, leb·suc-suc}
-use borrow.Author.Tests.{leb-false, le-leb, lt-leb, eq-eqb, ne-eqb}
+use borrow.Author.Tests.{eqb-false, leb-false, le-leb, lt-leb, eq-eqb, ne-eqb}
 use native.Mathlib.Decide.{decLt}
-use native.Mathlib.Nat.{add-zero, zero-add, suc-add}
+use native.Mathlib.Nat.{add-assoc, add-zero, zero-add, suc-add}
 use native.Mathlib.Omega.{arith}
 use Rattle.laws.proofs.Lists.{from, ended}
 use Rattle.text.specs.Text.{all, onto, pieces, lines, fields, field, fieldsFrom, indexOf}
@@ -26,6 +26,12 @@ module _ (b : ℕ) (s : List ℕ) (i : ℕ) where
   pub index-end : length s ≤ i → i + indexOf b (drop i s) ≡ i
   unfolding indexOf
   index-end h = rw (ended s i h) (omega arith)
+
+-- some bytes from a place on that are joined by | into one test are none of them b where the test fails, so the index of b lies past them
+pub index-past : (b : ℕ) (s : List ℕ) (at i : ℕ) {n : ℕ} (near : Bool) → (near ≡ false → n ≡ at + i + indexOf b (drop (at + i) s)) → at + i < length s
+    → (near || eqb (getD s (at + i) 0) b) ≡ false → n ≡ at + (i + 1) + indexOf b (drop (at + (i + 1)) s)
+index-past b s at i true far h e = absurd (false≢true (sym e))
+index-past b s at i false far h e = far refl ∙ index-on b s (at + i) h (eqb-false (getD s (at + i) 0) b e) ∙ rw (add-assoc at i 1)
 
 pub index-le : (b : ℕ) (s : List ℕ) → indexOf b s ≤ length s
 unfolding indexOf

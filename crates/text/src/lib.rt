@@ -1,5 +1,6 @@
 // The bytes of a profile: lines, fields, names and numbers.
 ghost use mathlib.Core.Path.{_≡_};
+ghost use mathlib.Core.Bool.{false};
 ghost use mathlib.Core.List.{[]};
 ghost use Prim.Native.Nat.{_+_, _≤_};
 ghost use lib.ListN.{length, getD, drop};
@@ -26,6 +27,38 @@ pub fn find(s: &[u8], from: usize, b: u8) -> usize
         i += 1;
     }
     i
+}
+
+// Whether a byte may stand among the eight from a place on. The loop has no way out, so that the eight are compared at once.
+fn is_near(s: &[u8], at: usize, b: u8) -> bool
+    requires { ⌜ at + 8 ≤ length (now s) ⌝ }
+    ensures { λ r. ⌜ (r ≡ false → at + indexOf b (drop at (now (s .entry))) ≡ at + 8 + indexOf b (drop (at + 8) (now (s .entry)))) ⌝ }
+{
+    let mut near = false;
+    let mut i: usize = 0;
+    while i < 8 {
+        near = near | (s[at + i] == b);
+        i += 1;
+    }
+    near
+}
+
+// The same for a byte that stands far away: eight bytes at a time, until it is near.
+pub fn find_far(s: &[u8], from: usize, b: u8) -> usize
+    ensures { λ r. ⌜ r ≡ from + indexOf b (drop from (now (s .entry))) ⌝ }
+{
+    if s.len() < 8 {
+        return find(s, from, b);
+    }
+    let last = s.len() - 8;
+    let mut i = from;
+    while i <= last {
+        if is_near(s, i, b) {
+            return find(s, i, b);
+        }
+        i += 8;
+    }
+    find(s, i, b)
 }
 
 // The field of a line that begins at a place, empty where the place is past the end.

@@ -24,8 +24,8 @@ returns c =
     let args = c .before .before .before .args in
     rw (line-past (args .text .now) (args .at) (c .before .if1 .taken), drop-length, take-nil)
 
-find-requires : tie.Need-find-requires
-find-requires c κs = search needs
+find-far-requires : tie.Need-find-far-requires
+find-far-requires c κs = search needs
 
 sub-result-2 : tie.Need-sub-result-2
 sub-result-2 c = search needs
@@ -36,13 +36,13 @@ part-result-start-2 c = search needs
 part-result-end-2 : tie.Need-part-result-end-2
 part-result-end-2 c =
     let args = c .before .before .before .args in
-    let inside : c .find .result ≤ length (args .text .now) = rw (c .find .ensures) (within _ (args .text .now) (args .at) (c .before .if1 .left)) in
+    let inside : c .find-far .result ≤ length (args .text .now) = rw (c .find-far .ensures) (within _ (args .text .now) (args .at) (c .before .if1 .left)) in
     omega arith
 
 returns-2 : tie.Need-returns-2
 returns-2 c =
     let args = c .before .before .before .before .args in
-    sym (line-here (args .text .now) (args .at) (c .before .find .result) (c .before .find .ensures))
+    sym (line-here (args .text .now) (args .at) (c .before .find-far .result) (c .before .find-far .ensures))
 
 pub line-at-spec : {M : Type 1} → statement M
 line-at-spec =
@@ -52,7 +52,7 @@ line-at-spec =
     part-result-start
     part-result-end
     returns
-    find-requires
+    find-far-requires
     sub-result-2
     part-result-start-2
     part-result-end-2
