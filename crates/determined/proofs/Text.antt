@@ -10,14 +10,16 @@ use Rattle.text.proofs.find_far.Kinds as find-far-kinds
 use Rattle.text.proofs.find_far.Reads as find-far-reads
 use Rattle.text.proofs.field_at.Kinds as field-at-kinds
 use Rattle.text.proofs.field_at.Reads as field-at-reads
-use Rattle.text.proofs.equal.Kinds as equal-kinds
-use Rattle.text.proofs.equal.Reads as equal-reads
+use Rattle.text.proofs.is_field.Kinds as is-field-kinds
+use Rattle.text.proofs.is_field.Reads as is-field-reads
 use Rattle.text.proofs.firm_name.Kinds as firm-name-kinds
 use Rattle.text.proofs.firm_name.Reads as firm-name-reads
 use Rattle.text.proofs.root_name.Kinds as root-name-kinds
 use Rattle.text.proofs.root_name.Reads as root-name-reads
-use Rattle.text.proofs.digits.Kinds as digits-kinds
-use Rattle.text.proofs.digits.Reads as digits-reads
+use Rattle.text.proofs.digits_at.Kinds as digits-at-kinds
+use Rattle.text.proofs.digits_at.Reads as digits-at-reads
+use Rattle.text.proofs.name_at.Kinds as name-at-kinds
+use Rattle.text.proofs.name_at.Reads as name-at-reads
 use Rattle.text.proofs.decimal_size.Kinds as decimal-size-kinds
 use Rattle.text.proofs.decimal_size.Reads as decimal-size-reads
 use Rattle.text.proofs.name_size.Kinds as name-size-kinds
@@ -39,8 +41,8 @@ find-far κs args asked x y u v p q = (alike p q, refl)
 pub field-at : DeterminesSeen 1 field-at-kinds.ps field-at-kinds.r (λ κs. List ℕ) (λ κs part. part .now) field-at-reads.Asked field-at-reads.Learnt
 field-at κs args asked x y u v p q = (alike p q, refl)
 
-pub equal : Determines 2 equal-kinds.ps equal-kinds.r equal-reads.Asked equal-reads.Learnt
-equal κs args asked x y u v p q = (alike p q, refl)
+pub is-field : Determines 2 is-field-kinds.ps is-field-kinds.r is-field-reads.Asked is-field-reads.Learnt
+is-field κs args asked x y u v p q = (alike p q, refl)
 
 pub firm-name : Determines 1 firm-name-kinds.ps firm-name-kinds.r firm-name-reads.Asked firm-name-reads.Learnt
 firm-name κs args asked x y u v p q = (alike p q, refl)
@@ -48,8 +50,11 @@ firm-name κs args asked x y u v p q = (alike p q, refl)
 pub root-name : Determines 1 root-name-kinds.ps root-name-kinds.r root-name-reads.Asked root-name-reads.Learnt
 root-name κs args asked x y u v p q = (alike p q, refl)
 
-pub digits : Determines 1 digits-kinds.ps digits-kinds.r digits-reads.Asked digits-reads.Learnt
-digits κs args asked x y u v p q = (alike p q, refl)
+pub digits-at : Determines 1 digits-at-kinds.ps digits-at-kinds.r digits-at-reads.Asked digits-at-reads.Learnt
+digits-at κs args asked x y u v p q = (alike p q, refl)
+
+pub name-at : Determines 1 name-at-kinds.ps name-at-kinds.r name-at-reads.Asked name-at-reads.Learnt
+name-at κs args asked x y u v p q = (alike p q, refl)
 
 pub decimal-size : Determines 0 decimal-size-kinds.ps decimal-size-kinds.r decimal-size-reads.Asked decimal-size-reads.Learnt
 decimal-size κs args asked x y u v p q = (alike p q, refl)

@@ -1,11 +1,11 @@
 -- From the parts of a line to the whole: its places, its limit, and what it comes to by what its two halves say. Assumes nothing.
-use Prim.Native.Nat.{ℕ, _+_, _≤_, _<_}
-use mathlib.Core.Path.{_≡_, refl, sym}
+use Prim.Native.Nat.{ℕ, suc, _+_, _≤_, _<_}
+use mathlib.Core.Path.{_≡_, refl, sym, ap, _∙_}
 use mathlib.Core.Bool.{Bool, true, false, cond, _&&_, _||_, not, Bool·beq, false≢true, and-assoc, and-false}
-use mathlib.Core.List.{List, []}
-use lib.ListN.{length, getD}
+use mathlib.Core.List.{List, [], _∷_}
+use lib.ListN.{length, drop}
 use lib.Dec.{eqb, leb, ltb}
-use borrow.Author.Tests.{ltb-true, le-leb, lt-leb, lt-ltb, le-ltb}
+use borrow.Author.Tests.{ltb-true, ne-eqb, le-leb, lt-leb, lt-ltb, le-ltb}
 use native.Mathlib.Decide.{decLt}
 use native.Mathlib.Omega.{arith}
 use Rattle.laws.proofs.Tests.{tests}
@@ -13,10 +13,16 @@ use Rattle.measures.specs.Ranges.{Range, In, isIn}
 use Rattle.measures.specs.Checked.{Taken, Beyond}
 use Rattle.rules.specs.declared.Limit.{Limit}
 use Rattle.rules.specs.declared.Rule.{Rule}
-use Rattle.text.specs.Text.{fields, fieldsFrom}
-use Rattle.text.proofs.Lists.{Cursor, cursor-step, cursor-there, cursor-gone}
-use Rattle.line.specs.Line.{limitsOf, limitOf, kindOf, isAbsolute, typeIn, limitIn, timeIn, rootIn, isFirmLevel, callPut, month, malformed, otherFirm, outOfRange, levelClash, unitClash, faultOf, scopeOf, ruleOf, lineOf}
-use Rattle.line.specs.Inner.Parts.{limitRead, HeadSays, TailSays}
+use Rattle.laws.specs.Lists.{same}
+use Rattle.laws.proofs.Lists.{same-eq}
+use Rattle.text.specs.Text.{fields, field, indexOf}
+use Rattle.text.specs.Inner.Taking.{Cursor, fieldAt, Near, takenAs}
+use Rattle.text.specs.declared.Number.{Number}
+use Rattle.text.specs.declared.fields.Taken.{Taken as FieldTaken}
+use Rattle.text.proofs.Lists.{cursor-field, cursor-step, cursor-there, cursor-gone}
+use Rattle.text.proofs.Taking.{field-size, field-small}
+use Rattle.line.specs.Line.{limitsOf, limitOf, letterOf, kindOf, isAbsolute, typeIn, limitIn, timeIn, rootIn, isFirmLevel, callPut, month, malformed, otherFirm, outOfRange, levelClash, unitClash, faultOf, scopeOf, ruleOf, lineOf}
+use Rattle.line.specs.Inner.Parts.{limitRead, afterField, HeadSays, TailSays}
 use Rattle.line.specs.declared.LimitType.{LimitType}
 use Rattle.line.specs.declared.limits.LimitRead.the-variants.{Is as Ranged, Out}
 use Rattle.line.specs.declared.fields.Head.{Head}
@@ -24,10 +30,51 @@ use Rattle.line.specs.declared.fields.Tail.{Tail}
 use Rattle.line.specs.declared.Line.{Line}
 use Rattle.line.specs.declared.Line.the-variants.{Is, Refused}
 
--- the end of a field is a small number, and its place lies within the line exactly if the field is there
+-- a field that is told by its bytes ends behind them
+pub told-end : (f word : List ℕ) (at : ℕ) {n : ℕ} → same f word ≡ true → n ≡ length word + 1 → at + n ≡ at + length f + 1
+told-end f word at e n = omega (arith, ap length (same-eq f word e))
+
+-- and any field where the next comma stands, which is no far place
+module _ (line : List ℕ) (at : ℕ) {n : ℕ} (found : n ≡ at + indexOf 44 (drop at line)) where
+  pub found-end : n + 1 ≡ afterField line at
+  found-end = omega (arith, field-size line at)
+
+  pub found-small : Near line at → n < 131_136
+  found-small near = omega (arith, field-small line at near)
+
+-- an empty field is told by its length too, and one letter alone by its number
+pub empty-test : (f : List ℕ) → eqb (length f) 0 ≡ same f []
+unfolding same
+empty-test [] = refl
+empty-test (x ∷ xs) = ne-eqb (suc (length xs)) 0 (λ e. omega arith)
+
+pub letter-one : (a b : ℕ) (f : List ℕ) → eqb (letterOf a b f) 1 ≡ same f (a ∷ [])
+unfolding same letterOf
+letter-one a b [] = refl
+letter-one a b (x ∷ xs) = go (same (x ∷ xs) (a ∷ [])) (same (x ∷ xs) (b ∷ []))
+  where
+    go : (one two : Bool) → eqb (cond one 1 (cond two 2 3)) 1 ≡ one
+    go true two = refl
+    go false true = refl
+    go false false = refl
+
+-- the place of a field lies near the line, and within it exactly if the field is there
 module _ {line : List ℕ} {at k : ℕ} (c : Cursor line at k) where
-  pub field-fits : {f : List ℕ} → f ≡ getD (fieldsFrom line at) 0 [] → length line ≤ 65_536 → k < 8 → at + length f < 65_600
-  field-fits e few early = omega (arith, cursor-step c e refl .reach)
+  pub near-at : length line ≤ 65_536 → k < 9 → Near line at
+  near-at few early = (few, omega (arith, c .reach))
+
+  -- what is read at the place is read of field k, and behind it the next field begins
+  pub read-here : {A : Type 0} (read : List ℕ → A) {x : A} → x ≡ read (fieldAt line at) → x ≡ read (field line k)
+  read-here read e = e ∙ ap read (cursor-field c refl)
+
+  pub number-here : (read : List ℕ → Number) {t : FieldTaken} → t ≡ takenAs (read (fieldAt line at)) line at → t .number ≡ read (field line k)
+  number-here read e = read-here read (ap (λ (t : FieldTaken). t .number) e)
+
+  pub goes-on : {next : ℕ} → next ≡ afterField line at → Cursor line next (k + 1)
+  goes-on e = cursor-step c refl e
+
+  pub goes-past : (number : Number) {t : FieldTaken} → t ≡ takenAs number line at → Cursor line (t .next) (k + 1)
+  goes-past number e = goes-on (ap (λ (t : FieldTaken). t .next) e)
 
   pub there-test : leb at (length line) ≡ leb (k + 1) (length (fields line))
   there-test = go (decLt (length line) at)

@@ -1,13 +1,15 @@
 // The fields of a line, read one after the other: the four that it must have, and the four that it may have.
 ghost use mathlib.Core.Path.{_≡_};
-ghost use Prim.Native.Nat.{_+_, _≤_, _<_};
+ghost use mathlib.Core.Bool.{true};
+ghost use Prim.Native.Nat.{_≤_};
 ghost use lib.ListN.{length};
-ghost use Rattle.text.proofs.Lists.{Cursor};
+ghost use Rattle.text.specs.Inner.Taking.{Cursor, fieldAt, Near, isNoComma, takenAs};
 ghost use Rattle.line.specs.Line.{timeOf, letterOf, isRead, theNumber};
-ghost use Rattle.line.specs.Inner.Parts.{HeadSays, TailSays};
+ghost use Rattle.line.specs.Inner.Parts.{afterField, HeadSays, TailSays};
 use crate::LimitType;
-use crate::limits::type_of;
+use crate::limits::type_at;
 use text::Number;
+use text::Taken;
 
 // What the first four fields say, whether they are there and well formed, and the place after them.
 pub(crate) struct Head {
@@ -26,6 +28,12 @@ pub(crate) struct Tail {
     pub(crate) firmwide: bool,
     pub(crate) call: u64,
     pub(crate) month: u64,
+}
+
+// Which letter a field holds, and the place after the field and its comma.
+pub(crate) struct Letter {
+    pub(crate) which: u64,
+    pub(crate) next: usize,
 }
 
 // Whether a number was read.
@@ -49,40 +57,52 @@ pub(crate) fn number_in(n: Number) -> u64
 }
 
 // A time limit: an absolute type ignores the field, and an empty one reads as 0.
-fn time_of(absolute: bool, f: &[u8]) -> Number
-    ensures { λ r. ⌜ r ≡ timeOf absolute (now (f .entry)) ⌝ }
+fn time_at(line: &[u8], at: usize, absolute: bool) -> Taken
+    requires { ⌜ Near (now line) at ⌝ }
+    ensures { λ r. ⌜ r ≡ takenAs (timeOf absolute (fieldAt (now (line .entry)) at)) (now (line .entry)) at ⌝ }
 {
     if absolute {
-        return Number::Is(0);
+        return Taken {
+            number: Number::Is(0),
+            next: text::find(line, at, b',') + 1,
+        };
     }
-    if f.len() == 0 {
-        return Number::Is(0);
+    if text::is_field(line, at, b"") {
+        return Taken {
+            number: Number::Is(0),
+            next: at + 1,
+        };
     }
-    text::digits(f)
+    text::digits_at(line, at)
 }
 
-// 0 for an empty field, 1 and 2 for one of two letters, 3 for anything else.
-fn letter(f: &[u8], a: u8, b: u8) -> u64
-    ensures { λ r. ⌜ r ≡ letterOf a b (now (f .entry)) ⌝ }
+// The field at a place: 0 if it is empty, 1 and 2 for one of two letters, 3 for anything else.
+fn letter_at(line: &[u8], at: usize, a: u8, b: u8) -> Letter
+    requires { ⌜ Near (now line) at × (isNoComma a ≡ true) × (isNoComma b ≡ true) ⌝ }
+    ensures { λ r. ⌜ (r .which ≡ letterOf a b (fieldAt (now (line .entry)) at)) × (r .next ≡ afterField (now (line .entry)) at) ⌝ }
 {
-    if text::equal(f, b"") {
-        return 0;
+    if text::is_field(line, at, b"") {
+        return Letter {
+            which: 0,
+            next: at + 1,
+        };
     }
-    if text::equal(f, &[a]) {
-        return 1;
+    if text::is_field(line, at, &[a]) {
+        return Letter {
+            which: 1,
+            next: at + 2,
+        };
     }
-    if text::equal(f, &[b]) {
-        return 2;
+    if text::is_field(line, at, &[b]) {
+        return Letter {
+            which: 2,
+            next: at + 2,
+        };
     }
-    3
-}
-
-// The place after a field and its comma.
-fn after(at: usize, f: &[u8]) -> usize
-    requires { ⌜ at + length (now f) < 65_600 ⌝ }
-    ensures { λ r. ⌜ r ≡ at + length (now (f .entry)) + 1 ⌝ }
-{
-    at + f.len() + 1
+    Letter {
+        which: 3,
+        next: text::find(line, at, b',') + 1,
+    }
 }
 
 // Firm, limit type, root and limit value: the fields that a line must have.
@@ -90,20 +110,16 @@ pub(crate) fn read_head(line: &[u8]) -> Head
     requires { ⌜ length (now line) ≤ 65_536 ⌝ }
     ensures { λ r. ⌜ HeadSays (now (line .entry)) r ⌝ }
 {
-    let firm_field = text::field_at(line, 0);
-    let type_at = after(0, firm_field);
-    let type_field = text::field_at(line, type_at);
-    let root_at = after(type_at, type_field);
-    let root_field = text::field_at(line, root_at);
-    let limit_at = after(root_at, root_field);
-    let limit_field = text::field_at(line, limit_at);
-    let next = after(limit_at, limit_field);
-    let firm = text::firm_name(firm_field);
-    let named = type_of(type_field);
-    let root = text::root_name(root_field);
-    let limit = text::digits(limit_field);
+    let firm_field = text::name_at(line, 0, 1, 4);
+    let type_field = type_at(line, firm_field.next);
+    let root_field = text::name_at(line, type_field.next, 0, 6);
+    let limit_field = text::digits_at(line, root_field.next);
+    let firm = firm_field.number;
+    let named = type_field.named;
+    let root = root_field.number;
+    let limit = limit_field.number;
     Head {
-        well: (limit_at <= line.len())
+        well: (root_field.next <= line.len())
             & is_read(firm)
             & named.is_known()
             & is_read(root)
@@ -112,7 +128,7 @@ pub(crate) fn read_head(line: &[u8]) -> Head
         named: named.type_in(),
         root: number_in(root),
         limit: number_in(limit),
-        next,
+        next: limit_field.next,
     }
 }
 
@@ -121,22 +137,16 @@ pub(crate) fn read_tail(line: &[u8], at: usize, absolute: bool) -> Tail
     requires { ⌜ (length (now line) ≤ 65_536) × Cursor (now line) at 4 ⌝ }
     ensures { λ r. ⌜ TailSays (now (line .entry)) absolute r ⌝ }
 {
-    let time_field = text::field_at(line, at);
-    let level_at = after(at, time_field);
-    let level_field = text::field_at(line, level_at);
-    let call_at = after(level_at, level_field);
-    let call_field = text::field_at(line, call_at);
-    let month_at = after(call_at, call_field);
-    let month_field = text::field_at(line, month_at);
-    let end = after(month_at, month_field);
-    let time = time_of(absolute, time_field);
-    let call = letter(call_field, b'C', b'P');
-    let month = letter(month_field, b'F', b'T');
+    let time_field = time_at(line, at, absolute);
+    let level = letter_at(line, time_field.next, b'T', b'T');
+    let call = letter_at(line, level.next, b'C', b'P');
+    let month = letter_at(line, call.next, b'F', b'T');
+    let time = time_field.number;
     Tail {
-        well: (line.len() < end) & is_read(time) & (call <= 2) & (month <= 2),
+        well: (line.len() < month.next) & is_read(time) & (call.which <= 2) & (month.which <= 2),
         time: number_in(time),
-        firmwide: text::equal(level_field, b"T"),
-        call,
-        month,
+        firmwide: level.which == 1,
+        call: call.which,
+        month: month.which,
     }
 }

@@ -1,8 +1,9 @@
 // The six types of limit: the field that names one, and what a number and a time are to each.
 ghost use mathlib.Core.Path.{_≡_};
 ghost use Prim.Native.Nat.{max};
+ghost use Rattle.text.specs.Inner.Taking.{fieldAt, Near};
 ghost use Rattle.line.specs.Line.{typeOf, isAbsolute, kindOf, isKnown, theType};
-ghost use Rattle.line.specs.Inner.Parts.{limitRead};
+ghost use Rattle.line.specs.Inner.Parts.{limitRead, afterField};
 use crate::LimitType;
 use crate::TypeRead;
 use measures::Contracts;
@@ -19,6 +20,12 @@ use rules::Limit;
 pub(crate) enum LimitRead {
     Is(Limit),
     Out,
+}
+
+// What type a field names, and the place after the field and its comma.
+pub(crate) struct TypeTaken {
+    pub(crate) named: TypeRead,
+    pub(crate) next: usize,
 }
 
 impl TypeRead {
@@ -43,29 +50,43 @@ impl TypeRead {
     }
 }
 
-// The type that a field names.
-pub(crate) fn type_of(f: &[u8]) -> TypeRead
-    ensures { λ r. ⌜ r ≡ typeOf (now (f .entry)) ⌝ }
+// A type that a field names, with the place after the field and its comma.
+fn known(named: LimitType, next: usize) -> TypeTaken
+    ensures { λ r. ⌜ (r .named ≡ TypeRead.Known named) × (r .next ≡ next) ⌝ }
 {
-    if text::equal(f, b"rate_ntnl") {
-        return TypeRead::Known(LimitType::RateNtnl);
+    TypeTaken {
+        named: TypeRead::Known(named),
+        next,
     }
-    if text::equal(f, b"rate_vol") {
-        return TypeRead::Known(LimitType::RateVol);
+}
+
+// The type that the field at a place names.
+pub(crate) fn type_at(line: &[u8], at: usize) -> TypeTaken
+    requires { ⌜ Near (now line) at ⌝ }
+    ensures { λ r. ⌜ (r .named ≡ typeOf (fieldAt (now (line .entry)) at)) × (r .next ≡ afterField (now (line .entry)) at) ⌝ }
+{
+    if text::is_field(line, at, b"rate_ntnl") {
+        return known(LimitType::RateNtnl, at + 10);
     }
-    if text::equal(f, b"rate_count") {
-        return TypeRead::Known(LimitType::RateCount);
+    if text::is_field(line, at, b"rate_vol") {
+        return known(LimitType::RateVol, at + 9);
     }
-    if text::equal(f, b"abs_ntnl") {
-        return TypeRead::Known(LimitType::AbsNtnl);
+    if text::is_field(line, at, b"rate_count") {
+        return known(LimitType::RateCount, at + 11);
     }
-    if text::equal(f, b"abs_vol") {
-        return TypeRead::Known(LimitType::AbsVol);
+    if text::is_field(line, at, b"abs_ntnl") {
+        return known(LimitType::AbsNtnl, at + 9);
     }
-    if text::equal(f, b"abs_count") {
-        return TypeRead::Known(LimitType::AbsCount);
+    if text::is_field(line, at, b"abs_vol") {
+        return known(LimitType::AbsVol, at + 8);
     }
-    TypeRead::Unknown
+    if text::is_field(line, at, b"abs_count") {
+        return known(LimitType::AbsCount, at + 10);
+    }
+    TypeTaken {
+        named: TypeRead::Unknown,
+        next: text::find(line, at, b',') + 1,
+    }
 }
 
 // The window of a time limit: one below the least becomes the least.

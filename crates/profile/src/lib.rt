@@ -45,7 +45,7 @@ pub fn root_number(names: &[u64], name: u64) -> u64
     i as u64
 }
 
-// The number of a root among names of which the newest is new: lines come in runs of one root, so that the newest is looked at first.
+// The number of a root, where the newest name stands nowhere before: lines come in runs of one root, so that the newest is looked at first.
 fn likely_number(names: &[u64], name: u64) -> u64
     requires { ⌜ NewestOnce (now names) ⌝ }
     ensures { λ r. ⌜ r ≡ indexOf name (now (names .entry)) ⌝ }

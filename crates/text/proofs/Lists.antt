@@ -11,7 +11,8 @@ use native.Mathlib.Decide.{decLt}
 use native.Mathlib.Nat.{add-assoc, add-zero, zero-add, suc-add}
 use native.Mathlib.Omega.{arith}
 use Rattle.laws.proofs.Lists.{from, ended}
-use Rattle.text.specs.Text.{all, onto, pieces, lines, fields, field, fieldsFrom, indexOf}
+use Rattle.text.specs.Text.{onto, pieces, lines, fields, field, fieldsFrom, indexOf}
+use Rattle.text.specs.Inner.Taking.{Cursor}
 
 -- the index of b lies further on past a byte that is not b; it is here at b, and at the end
 module _ (b : ℕ) (s : List ℕ) (i : ℕ) where
@@ -44,20 +45,6 @@ index-le b (x ∷ xs) = go (eqb x b) (index-le b xs)
 
 pub within : (b : ℕ) (s : List ℕ) (from : ℕ) → from ≤ length s → from + indexOf b (drop from s) ≤ length s
 within b s from h = omega (arith, index-le b (drop from s), length-drop from s)
-
--- every byte from place i on has a property if the byte at i and every byte after it has
-module _ (p : ℕ → Bool) (s : List ℕ) (i : ℕ) (h : i < length s) where
-  pub all-on : p (getD s i 0) ≡ true → all p (drop i s) ≡ all p (drop (i + 1) s)
-  unfolding all
-  all-on e = rw (from s i h, e)
-
-  pub all-off : p (getD s i 0) ≡ false → all p (drop i s) ≡ false
-  unfolding all
-  all-off e = rw (from s i h, e)
-
-pub all-end : (p : ℕ → Bool) (s : List ℕ) (i : ℕ) → length s ≤ i → all p (drop i s) ≡ true
-unfolding all
-all-end p s i h = rw (ended s i h)
 
 -- the pieces of a text, for lines and for fields alike: the first is what stands before the first separator, and after it come the pieces
 -- of the rest, or none where there is no separator
@@ -196,11 +183,7 @@ fields-next line at = go (decLt (length line) at)
 pub field-drop : (line : List ℕ) (k : ℕ) → field line k ≡ getD (drop k (fields line)) 0 []
 field-drop line k = rw (getD-drop, add-zero)
 
--- a cursor over the fields of a line: field k begins at the place, which is past the end exactly if there is no field k
-pub record Cursor (line : List ℕ) (at k : ℕ) : Type 0 where
-  pub left : fieldsFrom line at ≡ drop k (fields line)
-  pub reach : at ≤ length line + k
-
+-- a cursor at the first field, and one field on; whether it is there
 pub cursor-start : (line : List ℕ) → Cursor line 0 0
 cursor-start line = record {
   left = fields-whole line;

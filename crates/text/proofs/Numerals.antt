@@ -1,84 +1,17 @@
--- Laws of numbers written by place value, for digits and names alike: how a loop reads one, and that a name's number tells the name.
--- Assumes nothing.
-use Prim.Native.Nat.{ℕ, suc, _+_, _-_, _*_, _/_, _%_, _^_, _≤_, _<_}
+-- Laws of numbers written by place value, for digits and names alike: a name's number tells the name. Assumes nothing.
+use Prim.Native.Nat.{ℕ, _+_, _-_, _*_, _/_, _%_, _^_, _≤_, _<_}
 use mathlib.Core.Path.{_≡_, refl, sym, ap, _∙_}
-use mathlib.Core.Bool.{Bool, true, false, cond, _&&_, _||_}
+use mathlib.Core.Bool.{Bool, true, false, _&&_, _||_}
 use mathlib.Core.List.{List, [], _∷_}
-use lib.ListN.{length, getD, drop}
+use lib.ListN.{length}
 use lib.Arith.{digits-lt, digits-div, digits-mod}
 use lib.Dec.{leb}
-use borrow.Author.Tests.{leb-true, le-leb, lt-leb}
+use borrow.Author.Tests.{leb-true}
 use native.Mathlib.Decide.{decLt}
-use native.Mathlib.Nat.{add-zero, pow-zero, pow-suc, pow-succ', pow-le-pow-right, add-mul, mul-assoc, mul-comm, mul-one, one-mul, zero-mul, mul-le-mul-right}
-use native.Mathlib.Numerals.{add-one}
+use native.Mathlib.Nat.{pow-zero, pow-succ', pow-le-pow-right, one-mul, mul-le-mul-right}
 use native.Mathlib.Omega.{arith}
 use Rattle.laws.proofs.Tests.{and-l, and-r}
 use Rattle.text.specs.Text.{all, made, isDigit, isNameByte, isName, numeral, nameNumber}
-use Rattle.text.specs.declared.Number.{Number}
-use Rattle.text.specs.declared.Number.the-variants.{Is, Bad}
-use Rattle.laws.proofs.Lists.{from, ended}
-use Rattle.text.proofs.Lists.{all-on, all-off, all-end}
-
--- what a field of least to most bytes, each with the property p, is read as
-abbrev pub readAs : (ℕ → Bool) → ℕ → ℕ → ℕ → ℕ → List ℕ → Number
-readAs p least most base naught s = cond (made p least most s) (Is (numeral base naught s)) Bad
-
--- a reading from the left: v is read of the first i bytes, which all have the property, and counts the base to the number of bytes left
-pub record Read (p : ℕ → Bool) (least most base naught : ℕ) (s : List ℕ) (v i : ℕ) : Type 0 where
-  pub enough : least ≤ length s
-  pub few : length s ≤ most
-  pub tested : all p s ≡ all p (drop i s)
-  pub whole : numeral base naught s ≡ v * base ^ length (drop i s) + numeral base naught (drop i s)
-  pub below : v < base ^ i
-
-module _ (p : ℕ → Bool) (least most base naught : ℕ) (s : List ℕ) where
-  pub read-short : length s < least → Bad ≡ readAs p least most base naught s
-  unfolding made
-  read-short h = rw (lt-leb least (length s) h)
-
-  pub read-long : least ≤ length s → most < length s → Bad ≡ readAs p least most base naught s
-  unfolding made
-  read-long h k = rw (le-leb least (length s) h, lt-leb (length s) most k)
-
-  pub read-none : least ≤ length s → length s ≤ most → Read p least most base naught s 0 0
-  read-none h k = record {
-    enough = h;
-    few = k;
-    tested = refl;
-    whole = rw (zero-mul (base ^ length s)) (omega arith);
-    below = rw (pow-zero base) (omega arith);
-  }
-
-more : (base d q n v : ℕ) {r : ℕ} → r ≡ q * base → v * r + (d * q + n) ≡ (v * base + d) * q + n
-more base d q n v e = rw e (omega (arith, add-mul (v * base) d q, mul-assoc v base q, mul-comm q base))
-
-module _ {p : ℕ → Bool} {least most base naught : ℕ} {s : List ℕ} {v i : ℕ} (r : Read p least most base naught s v i) where
-  pub read-off : i < length s → p (getD s i 0) ≡ false → Bad ≡ readAs p least most base naught s
-  unfolding made
-  read-off h n = rw (le-leb least (length s) (r .enough), le-leb (length s) most (r .few), r .tested, all-off p s i h n)
-
-  pub read-more : i < length s → p (getD s i 0) ≡ true → {d : ℕ} → d ≡ getD s i 0 - naught → d < base → Read p least most base naught s (v * base + d) (i + 1)
-  unfolding numeral
-  read-more h t {d} e k = record {
-    enough = r .enough;
-    few = r .few;
-    tested = r .tested ∙ all-on p s i h t;
-    whole =
-        r .whole
-        ∙ rw (from s i h, ← e) (more base d (base ^ length (drop (i + 1) s)) (numeral base naught (drop (i + 1) s)) v (pow-suc base (length (drop (i + 1) s))));
-    below = rw (add-one i, pow-suc base i) (digits-lt (r .below) k);
-  }
-
-  pub read-all : length s ≤ i → Is v ≡ readAs p least most base naught s
-  unfolding made numeral
-  read-all h =
-      rw (le-leb least (length s) (r .enough), le-leb (length s) most (r .few), r .tested, all-end p s i h, r .whole, ended s i h, pow-zero, mul-one, add-zero)
-
-  -- a number with one digit more still has at most n places
-  pub read-fits : (n d : ℕ) → most ≤ n → i < length s → d < base → v * base + d < base ^ n
-  read-fits n d m h k =
-      let one : base ^ suc i ≤ base ^ n = pow-le-pow-right (omega arith) (omega (arith, r .few)) in
-      omega (arith, digits-lt {q = v} {m = base ^ i} {r = d} {c = base} (r .below) k, pow-suc base i)
 
 -- a numeral with no zero digit is below the base to its length, a longer one is larger, and so the number tells the bytes
 module _ (p : ℕ → Bool) (base naught : ℕ) (digit : (x : ℕ) → p x ≡ true → (naught < x) × (x - naught < base)) where

@@ -5,9 +5,16 @@ ghost use mathlib.Core.List.{[]};
 ghost use Prim.Native.Nat.{_+_, _≤_};
 ghost use lib.ListN.{length, getD, drop};
 ghost use lib.Seq.{sets};
-ghost use Rattle.laws.specs.Lists.{same};
 ghost use Rattle.text.specs.Digits.{nameBytes, decimal};
-ghost use Rattle.text.specs.Text.{fieldsFrom, indexOf, isNameByte, fieldNumber, nameOf};
+ghost use Rattle.text.specs.Text.{fieldsFrom, indexOf, nameOf};
+
+mod fields;
+
+pub use fields::Taken;
+pub use fields::digits_at;
+pub use fields::is_field;
+pub use fields::name_at;
+use fields::name_run;
 
 // What a field is read as: a number, or nothing that may stand there.
 pub enum Number {
@@ -43,7 +50,7 @@ fn is_near(s: &[u8], at: usize, b: u8) -> bool
     near
 }
 
-// The same for a byte that stands far away: eight bytes at a time, until it is near.
+// The same place as `find` tells, for a byte that stands far away: eight bytes at a time, until it is near.
 pub fn find_far(s: &[u8], from: usize, b: u8) -> usize
     ensures { λ r. ⌜ r ≡ from + indexOf b (drop from (now (s .entry))) ⌝ }
 {
@@ -73,52 +80,19 @@ pub fn field_at(line: &[u8], at: usize) -> &[u8]
     &line[at..e]
 }
 
-// Whether two slices hold the same bytes.
-pub fn equal(a: &[u8], b: &[u8]) -> bool
-    ensures { λ r. ⌜ r ≡ same (now (a .entry)) (now (b .entry)) ⌝ }
-{
-    if a.len() != b.len() {
-        return false;
-    }
-    let mut i = 0;
-    while i < a.len() {
-        if a[i] != b[i] {
-            return false;
-        }
-        i += 1;
-    }
-    true
-}
-
-// Whether a byte is a capital letter or a digit.
-fn name_byte(x: u8) -> bool
-    ensures { λ r. ⌜ r ≡ isNameByte x ⌝ }
-{
-    (b'0' <= x) & (x <= b'9') | (b'A' <= x) & (x <= b'Z')
-}
-
 // The number of a name of least to most bytes.
 fn name(f: &[u8], least: usize, most: usize) -> Number
     requires { ⌜ most ≤ 8 ⌝ }
     ensures { λ r. ⌜ r ≡ nameOf least most (now (f .entry)) ⌝ }
 {
+    let run = name_run(f, 0, most);
     if f.len() < least {
         return Number::Bad;
     }
-    if most < f.len() {
+    if run.end < f.len() {
         return Number::Bad;
     }
-    let mut v: u64 = 0;
-    let mut i: usize = 0;
-    while i < f.len() {
-        let x = f[i];
-        if !name_byte(x) {
-            return Number::Bad;
-        }
-        v = v * 256 + numbers::wide(x);
-        i += 1;
-    }
-    Number::Is(v)
+    Number::Is(run.value)
 }
 
 // The number of a firm's name.
@@ -133,32 +107,6 @@ pub fn root_name(f: &[u8]) -> Number
     ensures { λ r. ⌜ r ≡ nameOf 0 6 (now (f .entry)) ⌝ }
 {
     name(f, 0, 6)
-}
-
-// The number of a field of 1 to 12 digits.
-pub fn digits(f: &[u8]) -> Number
-    ensures { λ r. ⌜ r ≡ fieldNumber (now (f .entry)) ⌝ }
-{
-    if f.len() < 1 {
-        return Number::Bad;
-    }
-    if 12 < f.len() {
-        return Number::Bad;
-    }
-    let mut v: u64 = 0;
-    let mut i: usize = 0;
-    while i < f.len() {
-        let x = f[i];
-        if x < b'0' {
-            return Number::Bad;
-        }
-        if b'9' < x {
-            return Number::Bad;
-        }
-        v = v * 10 + numbers::wide(x - b'0');
-        i += 1;
-    }
-    Number::Is(v)
 }
 
 // The powers of ten that a number of 64 bits can hold.

@@ -1,5 +1,5 @@
 -- What the private functions that read the parts of a line answer; no public contract cites this. Assumes nothing.
-use Prim.Native.Nat.{ℕ}
+use Prim.Native.Nat.{ℕ, _+_}
 use mathlib.Core.Path.{_≡_}
 use mathlib.Core.Bool.{Bool, cond, _&&_}
 use mathlib.Core.List.{List}
@@ -7,7 +7,7 @@ use lib.ListN.{length}
 use lib.Dec.{leb}
 use Rattle.measures.specs.Ranges.{isIn}
 use Rattle.text.specs.Text.{fields, field}
-use Rattle.text.proofs.Lists.{Cursor}
+use Rattle.text.specs.Inner.Taking.{Cursor, fieldAt}
 use Rattle.line.specs.Line.{limitsOf, limitOf, timeOf, isKnown, isRead, theNumber, firmField, typeField, rootField, limitField, isFirmLevel, callPut, month, firmIn, typeIn, rootIn, limitIn}
 use Rattle.line.specs.declared.LimitType.{LimitType}
 use Rattle.line.specs.declared.limits.LimitRead.{LimitRead}
@@ -18,6 +18,10 @@ use Rattle.line.specs.declared.fields.Tail.{Tail}
 -- a number as a type's limit, if it is in range
 unfoldable pub limitRead : LimitType → ℕ → LimitRead
 limitRead type n = cond (isIn (limitsOf type) n) (Is (limitOf type n)) Out
+
+-- the place after the field that begins at a place, and its comma
+abbrev pub afterField : List ℕ → ℕ → ℕ
+afterField line at = at + length (fieldAt line at) + 1
 
 -- what the first four fields say, and that the fifth begins at the place after them
 pub record HeadSays (line : List ℕ) (head : Head) : Type 0 where
