@@ -4,6 +4,8 @@ use Rattle.determined.specs.Determines.{Determines}
 use Rattle.laws.proofs.One.{alike}
 use Rattle.packing.proofs.rule_of.Kinds as rule-of-kinds
 use Rattle.packing.proofs.rule_of.Reads as rule-of-reads
+use Rattle.packing.proofs.window_of.Kinds as window-of-kinds
+use Rattle.packing.proofs.window_of.Reads as window-of-reads
 use Rattle.packing.proofs.is_rule.Kinds as is-rule-kinds
 use Rattle.packing.proofs.is_rule.Reads as is-rule-reads
 use Rattle.packing.proofs.rule_place.Kinds as rule-place-kinds
@@ -21,6 +23,9 @@ use Rattle.packing.proofs.limit_number.Reads as limit-number-reads
 
 pub rule-of : Determines 0 rule-of-kinds.ps rule-of-kinds.r rule-of-reads.Asked rule-of-reads.Learnt
 rule-of κs args asked x y u v p q = (alike p q, refl)
+
+pub window-of : Determines 0 window-of-kinds.ps window-of-kinds.r window-of-reads.Asked window-of-reads.Learnt
+window-of κs args asked x y u v p q = (alike p q, refl)
 
 pub is-rule : Determines 0 is-rule-kinds.ps is-rule-kinds.r is-rule-reads.Asked is-rule-reads.Learnt
 is-rule κs args asked x y u v p q = (alike p q, refl)

@@ -1,5 +1,5 @@
 -- The tests of a rule's two numbers, part by part, as code runs them. Assumes nothing.
-use Prim.Native.Nat.{ℕ, zero, suc, _/_, _%_, _^_, _+_, _≤_, _<_, zero-le}
+use Prim.Native.Nat.{ℕ, zero, suc, _/_, _%_, _^_, _+_, _-_, _≤_, _<_, zero-le}
 use mathlib.Core.Path.{_≡_, refl, sym, ap, ap₂, _∙_}
 use mathlib.Core.Bool.{Bool, true, false, cond, _&&_, and-true, and-comm}
 use mathlib.Core.List.{List, [], _∷_}
@@ -8,9 +8,10 @@ use native.Mathlib.Omega.{arith}
 use lib.ListN.{length, getD, drop}
 use lib.Pow.{pow-pos}
 use lib.Dec.{eqb, leb, ltb, leb·suc-suc}
-use borrow.Author.Tests.{eqb-true, eq-eqb, ne-eqb, le-leb, lt-leb}
+use borrow.Author.Tests.{eqb-true, eq-eqb, ne-eqb, le-leb, lt-leb, leb-true, leb-false}
 use Rattle.laws.proofs.Tests.{and-l, and-r, and-i, same-test}
 use Rattle.laws.specs.Lists.{same}
+use Rattle.measures.specs.Ranges.{_to_, isIn}
 use Rattle.bits.specs.Fields.{packed, unpacked, Fit}
 use Rattle.rules.specs.declared.Scope.{Scope}
 use Rattle.rules.specs.declared.Scope.the-variants.{EveryFill, WholeRoot, OneUnit}
@@ -21,15 +22,27 @@ use Rattle.rules.specs.declared.Rule.{Rule}
 use Rattle.tables.specs.Inner.Tables.{isPlace}
 use Rattle.packing.specs.RulePlace.{limitNumber, measureNumber, windowNumber, kindNumber, scopeNumber, rootNumber, unitNumber, limitWidths, scopeWidths, limitValues, scopeValues, ruleNumbers, limitFrom, kindFrom, scopeFrom, ruleFrom, ruleAt, isLimitPlace, isKindPlace, isScopePlace, isRulePlace}
 use Rattle.rules.specs.Valid.{isLimit, isKind, isScope, isRule}
+use Rattle.packing.specs.Gaps.{gapOf}
 use Rattle.packing.proofs.Parts.{told, field-test}
-use Rattle.packing.proofs.RulePlace.{kind-back, limit-back, limit-fields, measure-most, scope-back, scope-fields, scope-fits}
+use Rattle.packing.proofs.RulePlace.{kind-back, limit-back, limit-fields, measure-most, rule-in, scope-back, scope-fields, scope-fits}
 
 -- the tests of the parts, case by case
-zero-test : (n : ℕ) → leb n 0 ≡ eqb n 0
+pub zero-test : (n : ℕ) → leb n 0 ≡ eqb n 0
 zero-test zero = refl
 zero-test (suc n) = rw (lt-leb (suc n) 0 (omega arith), ne-eqb (suc n) 0 (λ e. omega arith))
 
-pub limit-test : (m n : ℕ) → (leb m 2 && leb 1 n && leb n (cond (eqb m 0) 100_000_000_000 1_000_000_000)) ≡ isLimitPlace m n
+-- a number lies in a range just if its distance from the least, which wraps below it, is at most the range's width
+pub within-test : (n least most : ℕ) → n < 18_446_744_073_709_551_616 → least ≤ most → most < 18_446_744_073_709_551_616
+    → leb (gapOf n least) (most - least) ≡ isIn (least to most) n
+unfolding gapOf
+within-test n least most low some high = go (leb least n) refl (leb n most) refl
+  where
+    go : (x : Bool) → leb least n ≡ x → (y : Bool) → leb n most ≡ y → leb (gapOf n least) (most - least) ≡ (x && y)
+    go true e true f = let l = leb-true least n e in let m = leb-true n most f in le-leb (gapOf n least) (most - least) (omega arith)
+    go true e false f = let l = leb-true least n e in let m = leb-false n most f in lt-leb (gapOf n least) (most - least) (omega arith)
+    go false e y f = let l = leb-false least n e in lt-leb (gapOf n least) (most - least) (omega arith)
+
+pub limit-test : (m n : ℕ) → (leb m 2 && isIn (1 to cond (eqb m 0) 100_000_000_000 1_000_000_000) n) ≡ isLimitPlace m n
 unfolding isLimitPlace isLimit limitFrom
 limit-test zero n = rw (eq-eqb n n refl)
 limit-test (suc zero) n = rw (eq-eqb n n refl)
@@ -38,7 +51,7 @@ limit-test (suc (suc (suc m))) n =
     let k = suc (suc (suc m)) in
     rw (lt-leb k 2 (omega arith), ne-eqb k 0 (λ e. omega arith), ne-eqb k 1 (λ e. omega arith), ne-eqb k 2 (λ e. omega arith))
 
-pub kind-test : (n w : ℕ) → (leb n 1 && leb (cond (eqb n 0) 100 0) w && leb w (cond (eqb n 0) 86_400_000 0)) ≡ isKindPlace n w
+pub kind-test : (n w : ℕ) → (leb n 1 && isIn (cond (eqb n 0) 100 0 to cond (eqb n 0) 86_400_000 0) w) ≡ isKindPlace n w
 unfolding isKindPlace isKind kindFrom
 kind-test zero w = rw (eq-eqb w w refl)
 kind-test (suc zero) w = rw (le-leb 0 w zero-le, zero-test w, and-true)
@@ -46,14 +59,23 @@ kind-test (suc (suc n)) w =
     let k = suc (suc n) in
     rw (lt-leb k 1 (omega arith), ne-eqb k 0 (λ e. omega arith), ne-eqb k 1 (λ e. omega arith))
 
-pub scope-test : (roots n r u : ℕ) → (leb n 2 && ltb r (cond (eqb n 0) 1 roots) && leb u (cond (eqb n 2) 3 0)) ≡ isScopePlace roots n r u
-unfolding isScopePlace isScope scopeFrom
-scope-test roots zero r u = rw (leb·suc-suc r 0, zero-test r, zero-test u, and-true)
-scope-test roots (suc zero) r u = rw (eq-eqb r r refl, zero-test u) (and-comm (ltb r roots) (eqb u 0))
-scope-test roots (suc (suc zero)) r u = rw (eq-eqb r r refl, eq-eqb u u refl, le-leb 0 u zero-le)
-scope-test roots (suc (suc (suc n))) r u =
-    let k = suc (suc (suc n)) in
-    rw (lt-leb k 2 (omega arith), ne-eqb k 0 (λ e. omega arith), ne-eqb k 1 (λ e. omega arith), ne-eqb k 2 (λ e. omega arith))
+-- a scope by its number: every fill, a whole root, and one unit or none of these
+module _ (roots n r u : ℕ) where
+  pub scope-every : n ≡ 0 → (eqb r 0 && eqb u 0) ≡ isScopePlace roots n r u
+  unfolding isScopePlace isScope scopeFrom
+  scope-every e = rw (e, and-true)
+
+  pub scope-whole : n ≡ 1 → (ltb r roots && eqb u 0) ≡ isScopePlace roots n r u
+  unfolding isScopePlace isScope scopeFrom
+  scope-whole e = rw (e, eq-eqb r r refl) (and-comm (ltb r roots) (eqb u 0))
+
+  pub scope-unit : (n ≡ 0 → ⊥) → (n ≡ 1 → ⊥) → (eqb n 2 && ltb r roots && leb u 3) ≡ isScopePlace roots n r u
+  unfolding isScopePlace isScope scopeFrom
+  scope-unit e f = rw (ne-eqb n 0 e, ne-eqb n 1 f, eq-eqb r r refl, eq-eqb u u refl, le-leb 0 u zero-le) (go (eqb n 2) (ltb r roots) (leb u 3))
+    where
+      go : (a b c : Bool) → (a && b && c) ≡ (a && true && true && (b && c))
+      go true b c = refl
+      go false b c = refl
 
 -- a measure that is known has nothing above it
 measure-known : (m n : ℕ) → isLimitPlace m n ≡ true → m ≤ 2
@@ -136,6 +158,29 @@ rule-place roots f s rest =
     rule-parts roots f s _ _ _ _ _ _ _ _ rest (mod-lt f (pow-pos 27)) (omega arith) (omega arith) (limit-fields f) (scope-fields s)
     ∙ ap (λ (b : Bool). b && isKindPlace (s / 1024 % 2) (f % 134_217_728) && isScopePlace roots (s / 256 % 4) (s / 4 % 64) (s % 4))
     (sym (measure-whole (s / 2048) (f / 134_217_728) ∙ ap (λ (t : ℕ). eqb t 0 && isLimitPlace (s / 2048 % 4) (f / 134_217_728)) top))
+
+-- limit and kind decide, or the scope does
+module _ (roots f s : ℕ) {l k : Bool} (limit : l ≡ isLimitPlace (s / 2048) (f / 134_217_728)) (kind : k ≡ isKindPlace (s / 1024 % 2) (f % 134_217_728)) where
+  pub rule-off : (l && k) ≡ false → false ≡ isRulePlace roots (f ∷ s ∷ [])
+  rule-off h = sym (rule-place roots f s [] ∙ rw (← limit, ← kind, h))
+
+  pub rule-on : (l && k) ≡ true → {c : Bool} → c ≡ isScopePlace roots (s / 256 % 4) (s / 4 % 64) (s % 4) → c ≡ isRulePlace roots (f ∷ s ∷ [])
+  rule-on h e = e ∙ sym (rule-place roots f s [] ∙ rw (← limit, ← kind, h))
+
+-- the window's field of a rule's first number is its window
+kind-known : (n w : ℕ) → isKindPlace n w ≡ true → w ≡ windowNumber (kindFrom n w)
+unfolding isKindPlace
+kind-known n w h =
+    let kind = kindFrom n w in
+    let fields = eqb n (kindNumber kind) && eqb w (windowNumber kind) in
+    eqb-true w (windowNumber kind) (and-r (eqb n (kindNumber kind)) (eqb w (windowNumber kind)) (and-l fields (isKind kind) h))
+
+pub window-told : (roots f s : ℕ) (rest : List ℕ) → isRulePlace roots (f ∷ s ∷ rest) ≡ true → f % 134_217_728 ≡ windowNumber (ruleAt (f ∷ s ∷ rest) .kind)
+window-told roots f s rest h =
+    let limit = isLimitPlace (s / 2048) (f / 134_217_728) in
+    let kind = isKindPlace (s / 1024 % 2) (f % 134_217_728) in
+    let parts = and-l (limit && kind) (isScopePlace roots (s / 256 % 4) (s / 4 % 64) (s % 4)) (sym (rule-place roots f s rest) ∙ h) in
+    kind-known _ _ (and-r limit kind parts) ∙ ap (λ (rule : Rule). windowNumber (rule .kind)) (sym (rule-in f s rest))
 
 -- a rule's own numbers are a place of its parts exactly if a profile may hold it
 limit-valid : (limit : Limit) → isLimitPlace (measureNumber limit) (limitNumber limit) ≡ isLimit limit

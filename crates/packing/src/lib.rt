@@ -2,6 +2,7 @@
 ghost use mathlib.Core.Path.{_≡_};
 ghost use mathlib.Core.Bool.{_&&_};
 ghost use mathlib.Core.List.{[], _∷_};
+ghost use Prim.Native.Nat.{_%_};
 ghost use lib.Dec.{ltb};
 ghost use Rattle.measures.specs.Ranges.{isIn, premiums, offers};
 ghost use Rattle.packing.specs.RulePlace.{limitNumber, ruleAt, isRulePlace, rulePlace};
@@ -49,14 +50,23 @@ pub fn rule_of(first: u64, second: u64) -> Rule
     Rule { scope, kind, limit }
 }
 
+// The window in a rule's first number, 0 for an absolute rule.
+pub fn window_of(first: u64) -> u64
+    ensures { λ r. ⌜ r ≡ first % 134_217_728 ⌝ }
+{
+    first % TWO_27
+}
+
 // Whether two numbers are those of a rule that a profile with so many roots may hold, and nothing else.
 pub fn is_rule(first: u64, second: u64, roots: u64) -> bool
     ensures { λ r. ⌜ r ≡ isRulePlace roots (first ∷ second ∷ []) ⌝ }
 {
     // A measure that is known has nothing above it.
-    terms::is_limit(second / 2048, first / TWO_27)
-        & terms::is_kind(second / 1024 % 2, first % TWO_27)
-        & terms::is_scope(roots, second / 256 % 4, second / 4 % 64, second % 4)
+    if !(terms::is_limit(second / 2048, first / TWO_27)
+        & terms::is_kind(second / 1024 % 2, first % TWO_27)) {
+        return false;
+    }
+    terms::is_scope(roots, second / 256 % 4, second / 4 % 64, second % 4)
 }
 
 // Whether a profile with 64 roots may hold a rule.

@@ -1,5 +1,7 @@
 // A rule's limit, kind and scope as numbers: the number of each, what numbers stand for, and which may stand there.
 ghost use mathlib.Core.Path.{_≡_};
+ghost use Prim.Native.Nat.{_≤_};
+ghost use Rattle.measures.specs.Ranges.{_to_, isIn};
 ghost use Rattle.packing.specs.RulePlace.{measureNumber, windowNumber, kindNumber, scopeNumber, rootNumber, unitNumber, limitFrom, kindFrom, scopeFrom, isLimitPlace, isKindPlace, isScopePlace};
 use measures::Contracts;
 use measures::Dollars;
@@ -110,13 +112,24 @@ pub(crate) fn scope_of(n: u64, root: u64, unit: u64) -> Scope
     Scope::OneUnit(root, unit)
 }
 
+// Whether a number lies in a range, by one comparison: its distance from the least wraps where it is below it.
+fn is_within(n: u64, least: u64, most: u64) -> bool
+    requires { ⌜ least ≤ most ⌝ }
+    ensures { λ r. ⌜ r ≡ isIn (least to most) n ⌝ }
+{
+    crate::gap(n, least) <= most - least
+}
+
 // Whether a number is what a limit of this measure, by the measure's number, may be.
 pub(crate) fn is_limit(measure: u64, n: u64) -> bool
     ensures { λ r. ⌜ r ≡ isLimitPlace measure n ⌝ }
 {
     (measure <= 2)
-        & (Dollars::LIMIT_LEAST <= n)
-        & (n <= pick(measure == 0, Dollars::LIMIT_MOST, Contracts::LIMIT_MOST))
+        & is_within(
+            n,
+            Dollars::LIMIT_LEAST,
+            pick(measure == 0, Dollars::LIMIT_MOST, Contracts::LIMIT_MOST),
+        )
 }
 
 // Whether a window is what a kind, by its number, may have.
@@ -124,13 +137,22 @@ pub(crate) fn is_kind(n: u64, window: u64) -> bool
     ensures { λ r. ⌜ r ≡ isKindPlace n window ⌝ }
 {
     (n <= 1)
-        & (pick(n == 0, Time::WINDOW_LEAST, 0) <= window)
-        & (window <= pick(n == 0, Time::WINDOW_MOST, 0))
+        & is_within(
+            window,
+            pick(n == 0, Time::WINDOW_LEAST, 0),
+            pick(n == 0, Time::WINDOW_MOST, 0),
+        )
 }
 
 // Whether a root and a unit are what a scope, by its number, may have with so many roots.
 pub(crate) fn is_scope(roots: u64, n: u64, root: u64, unit: u64) -> bool
     ensures { λ r. ⌜ r ≡ isScopePlace roots n root unit ⌝ }
 {
-    (n <= 2) & (root < pick(n == 0, 1, roots)) & (unit <= pick(n == 2, 3, 0))
+    if n == 0 {
+        return (root == 0) & (unit == 0);
+    }
+    if n == 1 {
+        return (root < roots) & (unit == 0);
+    }
+    (n == 2) & (root < roots) & (unit <= 3)
 }

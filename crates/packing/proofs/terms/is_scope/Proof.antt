@@ -1,17 +1,16 @@
--- `tables::is_scope` meets its contract: each scope has its roots and units. Assumes nothing.
-use Rattle.packing.proofs.RuleTests.{scope-test}
-use borrow.Author.Needs.{needs}
+-- `packing::is_scope` meets its contract: each scope has its roots and units. Assumes nothing.
+use Rattle.packing.proofs.RuleTests.{scope-every, scope-whole, scope-unit}
 use Rattle.packing.proofs.terms.is_scope.Statement.{statement}
 use Rattle.packing.proofs.terms.is_scope.Tie as tie
 
-pick-requires : tie.Need-pick-requires
-pick-requires c κs = search needs
-
-pick-requires-2 : tie.Need-pick-requires-2
-pick-requires-2 c κs = search needs
-
 returns : tie.Need-returns
-returns c = rw (c .before .pick .ensures, c .pick2 .ensures) (scope-test _ _ _ _)
+returns c = scope-every _ _ _ _ (c .if1 .taken)
+
+returns-2 : tie.Need-returns-2
+returns-2 c = scope-whole _ _ _ _ (c .if2 .taken)
+
+returns-3 : tie.Need-returns-3
+returns-3 c = scope-unit _ _ _ _ (c .before .if1 .left) (c .if2 .left)
 
 pub is-scope-spec : {M : Type 1} → statement M
-is-scope-spec = tie.close (tie.spec pick-requires pick-requires-2 returns)
+is-scope-spec = tie.close (tie.spec returns returns-2 returns-3)
