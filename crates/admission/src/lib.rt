@@ -1,7 +1,7 @@
 // One rule more in a profile: whether it may join those before it, and how many there are with it.
 ghost use mathlib.Core.Path.{_≡_};
 ghost use mathlib.Core.List.{List};
-ghost use Prim.Native.Nat.{ℕ, _+_, _<_, max};
+ghost use Prim.Native.Nat.{ℕ, _+_, _≤_, _<_, max};
 ghost use Rattle.rules.specs.declared.Rule.{Rule};
 ghost use Rattle.admission.specs.Inner.Counting.{SoFar, CountsSome, Follows, Numbered, RootIs, FewIn, overIn, coveredIn};
 use rules::Rule;
@@ -20,12 +20,12 @@ pub enum Admitted {
     TooMany,
 }
 
-// How many roots have appeared with this one.
+// How many roots have appeared with this one, which has appeared or is the next.
 fn seen_with(seen: u64, root: u64) -> u64
-    requires { ⌜ root < 64 ⌝ }
+    requires { ⌜ (root ≤ seen) × (root < 64) ⌝ }
     ensures { λ r. ⌜ r ≡ max seen (root + 1) ⌝ }
 {
-    if root < seen { seen } else { root + 1 }
+    if root == seen { seen + 1 } else { seen }
 }
 
 // What a rule adds to the counts of its root's four units, which stand in one number, a byte each: 1 in every byte, or in that of its unit.
@@ -76,14 +76,11 @@ fn admit_root(rule: Rule, root: u64, tally: Tally, counts: &mut [u64]) -> Admitt
     })
 }
 
-// Counts a rule, unless it is one too many or its root is neither one that has appeared nor the next.
-pub fn admit(rule: Rule, tally: Tally, counts: &mut [u64]) -> Admitted
-    requires { ⌜ CountsSome tally (now counts) × Numbered (rule .scope) ⌝ }
+// Counts one of at most 256 rules, unless it is one too many at its level or its root is neither one that has appeared nor the next.
+pub fn admit_next(rule: Rule, tally: Tally, counts: &mut [u64]) -> Admitted
+    requires { ⌜ CountsSome tally (now counts) × (tally .rules < 256) × Numbered (rule .scope) ⌝ }
     ensures { λ r. ⌜ ((before : List Rule) → SoFar before tally (now (counts .entry)) → Follows before tally rule r (now (counts .entry)) (now (counts .exit))) ⌝ }
 {
-    if 256 <= tally.rules {
-        return Admitted::TooMany;
-    }
     let scope = rule.scope;
     match scope {
         Scope::EveryFill => {
@@ -100,4 +97,15 @@ pub fn admit(rule: Rule, tally: Tally, counts: &mut [u64]) -> Admitted
         }
         Scope::WholeRoot(root) | Scope::OneUnit(root, _) => admit_root(rule, root, tally, counts),
     }
+}
+
+// Counts a rule, unless it is one too many or its root is neither one that has appeared nor the next.
+pub fn admit(rule: Rule, tally: Tally, counts: &mut [u64]) -> Admitted
+    requires { ⌜ CountsSome tally (now counts) × Numbered (rule .scope) ⌝ }
+    ensures { λ r. ⌜ ((before : List Rule) → SoFar before tally (now (counts .entry)) → Follows before tally rule r (now (counts .entry)) (now (counts .exit))) ⌝ }
+{
+    if 256 <= tally.rules {
+        return Admitted::TooMany;
+    }
+    admit_next(rule, tally, counts)
 }
