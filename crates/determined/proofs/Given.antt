@@ -2,20 +2,16 @@
 use mathlib.Core.Path.{refl}
 use Rattle.determined.specs.Determines.{Determines}
 use Rattle.laws.proofs.One.{alike}
-use Rattle.given.proofs.is_name_number.Kinds as is-name-number-kinds
-use Rattle.given.proofs.is_name_number.Reads as is-name-number-reads
-use Rattle.given.proofs.are_roots.Kinds as are-roots-kinds
-use Rattle.given.proofs.are_roots.Reads as are-roots-reads
-use Rattle.given.proofs.are_rules.Kinds as are-rules-kinds
-use Rattle.given.proofs.are_rules.Reads as are-rules-reads
-use Rattle.given.proofs.are_totals.Kinds as are-totals-kinds
-use Rattle.given.proofs.are_totals.Reads as are-totals-reads
-use Rattle.given.proofs.has_rate.Kinds as has-rate-kinds
-use Rattle.given.proofs.has_rate.Reads as has-rate-reads
+use Rattle.given.proofs.roots.is_name_number.Kinds as is-name-number-kinds
+use Rattle.given.proofs.roots.is_name_number.Reads as is-name-number-reads
+use Rattle.given.proofs.roots.are_roots.Kinds as are-roots-kinds
+use Rattle.given.proofs.roots.are_roots.Reads as are-roots-reads
+use Rattle.given.proofs.test_rules.Kinds as test-rules-kinds
+use Rattle.given.proofs.test_rules.Reads as test-rules-reads
 use Rattle.given.proofs.rule_at.Kinds as rule-at-kinds
 use Rattle.given.proofs.rule_at.Reads as rule-at-reads
-use Rattle.given.proofs.longest_window.Kinds as longest-window-kinds
-use Rattle.given.proofs.longest_window.Reads as longest-window-reads
+use Rattle.given.proofs.windows.longest_window.Kinds as longest-window-kinds
+use Rattle.given.proofs.windows.longest_window.Reads as longest-window-reads
 
 pub is-name-number : Determines 0 is-name-number-kinds.ps is-name-number-kinds.r is-name-number-reads.Asked is-name-number-reads.Learnt
 is-name-number κs args asked x y u v p q = (alike p q, refl)
@@ -23,14 +19,8 @@ is-name-number κs args asked x y u v p q = (alike p q, refl)
 pub are-roots : Determines 1 are-roots-kinds.ps are-roots-kinds.r are-roots-reads.Asked are-roots-reads.Learnt
 are-roots κs args asked x y u v p q = (alike p q, refl)
 
-pub are-rules : Determines 1 are-rules-kinds.ps are-rules-kinds.r are-rules-reads.Asked are-rules-reads.Learnt
-are-rules κs args asked x y u v p q = (alike p q, refl)
-
-pub are-totals : Determines 2 are-totals-kinds.ps are-totals-kinds.r are-totals-reads.Asked are-totals-reads.Learnt
-are-totals κs args asked x y u v p q = (alike p q, refl)
-
-pub has-rate : Determines 1 has-rate-kinds.ps has-rate-kinds.r has-rate-reads.Asked has-rate-reads.Learnt
-has-rate κs args asked x y u v p q = (alike p q, refl)
+pub test-rules : Determines 2 test-rules-kinds.ps test-rules-kinds.r test-rules-reads.Asked test-rules-reads.Learnt
+test-rules κs args asked x y u v p q = (alike p q, refl)
 
 pub rule-at : Determines 1 rule-at-kinds.ps rule-at-kinds.r rule-at-reads.Asked rule-at-reads.Learnt
 rule-at κs args asked x y u v p q = (alike p q, refl)

@@ -8,7 +8,12 @@ use lib.Dec.{leb}
 use borrow.Author.Tests.{leb-true, lt-leb, le-leb, not-true, not-false}
 use Rattle.laws.proofs.Tests.{and-r}
 use Rattle.measures.specs.Ranges.{_to_, isIn}
-use Rattle.given.specs.Parts.{namesHold, placesHold, rootsHold, placesOf, rulesHold}
+use Rattle.machine.specs.State.{cellsOf}
+use Rattle.machine.specs.Offers.{longest}
+use Rattle.given.specs.declared.Tested.{Tested}
+use Rattle.given.specs.declared.Tested.the-variants.{Fail}
+use Rattle.given.specs.Parts.{namesHold, placesHold, rootsHold, placesOf, rulesOf, rulesHold, totalsHold}
+use Rattle.given.specs.Inner.Tested.{testedOf}
 
 module _ (xs : List ℕ) where
   pub roots-many : 64 < getD xs 0 0 → false ≡ rootsHold xs
@@ -19,14 +24,18 @@ module _ (xs : List ℕ) where
   unfolding rootsHold
   roots-few h b e = e ∙ sym (ap (λ (a : Bool). a && namesHold (getD xs 0 0) (take 64 (drop 1 xs))) (le-leb _ _ h))
 
-module _ (n : ℕ) (xs : List ℕ) (inside : Bool) (is : inside ≡ isIn (1 to 256) (getD xs 0 0)) where
-  pub rules-out : not inside ≡ true → false ≡ rulesHold n xs
+module _ (n : ℕ) (xs amounts : List ℕ) (inside : Bool) (is : inside ≡ isIn (1 to 256) (getD xs 0 0)) where
+  -- what is to be answered, by what the places and totals say
+  abbrev answer : Bool → Tested
+  answer b = testedOf (b && totalsHold (cellsOf (rulesOf xs)) amounts) (longest (rulesOf xs))
+
+  pub rules-out : not inside ≡ true → Fail ≡ answer (rulesHold n xs)
   unfolding rulesHold
-  rules-out h = sym (ap (λ (a : Bool). a && placesHold n (getD xs 0 0) (placesOf xs)) (sym is ∙ not-true inside h))
+  rules-out h = ap (λ (a : Bool). answer (a && placesHold n (getD xs 0 0) (placesOf xs))) (sym (sym is ∙ not-true inside h))
 
   pub rules-few : not inside ≡ false → getD xs 0 0 ≤ 256
   rules-few h = leb-true _ _ (and-r (leb 1 (getD xs 0 0)) _ (sym is ∙ not-false inside h))
 
-  pub rules-in : not inside ≡ false → (b : Bool) → b ≡ placesHold n (getD xs 0 0) (placesOf xs) → b ≡ rulesHold n xs
+  pub rules-in : not inside ≡ false → (t : Tested) → t ≡ answer (placesHold n (getD xs 0 0) (placesOf xs)) → t ≡ answer (rulesHold n xs)
   unfolding rulesHold
-  rules-in h b e = e ∙ sym (ap (λ (a : Bool). a && placesHold n (getD xs 0 0) (placesOf xs)) (sym is ∙ not-false inside h))
+  rules-in h t e = e ∙ ap (λ (a : Bool). answer (a && placesHold n (getD xs 0 0) (placesOf xs))) (sym (sym is ∙ not-false inside h))

@@ -4,3 +4,6 @@ pub mod Order
 pub mod Given
 pub mod Marks
 pub mod Counts
+pub mod Paid
+pub mod Pass
+pub mod Rates

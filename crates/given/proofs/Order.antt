@@ -6,7 +6,7 @@ use mathlib.Core.List.{List, [], _∷_, _++_}
 use lib.ListN.{length, take, drop, replicate, length-append}
 use lib.Seq.{drop-drop}
 use lib.Dec.{eqb, ltb}
-use borrow.Author.Tests.{le-ltb, ltb-true}
+use borrow.Author.Tests.{le-ltb, lt-ltb, ltb-true, eqb-true}
 use native.Mathlib.Nat.{sub-zero}
 use native.Mathlib.Numerals.{add-one}
 use native.Mathlib.Omega.{arith}
@@ -40,11 +40,11 @@ unfolding isPlace
 place-scope n xs e = rule-scope n (ruleAt xs) (and-r (same (take 2 xs) (ruleNumbers (ruleAt xs))) (isRule n (ruleAt xs)) e)
 
 -- few rules of few roots are too many at their own level alone
-seen-few : (n seen : ℕ) (s : Scope) → n ≤ 64 → seen ≤ 64 → isScope n s ≡ true → seenAfter s seen ≤ 64
+seen-few : (seen : ℕ) (s : Scope) → seen ≤ 64 → isScope 64 s ≡ true → seenAfter s seen ≤ 64
 unfolding isScope seenAfter
-seen-few n seen EveryFill h k e = k
-seen-few n seen (WholeRoot r) h k e = omega (arith, ltb-true r n e)
-seen-few n seen (OneUnit r unit) h k e = omega (arith, ltb-true r n (and-l (ltb r n) (isIn units unit) e))
+seen-few seen EveryFill k e = k
+seen-few seen (WholeRoot r) k e = omega (arith, ltb-true r 64 e)
+seen-few seen (OneUnit r unit) k e = omega (arith, ltb-true r 64 (and-l (ltb r 64) (isIn units unit) e))
 
 join-follows : (before : List Rule) (seen : ℕ) (rule : Rule) → length before < 256 → seenAfter (rule .scope) seen ≤ 64 → mayJoin before seen rule ≡ mayFollow before seen rule
 unfolding mayJoin
@@ -60,29 +60,54 @@ places-more (suc k) xs =
     rw add-one (ap (λ (l : List Rule). ruleAt xs ∷ l) (rw add-one at (places-more k (drop 2 xs))
     ∙ ap (λ (ys : List ℕ). places 2 ruleAt k (drop 2 xs) ++ (ruleAt ys ∷ [])) (drop-drop (k * 2) 2 xs ∙ ap (λ (m : ℕ). drop m xs) here)))
 
+-- a root that has appeared is one of the n, where all n have appeared in the end: so it is enough to test that it is one of 64
+scope-known : (n seen : ℕ) (s : Scope) → n ≤ 64 → seenAfter s seen ≤ n → isScope 64 s ≡ isScope n s
+unfolding isScope seenAfter
+scope-known n seen EveryFill few h = refl
+scope-known n seen (WholeRoot r) few h = lt-ltb r 64 (omega arith) ∙ sym (lt-ltb r n (omega arith))
+scope-known n seen (OneUnit r unit) few h = ap (λ (b : Bool). b && isIn units unit) (lt-ltb r 64 (omega arith) ∙ sym (lt-ltb r n (omega arith)))
+
+seen-more : (seen : ℕ) (s : Scope) → seen ≤ seenAfter s seen
+unfolding seenAfter
+seen-more seen EveryFill = omega arith
+seen-more seen (WholeRoot r) = omega arith
+seen-more seen (OneUnit r unit) = omega arith
+
+roots-known : (n : ℕ) → n ≤ 64 → (k : ℕ) (before : List Rule) (seen : ℕ) (xs : List ℕ) → areInOrder n before seen (places 2 ruleAt k xs) ≡ true
+    → (seen ≤ n) × (placesPass 2 (isRulePlace 64) k xs ≡ placesPass 2 (isRulePlace n) k xs)
+unfolding places placesPass areInOrder isPlace isRule
+roots-known n few zero before seen xs h = let e = eqb-true seen n h in (omega arith, refl)
+roots-known n few (suc k) before seen xs h =
+    let rule = ruleAt xs in
+    let later = roots-known n few k (before ++ (rule ∷ [])) (seenAfter (rule .scope) seen) (drop 2 xs) (and-r (mayFollow before seen rule) _ h) in (
+      omega (arith, seen-more seen (rule .scope), later .0),
+      ap₂ (λ (a b : Bool). (same (take 2 xs) (ruleNumbers rule) && (isLimit (rule .limit) && isKind (rule .kind) && a)) && b)
+          (scope-known n seen (rule .scope) few (later .0)) (later .1),
+    )
+
 -- the places from i on hold rules that may stand there
 unfoldable pub leftHolds : ℕ → ℕ → List ℕ → ℕ → ℕ → Bool
 leftHolds n k xs seen i =
-    placesPass 2 (isRulePlace n) (k - i) (drop (i * 2) xs) && areInOrder n (places 2 ruleAt i xs) seen (rulesFrom k xs i)
+    placesPass 2 (isRulePlace 64) (k - i) (drop (i * 2) xs) && areInOrder n (places 2 ruleAt i xs) seen (rulesFrom k xs i)
 
 module _ (n k : ℕ) (xs : List ℕ) (seen i : ℕ) (more : i < k) where
   abbrev here : List ℕ
   here = drop (i * 2) xs
 
   next : leftHolds n k xs seen i
-      ≡ (isRulePlace n here && placesPass 2 (isRulePlace n) (k - (i + 1)) (drop ((i + 1) * 2) xs)
+      ≡ (isRulePlace 64 here && placesPass 2 (isRulePlace 64) (k - (i + 1)) (drop ((i + 1) * 2) xs)
       && (mayFollow (places 2 ruleAt i xs) seen (ruleAt here)
       && areInOrder n (places 2 ruleAt (i + 1) xs) (seenAfter (ruleAt here .scope) seen) (rulesFrom k xs (i + 1))))
   unfolding leftHolds areInOrder
   next = rw (pass-on 2 k i xs more, rules-on k xs i more, places-more i xs)
 
-  left-bad : isRulePlace n here ≡ false → leftHolds n k xs seen i ≡ false
+  left-bad : isRulePlace 64 here ≡ false → leftHolds n k xs seen i ≡ false
   left-bad e = next ∙ rw e
 
   left-stop : mayFollow (places 2 ruleAt i xs) seen (ruleAt here) ≡ false → leftHolds n k xs seen i ≡ false
   left-stop e = next ∙ rw (e, and-false)
 
-  left-on : isRulePlace n here ≡ true → mayFollow (places 2 ruleAt i xs) seen (ruleAt here) ≡ true
+  left-on : isRulePlace 64 here ≡ true → mayFollow (places 2 ruleAt i xs) seen (ruleAt here) ≡ true
       → leftHolds n k xs seen i ≡ leftHolds n k xs (seenAfter (ruleAt here .scope) seen) (i + 1)
   unfolding leftHolds
   left-on e f = next ∙ rw (e, f)
@@ -91,9 +116,13 @@ left-end : (n k : ℕ) (xs : List ℕ) (seen i : ℕ) → k ≤ i → leftHolds 
 unfolding leftHolds placesPass areInOrder
 left-end n k xs seen i h = let z : k - i ≡ 0 = omega arith in rw (z, rules-end k xs i h)
 
-holds-is : (n k : ℕ) (xs : List ℕ) → placesHold n k xs ≡ (leftHolds n k xs 0 0 && allZero (drop (k * 2) xs))
+holds-is : (n k : ℕ) (xs : List ℕ) → n ≤ 64 → placesHold n k xs ≡ (leftHolds n k xs 0 0 && allZero (drop (k * 2) xs))
 unfolding placesHold leftHolds places
-holds-is n k xs = rw (sub-zero, rules-start)
+holds-is n k xs few = ap (λ (b : Bool). b && allZero (drop (k * 2) xs)) (go (areInOrder n [] 0 (places 2 ruleAt k xs)) refl) ∙ rw (sub-zero, rules-start k xs)
+  where
+    go : (b : Bool) → areInOrder n [] 0 (places 2 ruleAt k xs) ≡ b → (placesPass 2 (isRulePlace n) k xs && b) ≡ (placesPass 2 (isRulePlace 64) k xs && b)
+    go true e = ap (λ (a : Bool). a && true) (sym (roots-known n few k [] 0 xs e .1))
+    go false e = and-false (placesPass 2 (isRulePlace n) k xs) ∙ sym (and-false (placesPass 2 (isRulePlace 64) k xs))
 
 -- the rules before place i are counted, and those from it on decide as all of them do
 pub record Gone (n k : ℕ) (xs : List ℕ) (i : ℕ) (tally : Tally) (counts : List ℕ) : Type 0 where
@@ -107,22 +136,26 @@ unfolding places
 gone-start n k xs h l = record { few = (h, l); reach = omega arith; held = none-so-far; rest = refl }
 
 module _ {n k : ℕ} {xs : List ℕ} {i : ℕ} {tally : Tally} {counts : List ℕ} (gone : Gone n k xs i tally counts) where
+  -- there is room for one more
+  pub gone-room : i < k → tally .rules < 256
+  gone-room more = omega (arith, gone .held .rules-are, length-places (rule-codec 64 (omega arith)) i xs, gone .few .1)
+
   -- what the code answers where what is left does not hold, and at the end
   stops : leftHolds n k xs (tally .seen) i ≡ false → false ≡ placesHold n k xs
-  stops e = sym (holds-is n k xs ∙ ap (λ (b : Bool). b && allZero (drop (k * 2) xs)) (gone .rest ∙ e))
+  stops e = sym (holds-is n k xs (gone .few .0) ∙ ap (λ (b : Bool). b && allZero (drop (k * 2) xs)) (gone .rest ∙ e))
 
   pub gone-end : k ≤ i → {zero : Bool} → zero ≡ allZero (drop (k * 2) xs) → (eqb (tally .seen) n && zero) ≡ placesHold n k xs
-  gone-end h e = sym (holds-is n k xs ∙ ap₂ (λ (b z : Bool). b && z) (gone .rest ∙ left-end n k xs (tally .seen) i h) (sym e))
+  gone-end h e = sym (holds-is n k xs (gone .few .0) ∙ ap₂ (λ (b z : Bool). b && z) (gone .rest ∙ left-end n k xs (tally .seen) i h) (sym e))
 
   module _ (more : i < k) where
-    pub gone-bad : isRulePlace n (drop (i * 2) xs) ≡ false → false ≡ placesHold n k xs
+    pub gone-bad : isRulePlace 64 (drop (i * 2) xs) ≡ false → false ≡ placesHold n k xs
     gone-bad e = stops (left-bad n k xs (tally .seen) i more e)
 
-    module _ (ok : isRulePlace n (drop (i * 2) xs) ≡ true) {rule : Rule} (is : rule ≡ ruleAt (drop (i * 2) xs)) where
+    module _ (ok : isRulePlace 64 (drop (i * 2) xs) ≡ true) {rule : Rule} (is : rule ≡ ruleAt (drop (i * 2) xs)) where
       follows : mayFollow (places 2 ruleAt i xs) (tally .seen) rule ≡ mayJoin (places 2 ruleAt i xs) (tally .seen) rule
       follows =
           sym (join-follows (places 2 ruleAt i xs) (tally .seen) rule (omega (arith, length-places (rule-codec 64 (omega arith)) i xs, gone .few .1))
-          (rw is (seen-few n (tally .seen) _ (gone .few .0) (gone .held .roots-most) (place-scope n _ ok))))
+          (rw is (seen-few (tally .seen) _ (gone .held .roots-most) (place-scope 64 _ ok))))
 
       pub gone-stop : (after : List ℕ) → Follows (places 2 ruleAt i xs) tally rule TooMany counts after → false ≡ placesHold n k xs
       unfolding Follows

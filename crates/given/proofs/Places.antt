@@ -104,30 +104,14 @@ own-split (cell ∷ cells) rest (x ∷ totals) =
 module _ (k : ℕ) (xs : List ℕ) (i : ℕ) (more : i < k) (rule : Rule) (is : rule ≡ ruleAt (drop (i * 2) xs)) where
   -- the totals of the accounts from rule i on, which begin at a place
   module _ (totals : List ℕ) (place n : ℕ) (many : n ≡ length (unitsOf (rule .scope))) where
-    next-total : totalsHold (cellsOf (rulesFrom k xs i)) (drop place totals)
+    pub totals-next : totalsHold (cellsOf (rulesFrom k xs i)) (drop place totals)
         ≡ (ownHold (cellsBy rule) (drop place totals) && totalsHold (cellsOf (rulesFrom k xs (i + 1))) (drop (place + n) totals))
     unfolding cellsOf cellsBy
-    next-total =
+    totals-next =
         let on : place + length (cellsBy rule) ≡ place + n = omega (arith, many, length-map (unitsOf (rule .scope)) (ofUnit rule)) in
         rw (rules-on k xs i more, ← is) (own-split (cellsBy rule) (cellsOf (rulesFrom k xs (i + 1))) (drop place totals)
         ∙ ap (λ (ts : List ℕ). ownHold (cellsBy rule) (drop place totals) && totalsHold (cellsOf (rulesFrom k xs (i + 1))) ts)
         (drop-drop (length (cellsBy rule)) place totals ∙ ap (λ (j : ℕ). drop j totals) on))
-
-    pub totals-on : ownHold (cellsBy rule) (drop place totals) ≡ true
-        → totalsHold (cellsOf (rulesFrom k xs i)) (drop place totals) ≡ totalsHold (cellsOf (rulesFrom k xs (i + 1))) (drop (place + n) totals)
-    totals-on h = next-total ∙ rw h
-
-    pub totals-off : ownHold (cellsBy rule) (drop place totals) ≡ false → totalsHold (cellsOf (rulesFrom k xs i)) (drop place totals) ≡ false
-    totals-off h = next-total ∙ rw h
-
-  -- the rate rules from place i on
-  pub rate-on : isRate (rule .kind) ≡ false → hasRate (rulesFrom k xs i) ≡ hasRate (rulesFrom k xs (i + 1))
-  unfolding hasRate
-  rate-on h = rw (rules-on k xs i more, ← is, h)
-
-  pub rate-off : isRate (rule .kind) ≡ true → hasRate (rulesFrom k xs i) ≡ true
-  unfolding hasRate
-  rate-off h = rw (rules-on k xs i more, ← is, h)
 
 -- the longest window of all rules, from what was found and the rules from place i on
 pub span-start : (k : ℕ) (xs : List ℕ) → longest (places 2 ruleAt k xs) ≡ max 0 (longest (rulesFrom k xs 0))
@@ -145,7 +129,3 @@ span-end k xs i n h = rw (rules-end k xs i h) (omega arith)
 pub totals-end : (k : ℕ) (xs : List ℕ) (i : ℕ) (totals : List ℕ) → k ≤ i → totalsHold (cellsOf (rulesFrom k xs i)) totals ≡ allZero totals
 unfolding totalsHold cellsOf
 totals-end k xs i totals h = rw (rules-end k xs i h)
-
-pub rate-end : (k : ℕ) (xs : List ℕ) (i : ℕ) → k ≤ i → hasRate (rulesFrom k xs i) ≡ false
-unfolding hasRate
-rate-end k xs i h = rw (rules-end k xs i h)

@@ -15,7 +15,10 @@ ghost use Rattle.machine.specs.Entries.{areOrdered};
 ghost use Rattle.machine.specs.Offers.{longest};
 ghost use Rattle.machine.specs.Refusals.{used};
 ghost use lib.Dec.{ltb};
-ghost use Rattle.state.specs.Inner.Tests.{rulesPart, frontHolds, locksHold, partsHold};
+
+mod tests;
+
+use given::Tested;
 use rules::Amount;
 use rules::Limit;
 use rules::Rule;
@@ -71,48 +74,12 @@ pub fn write_armed(m: &mut [u64], firm: u64, roots: u64, rules: u64, names: &[u6
     log::blank(&mut m[TOTALS..SIZE]);
 }
 
-// Whether the mark, the clock, the firm and the roots are sound.
-fn is_front(m: &[u64]) -> bool
-    requires { ⌜ size ≤ length (now m) ⌝ }
-    ensures { λ r. ⌜ r ≡ frontHolds (now (m .entry)) ⌝ }
-{
-    (m[MARK] == 1)
-        & measures::is_in(m[CLOCK], 0, measures::Time::MOST)
-        & given::is_name_number(m[FIRM], 1, 4)
-        & given::are_roots(&m[ROOTS..RULES])
-}
-
-// Whether the locks are sound with so many roots: marks are 0 or 1, and no bit stands for a root beyond the last.
-fn are_locks(locks: &[u64], roots: u64) -> bool
-    requires { ⌜ length (now locks) ≡ 4 ⌝ }
-    ensures { λ r. ⌜ r ≡ locksHold roots (now (locks .entry)) ⌝ }
-{
-    measures::is_in(locks[0], 0, 1)
-        & measures::is_in(locks[1], 0, 1)
-        & bits::within(locks[2], roots)
-        & bits::within(locks[3], roots)
-}
-
-// Whether the totals, the locks, the log and the register are sound, with the roots and the clock of the front.
-fn are_parts(m: &[u64]) -> bool
-    requires { ⌜ (size ≤ length (now m)) × (getD (rulesPart (now m)) 0 0 ≤ 256) ⌝ }
-    ensures { λ r. ⌜ r ≡ partsHold (now (m .entry)) ⌝ }
-{
-    let roots = m[ROOTS];
-    let entries = m[LOG];
-    given::are_totals(&m[RULES..TOTALS], &m[TOTALS..LOCKS])
-        & are_locks(&m[LOCKS..REGISTER], roots)
-        & (given::has_rate(&m[RULES..TOTALS]) | (entries == 0))
-        & log::is_log(&m[LOG..SIZE], roots, m[CLOCK])
-        & register::is_register(&m[REGISTER..LOG], roots)
-}
-
 // The longest window of the rules, 0 if none is a rate rule.
 pub fn longest_window(m: &[u64]) -> u64
     requires { ⌜ Laid (now m) ⌝ }
     ensures { λ r. ⌜ r ≡ longest (rulesIn (decode (now (m .entry)))) ⌝ }
 {
-    given::longest_window(&m[RULES..TOTALS])
+    given::windows::longest_window(&m[RULES..TOTALS])
 }
 
 // The use of the log at a time: the entries inside the longest window and the places kept for orders sent away, none without a rate rule.
@@ -146,13 +113,14 @@ pub fn is_sound(m: &[u64]) -> bool
     if m.len() < SIZE {
         return false;
     }
-    if !is_front(m) {
+    if !tests::is_front(m) {
         return false;
     }
-    if !given::are_rules(&m[RULES..TOTALS], m[ROOTS]) {
+    let Tested::Hold(longest) = given::test_rules(&m[RULES..TOTALS], &m[TOTALS..LOCKS], m[ROOTS])
+    else {
         return false;
-    }
-    if !are_parts(m) {
+    };
+    if !tests::are_parts(m, longest) {
         return false;
     }
     uses_less(m, m[CLOCK], 513)

@@ -53,10 +53,14 @@ unfoldable pub locksHold : ℕ → List ℕ → Bool
 locksHold roots xs =
     isIn (0 to 1) (getD xs 0 0) && isIn (0 to 1) (getD xs 1 0) && ltb (getD xs 2 0) (2 ^ roots) && ltb (getD xs 3 0) (2 ^ roots)
 
--- all parts, with the number of roots and the clock that the front tells
+-- the rules, and the totals of their accounts
+abbrev pub rulesPaid : List ℕ → Bool
+rulesPaid xs = rulesHold (getD xs 3 0) (rulesPart xs) && totalsHold (cellsOf (rulesOf (rulesPart xs))) (totalsPart xs)
+
+-- the other parts, with the number of roots and the clock that the front tells
 unfoldable pub partsHold : List ℕ → Bool
 partsHold xs =
-    totalsHold (cellsOf (rulesOf (rulesPart xs))) (totalsPart xs) && locksHold (getD xs 3 0) (locksPart xs)
+    locksHold (getD xs 3 0) (locksPart xs)
     && (hasRate (rulesOf (rulesPart xs)) || eqb (getD xs logAt 0) 0)
     && logHolds (getD xs 3 0) (getD xs 1 0) (logPart xs)
     && registerHolds (getD xs 3 0) (registerPart xs)
@@ -66,4 +70,4 @@ unfoldable pub useHolds : List ℕ → Bool
 useHolds xs = leb (used (decode xs) (decode xs .part .clock)) logPlaces
 
 unfoldable pub soundParts : List ℕ → Bool
-soundParts xs = frontHolds xs && rulesHold (getD xs 3 0) (rulesPart xs) && partsHold xs && useHolds xs
+soundParts xs = frontHolds xs && rulesPaid xs && partsHold xs && useHolds xs
