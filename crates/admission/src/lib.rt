@@ -28,18 +28,6 @@ fn seen_with(seen: u64, root: u64) -> u64
     if root == seen { seen + 1 } else { seen }
 }
 
-// What a rule adds to the counts of its root's four units, which stand in one number, a byte each: 1 in every byte, or in that of its unit.
-fn covered(scope: Scope) -> u64
-    requires { ⌜ Numbered scope ⌝ }
-    ensures { λ r. ⌜ ((root : ℕ) → RootIs root scope → r ≡ coveredIn scope root) ⌝ }
-{
-    match scope {
-        Scope::EveryFill => 0,
-        Scope::WholeRoot(_) => 0x0101_0101,
-        Scope::OneUnit(_, unit) => 1u64 << (unit * 8),
-    }
-}
-
 // Whether one of the four counts in a number, each at most 7, is above 6: with 0x79 more its byte has the highest bit.
 fn is_over(w: u64) -> bool
     requires { ⌜ FewIn w ⌝ }
@@ -48,9 +36,10 @@ fn is_over(w: u64) -> bool
     (w + 0x7979_7979) & 0x8080_8080 != 0
 }
 
-// Counts a rule of a root, unless that root is neither one that has appeared nor the next, or the 65th, or a unit then has 7 rules.
-fn admit_root(rule: Rule, root: u64, tally: Tally, counts: &mut [u64]) -> Admitted
-    requires { ⌜ CountsSome tally (now counts) × (tally .rules < 256) × Numbered (rule .scope) × RootIs root (rule .scope) ⌝ }
+// Counts a rule of a root, which adds so much to the counts of its four units, unless that root is neither one that has appeared nor the next, or the 65th,
+// or a unit then has 7 rules. The four counts stand in one number, a byte each.
+fn admit_root(rule: Rule, root: u64, more: u64, tally: Tally, counts: &mut [u64]) -> Admitted
+    requires { ⌜ CountsSome tally (now counts) × (tally .rules < 256) × Numbered (rule .scope) × RootIs root (rule .scope) × (more ≡ coveredIn (rule .scope) root) ⌝ }
     ensures { λ r. ⌜ ((before : List Rule) → SoFar before tally (now (counts .entry)) → Follows before tally rule r (now (counts .entry)) (now (counts .exit))) ⌝ }
 {
     let seen = tally.seen;
@@ -60,8 +49,6 @@ fn admit_root(rule: Rule, root: u64, tally: Tally, counts: &mut [u64]) -> Admitt
     if 64 <= root {
         return Admitted::TooMany;
     }
-    let scope = rule.scope;
-    let more = covered(scope);
     let at = root as usize;
     let all = counts[at] + more;
     if is_over(all) {
@@ -95,7 +82,9 @@ pub fn admit_next(rule: Rule, tally: Tally, counts: &mut [u64]) -> Admitted
                 firms,
             })
         }
-        Scope::WholeRoot(root) | Scope::OneUnit(root, _) => admit_root(rule, root, tally, counts),
+        // It adds 1 in every byte, or in that of its unit.
+        Scope::WholeRoot(root) => admit_root(rule, root, 0x0101_0101, tally, counts),
+        Scope::OneUnit(root, unit) => admit_root(rule, root, 1u64 << (unit * 8), tally, counts),
     }
 }
 

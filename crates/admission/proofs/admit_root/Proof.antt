@@ -15,9 +15,6 @@ returns c = let s = c .before .before in λ before held. root-late held _ _ (s .
 returns-2 : tie.Need-returns-2
 returns-2 c = let s = c .before .before .before in λ before held. roots-full held _ _ (s .pre .2 .1) _ (s .pre .3) (c .if2 .taken)
 
-covered-requires : tie.Need-covered-requires
-covered-requires c κs = search needs
-
 mul-all : tie.Need-mul-all
 mul-all c = search needs
 
@@ -27,16 +24,16 @@ slice-read-all c = search needs
 -- what the root's number becomes
 module _ (c : tie.After-slice-known2) where
   abbrev begun : tie.Start
-  begun = c .before .before .before .before .before
+  begun = c .before .before .before .before
 
   abbrev all : ℕ
-  all = getD (begun .args .counts .now) (begun .args .root) 0 + c .before .covered .result
+  all = getD (begun .args .counts .now) (begun .args .root) 0 + begun .args .more
 
   all-is : all ≡ getD (begun .args .counts .now) (begun .args .root) 0 + coveredIn (begun .args .rule .scope) (begun .args .root)
-  all-is = ap (λ (n : ℕ). getD (begun .args .counts .now) (begun .args .root) 0 + n) (c .before .covered .ensures _ (begun .pre .3))
+  all-is = ap (λ (n : ℕ). getD (begun .args .counts .now) (begun .args .root) 0 + n) (begun .pre .4)
 
   low : all < 4294967296
-  low = no-wrap (begun .pre .0 .1) (begun .args .rule) _ (begun .pre .2 .1) _ (begun .pre .3) (c .before .before .if2 .left) all-is
+  low = no-wrap (begun .pre .0 .1) (begun .args .rule) _ (begun .pre .2 .1) _ (begun .pre .3) (c .before .if2 .left) all-is
 
 add-all : tie.Need-add-all
 add-all c = omega (arith, low c)
@@ -44,14 +41,14 @@ add-all c = omega (arith, low c)
 is-over-requires : tie.Need-is-over-requires
 is-over-requires c κs =
     let s = begun c in
-    few-in (s .pre .0 .1) (s .args .rule) _ (s .pre .2 .1) _ (s .pre .3) (c .before .before .if2 .left) (all-is c)
+    few-in (s .pre .0 .1) (s .args .rule) _ (s .pre .2 .1) _ (s .pre .3) (c .before .if2 .left) (all-is c)
 
 returns-3 : tie.Need-returns-3
 returns-3 c =
     let k = c .before .before in
     let s = begun k in
     λ before held.
-    units-full held _ _ (s .pre .2 .1) _ (s .pre .3) (k .before .before .if2 .left) (all-is k) (sym (c .before .is-over .ensures) ∙ c .if3 .taken)
+    units-full held _ _ (s .pre .2 .1) _ (s .pre .3) (k .before .if2 .left) (all-is k) (sym (c .before .is-over .ensures) ∙ c .if3 .taken)
 
 mul-counts : tie.Need-mul-counts
 mul-counts c = search needs
@@ -74,7 +71,7 @@ returns-4 c =
     let k = e .before .before in
     let s = begun k in
     λ before held.
-    root-joins held _ _ (s .pre .2 .1) _ (s .pre .3) (k .before .before .if2 .left) (all-is k) (s .pre .1) (k .before .before .before .if1 .left)
+    root-joins held _ _ (s .pre .2 .1) _ (s .pre .3) (k .before .if2 .left) (all-is k) (s .pre .1) (k .before .before .if1 .left)
     (sym (e .before .is-over .ensures) ∙ e .if3 .left) (c .seen-with .ensures)
 
 pub admit-root-spec : {M : Type 1} → statement M
@@ -83,7 +80,6 @@ admit-root-spec =
     (tie.spec
     returns
     returns-2
-    covered-requires
     mul-all
     slice-read-all
     add-all
