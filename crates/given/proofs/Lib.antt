@@ -7,3 +7,5 @@ pub mod Counts
 pub mod Paid
 pub mod Pass
 pub mod Rates
+pub mod Low
+pub mod Eight

@@ -1,34 +1,42 @@
 // The names of a profile's roots: which numbers hold one, and that no two are the same.
 ghost use mathlib.Core.Path.{_≡_};
-ghost use Prim.Native.Nat.{_≤_};
+ghost use Prim.Native.Nat.{_≤_, _<_};
 ghost use mathlib.Core.Bool.{true};
 ghost use lib.ListN.{length};
-ghost use Rattle.text.specs.Text.{isNameByte};
+ghost use Rattle.text.specs.Text.{all, isNameByte};
+ghost use Rattle.text.specs.Digits.{nameBytes};
 ghost use Rattle.given.specs.Names.{isNameNumber};
 ghost use Rattle.given.specs.Given.{isFresh};
 ghost use Rattle.given.specs.Parts.{namesHold, rootsHold};
 
-// Whether a byte is a digit or a capital letter.
-fn is_name_byte(x: u64) -> bool
-    ensures { λ r. ⌜ r ≡ isNameByte x ⌝ }
+// The highest bit of each of eight bytes.
+const HIGHS: u64 = 0x8080_8080_8080_8080;
+
+// Whether the bytes of a number, of which there are so many, are digits and capitals: all at once, by the highest bit of each. With 80 more a byte has it
+// from 48 on, taken from 185 it has it up to 57, and so for 65 and 90; no byte below 128 reaches into its neighbour.
+fn are_name_bytes(n: u64, size: u64) -> bool
+    requires { ⌜ (size < 8) × (size ≡ length (nameBytes n)) ⌝ }
+    ensures { λ r. ⌜ r ≡ all isNameByte (nameBytes n) ⌝ }
 {
-    ((48 <= x) & (x <= 57)) | ((65 <= x) & (x <= 90))
+    if n & HIGHS != 0 {
+        return false;
+    }
+    let digits = (n + 0x5050_5050_5050_5050) & (0xB9B9_B9B9_B9B9_B9B9 - n);
+    let capitals = (n + 0x3F3F_3F3F_3F3F_3F3F) & (0xDADA_DADA_DADA_DADA - n);
+    let own = ((1u64 << (size * 8)) - 1) & HIGHS;
+    (digits | capitals) & own == own
 }
 
 // Whether a number holds a name of least to most capitals or digits: its bytes from the lowest on, up to the highest that is not 0.
 pub fn is_name_number(n: u64, least: u64, most: u64) -> bool
+    requires { ⌜ most < 8 ⌝ }
     ensures { λ r. ⌜ r ≡ isNameNumber least most n ⌝ }
 {
-    let mut rest = n;
-    let mut count: u64 = 0;
-    while 0 < rest {
-        if !is_name_byte(rest % 256) {
-            return false;
-        }
-        rest = rest / 256;
-        count += 1;
+    let size = text::name_size(n) as u64;
+    if (size < least) | (most < size) {
+        return false;
     }
-    (least <= count) & (count <= most)
+    are_name_bytes(n, size)
 }
 
 // Whether a name does not stand among these.
