@@ -41,7 +41,7 @@ pub(crate) fn near_full(m: &mut [u64], a: &mut [u64], e: Event) -> Answer
     if !figures::fits(a, h) {
         return Answer::Refused(21);
     }
-    lent::copy(&trial, m);
+    state::copy(&trial, m);
     figures::count(a, h);
     answer
 }

@@ -1,8 +1,7 @@
-// What is lent: the refusal by the state's memory where the account is not one, and numbers copied.
+// What is lent: the refusal by the state's memory where the account is not one, and its numbers copied.
 ghost use mathlib.Core.Path.{_≡_};
 ghost use Prim.Native.Nat.{_≤_};
-ghost use mathlib.Core.List.{_++_};
-ghost use lib.ListN.{length, take, drop};
+ghost use lib.ListN.{length, take};
 ghost use Rattle.state.specs.State.{size};
 ghost use Rattle.accounted.specs.Inner.Lent.{withoutAccount};
 
@@ -19,24 +18,12 @@ pub(crate) fn without_account(m: &[u64]) -> u64
     2
 }
 
-// Writes numbers over the front of others.
-pub(crate) fn copy(from: &[u64], to: &mut [u64])
-    requires { ⌜ length (now from) ≤ length (now to) ⌝ }
-    ensures { λ _. ⌜ now (to .exit) ≡ now (from .entry) ++ drop (length (now (from .entry))) (now (to .entry)) ⌝ }
-{
-    let mut i = 0;
-    while i < from.len() {
-        to[i] = from[i];
-        i += 1;
-    }
-}
-
 // A copy of the state's numbers.
 pub(crate) fn copied(m: &[u64]) -> [u64; state::SIZE]
     requires { ⌜ size ≤ length (now m) ⌝ }
     ensures { λ r. ⌜ r ≡ take size (now (m .entry)) ⌝ }
 {
     let mut numbers = [0; state::SIZE];
-    copy(&m[..state::SIZE], &mut numbers);
+    state::copy(&m[..state::SIZE], &mut numbers);
     numbers
 }

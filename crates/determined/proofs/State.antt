@@ -2,6 +2,8 @@
 use mathlib.Core.Path.{refl}
 use Rattle.determined.specs.Determines.{Determines}
 use Rattle.laws.proofs.One.{alike}
+use Rattle.state.proofs.copy.Kinds as copy-kinds
+use Rattle.state.proofs.copy.Reads as copy-reads
 use Rattle.state.proofs.write_armed.Kinds as write-armed-kinds
 use Rattle.state.proofs.write_armed.Reads as write-armed-reads
 use Rattle.state.proofs.is_sound.Kinds as is-sound-kinds
@@ -34,6 +36,9 @@ use Rattle.state.proofs.uses_less.Kinds as uses-less-kinds
 use Rattle.state.proofs.uses_less.Reads as uses-less-reads
 use Rattle.state.proofs.orders_in.Kinds as orders-in-kinds
 use Rattle.state.proofs.orders_in.Reads as orders-in-reads
+
+pub copy : Determines 2 copy-kinds.ps copy-kinds.r copy-reads.Asked copy-reads.Learnt
+copy κs args asked x y u v p q = (refl, λ i. (v .0, (alike p q i, v .1 .1)))
 
 pub write-armed : Determines 3 write-armed-kinds.ps write-armed-kinds.r write-armed-reads.Asked write-armed-reads.Learnt
 write-armed κs args asked x y u v p q = (refl, λ i. (alike p q i, v .1))

@@ -49,7 +49,7 @@ pub const LOG: usize = REGISTER + register::SIZE;
 pub const SIZE: usize = LOG + log::SIZE;
 
 // Writes numbers over the front of others.
-fn copy(from: &[u64], to: &mut [u64])
+pub fn copy(from: &[u64], to: &mut [u64])
     requires { ⌜ length (now from) ≤ length (now to) ⌝ }
     ensures { λ _. ⌜ now (to .exit) ≡ now (from .entry) ++ drop (length (now (from .entry))) (now (to .entry)) ⌝ }
 {
