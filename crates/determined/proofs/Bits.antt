@@ -21,7 +21,7 @@ pub read-fields : Determines 3 read-fields-kinds.ps read-fields-kinds.r read-fie
 read-fields κs args asked x y u v p q = (refl, λ i. (v .0, (v .1 .0, (alike p q i, v .1 .1 .1))))
 
 pub write-fields : Determines 3 write-fields-kinds.ps write-fields-kinds.r write-fields-reads.Asked write-fields-reads.Learnt
-write-fields κs args asked x y u v p q = (refl, λ i. (v .0, (v .1 .0, (alike p q i, v .1 .1 .1))))
+write-fields κs args asked x y u v p q = (refl, λ i. (v .0, (v .1 .0, (v .1 .1 .0, (alike p q i, v .1 .1 .1 .1)))))
 
 pub marked : Determines 0 marked-kinds.ps marked-kinds.r marked-reads.Asked marked-reads.Learnt
 marked κs args asked x y u v p q = (alike p q, refl)

@@ -1,14 +1,13 @@
 -- An event's values in the other form: they are an event's there, and come back as they were. Assumes nothing.
 use Prim.Native.Nat.{ℕ, _*_, _/_, _%_, _≤_, zero-le}
-use mathlib.Core.Path.{_≡_, refl, sym, ap, _∙_, subst}
-use mathlib.Core.Bool.{Bool, true, false, _&&_, false≢true}
-use mathlib.Core.List.{List, [], _∷_, _++_}
+use mathlib.Core.Path.{_≡_, refl, _∙_}
+use mathlib.Core.Bool.{true, false, false≢true}
 use native.Mathlib.Nat.{mul-mod-left, mul-div-cancel, div-add-mod'}
 use native.Mathlib.Omega.{arith}
-use lib.ListN.{getD, take, drop}
+use lib.ListN.{getD}
 use lib.Dec.{leb, eqb, lit<}
 use borrow.Author.Tests.{le-leb, eqb-true}
-use Rattle.measures.specs.Ranges.{_to_, isIn, times}
+use Rattle.measures.specs.Ranges.{isIn, times}
 use Rattle.laws.proofs.Tests.{tests, and-l, and-r, and-i}
 use Rattle.records.specs.Form.{stands}
 use Rattle.records.specs.declared.Event.{Event}
@@ -22,33 +21,12 @@ use Rattle.records.proofs.Round.{stands-of}
 use Rattle.records.proofs.Forms.{lawful, lawful16}
 
 -- a time is at most the last millisecond of the day
+
 pub time-most : (e : Event) → isValid e ≡ true → getD (valuesOf e) 1 0 ≤ 86_399_999
 unfolding isValid valuesOf
 time-most (Order time root reset) h = search tests depth 14
 time-most (Offer time root unit premium contracts) h = search tests depth 14
 time-most (Lockout time level root) h = search tests depth 14
-
-second : (xs : List ℕ) → getD xs 2 0 ≡ getD (drop 1 xs) 1 0
-second [] = refl
-second (x ∷ xs) = refl
-
-second-kept : (e : Event) → getD (take 8 (valuesOf e)) 1 0 ≡ getD (valuesOf e) 1 0
-unfolding valuesOf
-second-kept (Order time root reset) = refl
-second-kept (Offer time root unit premium contracts) = refl
-second-kept (Lockout time level root) = refl
-
--- in the row it stands after the refusal and the kind
-pub time-row : (row : List ℕ) (e : Event) → drop 1 row ≡ take 8 (valuesOf e) → isValid e ≡ true → getD row 2 0 ≤ 86_399_999
-time-row row e r h =
-    subst (λ (t : ℕ). t ≤ 86_399_999) (sym (second row ∙ ap (λ (xs : List ℕ). getD xs 1 0) r ∙ second-kept e)) (time-most e h)
-
--- the spare bits are not moved
-pub widened-take : (e : Event) → widened (take 8 (valuesOf e)) ≡ widened (valuesOf e)
-unfolding widened valuesOf
-widened-take (Order time root reset) = refl
-widened-take (Offer time root unit premium contracts) = refl
-widened-take (Lockout time level root) = refl
 
 stamped : (t : ℕ) → isIn times t ≡ true → isIn stamps (t * 1000) ≡ true
 stamped t h = let m : t ≤ 86_399_999 = search tests depth 14 in and-i (le-leb 0 (t * 1000) zero-le) (le-leb (t * 1000) 86_399_999_999 (omega arith))
@@ -85,16 +63,6 @@ milliseconds t h = let m : t ≤ 86_399_999_999 = search tests depth 14 in and-i
 
 multiple : (t : ℕ) → t % 1000 ≡ 0 → t / 1000 * 1000 ≡ t
 multiple t h = omega (arith, div-add-mod' t 1000)
-
--- in the row two zeros stand where the spare bits stand in the fields
-pub narrowed-take : (e : Event16) → let row = take 10 (values16Of e) ++ (0 ∷ 0 ∷ []) in (movesBack row ≡ movesBack (values16Of e)) × (narrowed row ≡ narrowed (values16Of e))
-unfolding narrowed movesBack values16Of
-narrowed-take (Order16 time root reset) = (refl, refl)
-narrowed-take (Offer16 time root unit premium contracts) = (refl, refl)
-narrowed-take (Lockout16 time level root) = (refl, refl)
-narrowed-take (Sending time root unit premium contracts identity reports) = (refl, refl)
-narrowed-take (Report time identity contracts) = (refl, refl)
-narrowed-take (Closing time identity) = (refl, refl)
 
 -- a new event that moves back has the values of an old event, and comes back as it was
 pub narrowed-stands : (e : Event16) → isValid16 e ≡ true → movesBack (values16Of e) ≡ true → stands form (narrowed (values16Of e)) ≡ true

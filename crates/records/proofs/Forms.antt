@@ -1,12 +1,12 @@
 -- Both forms are lawful: a valid event fits its fields, and an event's values stand for it. Assumes nothing.
-use Prim.Native.Nat.{ℕ, _≤_, _<_, zero-le}
+use Prim.Native.Nat.{zero-le}
 use mathlib.Core.Path.{_≡_, refl}
 use mathlib.Core.Bool.{true}
 use native.Mathlib.Omega.{arith}
-use lib.ListN.{length}
 use Rattle.laws.proofs.Tests.{tests}
 use Rattle.bits.specs.Fields.{total, Fit}
-use Rattle.bits.proofs.Packing.{done, most, fits}
+use lib.Dec.{lit≤}
+use Rattle.bits.proofs.Packing.{done, most, fits, widths-to}
 use Rattle.records.specs.declared.Event.{Event}
 use Rattle.records.specs.declared.Event.the-variants.{Order, Offer, Lockout}
 use Rattle.records.specs.declared.Event16.{Event16}
@@ -16,6 +16,7 @@ use Rattle.records.specs.Event16.{widths16, values16Of, awayEventOf, eve
 use Rattle.records.proofs.Round.{Lawful}
 
 -- a valid event fits its fields: each range is one of the tests
+
 fit : (e : Event) → isValid e ≡ true → Fit widths (valuesOf e)
 unfolding isValid valuesOf
 fit (Order time root reset) h =
@@ -42,7 +43,7 @@ back (Lockout time level root) = refl
 
 pub lawful : Lawful form
 unfolding total
-lawful = record { full = refl; fit = fit; back = back }
+lawful = record { long = (lit≤ tt, lit≤ tt); each = widths-to 63 widths tt; full = refl; fit = fit; back = back }
 
 fit16 : (e : Event16) → isValid16 e ≡ true → Fit widths16 (values16Of e)
 unfolding isValid16 values16Of
@@ -90,19 +91,4 @@ back16 (Closing time identity) = refl
 
 pub lawful16 : Lawful form16
 unfolding total
-lawful16 = record { full = refl; fit = fit16; back = back16 }
-
-pub length-values : (e : Event) → length (valuesOf e) ≡ 9
-unfolding valuesOf
-length-values (Order time root reset) = refl
-length-values (Offer time root unit premium contracts) = refl
-length-values (Lockout time level root) = refl
-
-pub length-values16 : (e : Event16) → length (values16Of e) ≡ 11
-unfolding values16Of
-length-values16 (Order16 time root reset) = refl
-length-values16 (Offer16 time root unit premium contracts) = refl
-length-values16 (Lockout16 time level root) = refl
-length-values16 (Sending time root unit premium contracts identity reports) = refl
-length-values16 (Report time identity contracts) = refl
-length-values16 (Closing time identity) = refl
+lawful16 = record { long = (lit≤ tt, lit≤ tt); each = widths-to 63 widths16 tt; full = refl; fit = fit16; back = back16 }

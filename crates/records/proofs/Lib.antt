@@ -1,11 +1,11 @@
 pub mod Round
 pub mod Forms
 pub mod Standing
+pub mod Tabled
+pub mod Ranged
 pub mod Cases
-pub mod Rowed
 pub mod Across
 pub mod Moved
 pub mod Promises
 pub mod Promises16
-pub mod Tabled
 pub mod Promised

@@ -1,6 +1,6 @@
 -- What is promised of records, as specs/Promised says it. Assumes nothing.
 use Prim.Native.Nat.{ℕ, _≤_, _<_}
-use mathlib.Core.Path.{_≡_, refl, sym, ap, _∙_}
+use mathlib.Core.Path.{_≡_, refl, ap, _∙_}
 use mathlib.Core.Bool.{Bool, true, false}
 use mathlib.Core.List.{List}
 use native.Mathlib.Omega.{arith}
@@ -15,10 +15,10 @@ use Rattle.records.specs.Event.{widths, form, writeRefusal}
 use Rattle.records.specs.Event16.{widths16, form16}
 use Rattle.records.specs.Moves.{Move, widening, narrowing, movingOf, movedRecord, moved, moveRefusal, widened, narrowed, movesBack}
 use Rattle.records.specs.Promised.{OneRecord, Written, Moved, RecordsPromised}
-use Rattle.records.proofs.Round.{Lawful, read-again, write-again, read-values}
+use Rattle.records.proofs.Round.{Lawful, fields-are, read-again, write-again, read-values}
 use Rattle.records.proofs.Forms.{lawful, lawful16}
 use Rattle.records.proofs.Across.{widened-back}
-use Rattle.records.proofs.Moved.{fields-are, narrowed-holds}
+use Rattle.records.proofs.Moved.{narrowed-holds}
 use Rattle.records.proofs.Tabled.{record-by-table}
 use Rattle.records.proofs.Promises16.{moved-record, there-and-back, back-and-there}
 
@@ -142,7 +142,7 @@ moves M = record {
 -- an old record that was moved moves back
 widened-moves : (s : List ℕ) → accepts form s ≡ true → movesBack (fieldsOf widths16 (movedRecord widening s)) ≡ true
 widened-moves s a =
-    let f = fields-are s a in
+    let f = fields-are form s a in
     ap movesBack (moved-record s a .1) ∙ ap (λ (v : List ℕ). movesBack (widened v)) (f .0) ∙ widened-back _ (f .1) .0
 
 moved-back : (t : List ℕ) → accepts form16 t ≡ true → movesBack (fieldsOf widths16 t) ≡ true

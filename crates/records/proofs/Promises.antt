@@ -17,6 +17,7 @@ use Rattle.records.proofs.Round.{read-again, write-again}
 use Rattle.records.proofs.Forms.{lawful}
 
 -- an event that is written is read again
+
 pub read-written : (e : Event) → isValid e ≡ true → readOf (recordOf form e) ≡ Is e
 unfolding readOf
 read-written e h = let r = read-again form lawful e h in rw (r .0, r .1)

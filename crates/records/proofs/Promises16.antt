@@ -16,12 +16,13 @@ use Rattle.records.specs.Form.{accepts, eventAt, recordOf}
 use Rattle.records.specs.Event.{widths, form}
 use Rattle.records.specs.Event16.{widths16, values16Of, isValid16, form16, read16Of, read16Refusal}
 use Rattle.records.specs.Moves.{movingOf, movedRecord, widening, narrowing, widened, narrowed, movesBack, moveRefusal}
-use Rattle.records.proofs.Round.{read-again, write-again, read-values, write-fields-again, record-inj}
+use Rattle.records.proofs.Round.{fields-are, read-again, write-again, read-values, write-fields-again, record-inj}
 use Rattle.records.proofs.Forms.{lawful, lawful16}
 use Rattle.records.proofs.Across.{widened-back, narrowed-back}
-use Rattle.records.proofs.Moved.{fields-are, fields16-are, widened-holds, narrowed-holds}
+use Rattle.records.proofs.Moved.{fields16-are, widened-holds, narrowed-holds}
 
 -- an event that is written is read again
+
 pub read-written : (e : Event16) → isValid16 e ≡ true → read16Of (recordOf form16 e) ≡ Is e
 unfolding read16Of
 read-written e h = let r = read-again form16 lawful16 e h in rw (r .0, r .1)
@@ -67,7 +68,7 @@ pub there-and-back : (s : List ℕ) → ((i : ℕ) → getD s i 0 < 256) → acc
 unfolding movingOf movedRecord
 there-and-back s b a =
     let m = moved-record s a in
-    let f = fields-are s a in
+    let f = fields-are form s a in
     let k = widened-back (eventAt form s) (f .1) in
     let fits : movesBack (widened (fieldsOf widths s)) ≡ true = ap (λ (v : List ℕ). movesBack (widened v)) (f .0) ∙ k .0 in
     let same : narrowed (widened (fieldsOf widths s)) ≡ fieldsOf widths s = ap (λ (v : List ℕ). narrowed (widened v)) (f .0) ∙ k .1 ∙ sym (f .0) in
@@ -96,7 +97,7 @@ unfit-none t s n h a e = go (accepts form16 t) (movesBack (fieldsOf widths16 t))
   where
     fits : movesBack (fieldsOf widths16 t) ≡ true
     fits =
-        let f = fields-are s a in
+        let f = fields-are form s a in
         ap (λ (x : List ℕ). movesBack (fieldsOf widths16 x)) (sym e) ∙ ap movesBack (moved-record s a .1)
         ∙ ap (λ (v : List ℕ). movesBack (widened v)) (f .0) ∙ widened-back (eventAt form s) (f .1) .0
 

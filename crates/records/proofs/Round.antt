@@ -1,7 +1,7 @@
 -- Reading after writing and writing after reading, once for every form of record. Assumes nothing.
 use Prim.Native.Nat.{ℕ, _*_, _≤_, _<_}
 use mathlib.Core.Path.{_≡_, refl, sym, ap, _∙_, subst}
-use mathlib.Core.Bool.{Bool, true, false, _&&_}
+use mathlib.Core.Bool.{Bool, true, false}
 use mathlib.Core.List.{List, _++_}
 use lib.ListN.{length, getD, drop}
 use lib.Dec.{eqb}
@@ -14,8 +14,12 @@ use Rattle.bits.proofs.Packing.{read-write, write-read, length-bytes, bytes-fit
 use Rattle.records.specs.Form.{Form, recordOf, eventAt, stands, accepts, wrote, written, wroteValues, writtenValues}
 use Rattle.records.specs.declared.Writing.the-variants.{Done, Faulty, Short}
 
--- what a form owes: its fields fill its bytes, a valid event fits them, and an event's values stand for that event
+-- what a form owes: its bytes are 9 to 16, its fields are of 1 to 63 bits and fill its bytes, a valid event fits them, and an event's values stand for
+-- that event
+
 pub record Lawful {E : Type 0} (F : Form E) : Type 0 where
+  pub long : (9 ≤ F .size) × (F .size ≤ 16)
+  pub each : (k : ℕ) → k < length (F .widths) → (1 ≤ getD (F .widths) k 0) × (getD (F .widths) k 0 ≤ 63)
   pub full : total (F .widths) ≡ F .size * 8
   pub fit : (e : E) → F .valid e ≡ true → Fit (F .widths) (F .values e)
   pub back : (e : E) → F .event (F .values e) ≡ e
@@ -43,6 +47,11 @@ module _ {E : Type 0} (F : Form E) where
   unfolding accepts
   accepts-not s h = rw (ne-eqb _ _ h)
 
+  -- a record's fields are its event's values, and that event is valid
+  pub fields-are : (s : List ℕ) → accepts F s ≡ true → (fieldsOf (F .widths) s ≡ F .values (eventAt F s)) × (F .valid (eventAt F s) ≡ true)
+  unfolding eventAt
+  fields-are s a = stands-is (fieldsOf (F .widths) s) (accepts-is s a .1)
+
 module _ {E : Type 0} (F : Form E) (w : Lawful F) where
   -- an event's values are an event's exactly if it is valid
   pub stands-of : (e : E) → stands F (F .values e) ≡ F .valid e
@@ -52,6 +61,19 @@ module _ {E : Type 0} (F : Form E) (w : Lawful F) where
   -- values that are an event's fit their fields
   pub stands-fit : (v : List ℕ) → stands F v ≡ true → Fit (F .widths) v
   stands-fit v h = let p = stands-is F v h in subst (Fit (F .widths)) (sym (p .0)) (w .fit (F .event v) (p .1))
+
+  -- what reading fields from n bytes to m places asks, and writing values that are an event's to n bytes of room
+  pub readable : (n m : ℕ) → n ≡ F .size → length (F .widths) ≡ m
+      → ((9 ≤ n) × (n ≤ 16))
+      × ((total (F .widths) ≡ n * 8)
+      × ((length (F .widths) ≡ m) × ((k : ℕ) → k < length (F .widths) → (1 ≤ getD (F .widths) k 0) × (getD (F .widths) k 0 ≤ 63))))
+  readable n m l e = rw l (w .long, (w .full, (e, w .each)))
+
+  pub writable : (v : List ℕ) (n : ℕ) → stands F v ≡ true → F .size ≤ n
+      → ((9 ≤ F .size) × (F .size ≤ 16) × (F .size ≤ n))
+      × (Fit (F .widths) v
+      × ((total (F .widths) ≡ F .size * 8) × ((k : ℕ) → k < length (F .widths) → (1 ≤ getD (F .widths) k 0) × (getD (F .widths) k 0 ≤ 63))))
+  writable v n h l = ((w .long .0, w .long .1, l), (stands-fit v h, (w .full, w .each)))
 
   -- bytes that hold an event's values are its record
   pub read-values : (v : List ℕ) → stands F v ≡ true

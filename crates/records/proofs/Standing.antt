@@ -1,12 +1,12 @@
 -- Which values are an event's, kind by kind: those that the kind does not use are 0, and the others are in their ranges. Assumes nothing.
 use Prim.Native.Nat.{ℕ}
-use mathlib.Core.Path.{_≡_, refl, sym, _∙_, ap}
-use mathlib.Core.Bool.{Bool, true, false, cond, _&&_, _||_}
-use mathlib.Core.List.{List, [], _∷_}
+use mathlib.Core.Path.{_≡_, refl}
+use mathlib.Core.Bool.{true, false, _&&_, _||_}
+use mathlib.Core.List.{[], _∷_}
 use lib.Dec.{eqb}
 use borrow.Author.Tests.{eq-eqb, ne-eqb}
 use Rattle.measures.specs.Ranges.{_to_, isIn, times, roots, units, premiums, offers, identities, reportsAsked}
-use Rattle.laws.proofs.Tests.{joinedTo, joined-zero}
+use Rattle.laws.proofs.Tests.{noneIn}
 use Rattle.laws.specs.Lists.{same}
 use Rattle.records.specs.Form.{stands}
 use Rattle.records.specs.Event.{valuesOf, eventOf, isValid, form}
@@ -16,20 +16,20 @@ self : (x : ℕ) → eqb x x ≡ true
 self x = eq-eqb x x refl
 
 module _ (t r u p c s l z : ℕ) where
-  pub order-stands : (eqb (joinedTo u (p ∷ c ∷ l ∷ z ∷ [])) 0 && (isIn times t && isIn roots r && isIn (0 to 3) s))
+  pub order-stands : (noneIn (u ∷ p ∷ c ∷ l ∷ z ∷ []) && (isIn times t && isIn roots r && isIn (0 to 3) s))
       ≡ stands form (0 ∷ t ∷ r ∷ u ∷ p ∷ c ∷ s ∷ l ∷ z ∷ [])
   unfolding stands same valuesOf eventOf isValid
-  order-stands = rw (joined-zero u (p ∷ c ∷ l ∷ z ∷ []), self t, self r, self s)
+  order-stands = rw (self t, self r, self s)
 
-  pub offer-stands : (eqb (joinedTo s (l ∷ z ∷ [])) 0 && (isIn times t && isIn roots r && isIn units u && isIn premiums p && isIn offers c))
+  pub offer-stands : (noneIn (s ∷ l ∷ z ∷ []) && (isIn times t && isIn roots r && isIn units u && isIn premiums p && isIn offers c))
       ≡ stands form (1 ∷ t ∷ r ∷ u ∷ p ∷ c ∷ s ∷ l ∷ z ∷ [])
   unfolding stands same valuesOf eventOf isValid
-  offer-stands = rw (joined-zero s (l ∷ z ∷ []), self t, self r, self u, self p, self c)
+  offer-stands = rw (self t, self r, self u, self p, self c)
 
-  pub lockout-stands : (eqb (joinedTo u (p ∷ c ∷ s ∷ z ∷ [])) 0 && (isIn times t && isIn roots r && isIn (0 to 1) l && (eqb l 0 || eqb r 0)))
+  pub lockout-stands : (noneIn (u ∷ p ∷ c ∷ s ∷ z ∷ []) && (isIn times t && isIn roots r && isIn (0 to 1) l && (eqb l 0 || eqb r 0)))
       ≡ stands form (2 ∷ t ∷ r ∷ u ∷ p ∷ c ∷ s ∷ l ∷ z ∷ [])
   unfolding stands same valuesOf eventOf isValid
-  lockout-stands = rw (joined-zero u (p ∷ c ∷ s ∷ z ∷ []), self t, self r, self l)
+  lockout-stands = rw (self t, self r, self l)
 
   -- there is no other kind
   pub none-stands : (k : ℕ) → (k ≡ 0 → ⊥) → (k ≡ 1 → ⊥) → (k ≡ 2 → ⊥) → stands form (k ∷ t ∷ r ∷ u ∷ p ∷ c ∷ s ∷ l ∷ z ∷ []) ≡ false
@@ -37,36 +37,36 @@ module _ (t r u p c s l z : ℕ) where
   none-stands k a b d = rw (ne-eqb k 0 a, ne-eqb k 1 b, ne-eqb k 2 d)
 
 module _ (t r u p c s l i q z : ℕ) where
-  pub order16-stands : (eqb (joinedTo u (p ∷ c ∷ l ∷ i ∷ q ∷ z ∷ [])) 0 && (isIn stamps t && isIn roots r && isIn (0 to 6) s))
+  pub order16-stands : (noneIn (u ∷ p ∷ c ∷ l ∷ i ∷ q ∷ z ∷ []) && (isIn stamps t && isIn roots r && isIn (0 to 6) s))
       ≡ stands form16 (0 ∷ t ∷ r ∷ u ∷ p ∷ c ∷ s ∷ l ∷ i ∷ q ∷ z ∷ [])
   unfolding stands same values16Of event16Of isValid16
-  order16-stands = rw (joined-zero u (p ∷ c ∷ l ∷ i ∷ q ∷ z ∷ []), self t, self r, self s)
+  order16-stands = rw (self t, self r, self s)
 
-  pub offer16-stands : (eqb (joinedTo s (l ∷ i ∷ q ∷ z ∷ [])) 0 && (isIn stamps t && isIn roots r && isIn units u && isIn premiums p && isIn offers c))
+  pub offer16-stands : (noneIn (s ∷ l ∷ i ∷ q ∷ z ∷ []) && (isIn stamps t && isIn roots r && isIn units u && isIn premiums p && isIn offers c))
       ≡ stands form16 (1 ∷ t ∷ r ∷ u ∷ p ∷ c ∷ s ∷ l ∷ i ∷ q ∷ z ∷ [])
   unfolding stands same values16Of event16Of isValid16
-  offer16-stands = rw (joined-zero s (l ∷ i ∷ q ∷ z ∷ []), self t, self r, self u, self p, self c)
+  offer16-stands = rw (self t, self r, self u, self p, self c)
 
-  pub lockout16-stands : (eqb (joinedTo u (p ∷ c ∷ s ∷ i ∷ q ∷ z ∷ [])) 0 && (isIn stamps t && isIn roots r && isIn (0 to 1) l && (eqb l 0 || eqb r 0)))
+  pub lockout16-stands : (noneIn (u ∷ p ∷ c ∷ s ∷ i ∷ q ∷ z ∷ []) && (isIn stamps t && isIn roots r && isIn (0 to 1) l && (eqb l 0 || eqb r 0)))
       ≡ stands form16 (2 ∷ t ∷ r ∷ u ∷ p ∷ c ∷ s ∷ l ∷ i ∷ q ∷ z ∷ [])
   unfolding stands same values16Of event16Of isValid16
-  lockout16-stands = rw (joined-zero u (p ∷ c ∷ s ∷ i ∷ q ∷ z ∷ []), self t, self r, self l)
+  lockout16-stands = rw (self t, self r, self l)
 
-  pub sending-stands : (eqb (joinedTo s (l ∷ z ∷ [])) 0
+  pub sending-stands : (noneIn (s ∷ l ∷ z ∷ [])
       && (isIn stamps t && isIn roots r && isIn units u && isIn premiums p && isIn offers c && isIn identities i && isIn reportsAsked q))
       ≡ stands form16 (3 ∷ t ∷ r ∷ u ∷ p ∷ c ∷ s ∷ l ∷ i ∷ q ∷ z ∷ [])
   unfolding stands same values16Of event16Of awayEventOf isValid16
-  sending-stands = rw (joined-zero s (l ∷ z ∷ []), self t, self r, self u, self p, self c, self i, self q)
+  sending-stands = rw (self t, self r, self u, self p, self c, self i, self q)
 
-  pub report-stands : (eqb (joinedTo r (u ∷ p ∷ s ∷ l ∷ q ∷ z ∷ [])) 0 && (isIn stamps t && isIn identities i && isIn offers c))
+  pub report-stands : (noneIn (r ∷ u ∷ p ∷ s ∷ l ∷ q ∷ z ∷ []) && (isIn stamps t && isIn identities i && isIn offers c))
       ≡ stands form16 (4 ∷ t ∷ r ∷ u ∷ p ∷ c ∷ s ∷ l ∷ i ∷ q ∷ z ∷ [])
   unfolding stands same values16Of event16Of awayEventOf isValid16
-  report-stands = rw (joined-zero r (u ∷ p ∷ s ∷ l ∷ q ∷ z ∷ []), self t, self c, self i)
+  report-stands = rw (self t, self c, self i)
 
-  pub closing-stands : (eqb (joinedTo r (u ∷ p ∷ c ∷ s ∷ l ∷ q ∷ z ∷ [])) 0 && (isIn stamps t && isIn identities i))
+  pub closing-stands : (noneIn (r ∷ u ∷ p ∷ c ∷ s ∷ l ∷ q ∷ z ∷ []) && (isIn stamps t && isIn identities i))
       ≡ stands form16 (5 ∷ t ∷ r ∷ u ∷ p ∷ c ∷ s ∷ l ∷ i ∷ q ∷ z ∷ [])
   unfolding stands same values16Of event16Of awayEventOf isValid16
-  closing-stands = rw (joined-zero r (u ∷ p ∷ c ∷ s ∷ l ∷ q ∷ z ∷ []), self t, self i)
+  closing-stands = rw (self t, self i)
 
   pub none16-stands : (k : ℕ) → (k ≡ 0 → ⊥) → (k ≡ 1 → ⊥) → (k ≡ 2 → ⊥) → (k ≡ 3 → ⊥) → (k ≡ 4 → ⊥) → (k ≡ 5 → ⊥)
       → stands form16 (k ∷ t ∷ r ∷ u ∷ p ∷ c ∷ s ∷ l ∷ i ∷ q ∷ z ∷ []) ≡ false

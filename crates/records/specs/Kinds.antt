@@ -36,11 +36,11 @@ areUsed [] (n ∷ v) = false
 areUsed (u ∷ uses) [] = false
 areUsed (u ∷ uses) (n ∷ v) = isUsed u n && areUsed uses v
 
--- whether fields are a record's: the kind has a row, the others are what it allows, and a lockout's root is 0 at level 1
-unfoldable pub areFields16 : List ℕ → Bool
-areFields16 v =
-    areUsed (getD uses16 (getD v 0 0) []) (drop 1 v) && (not (eqb (getD v 0 0) 2) || (eqb (getD v 7 0) 0 || eqb (getD v 2 0) 0))
+-- whether fields are a record's by such a table: the kind has a row, the others are what it allows, and a lockout's root is 0 at level 1
+unfoldable pub areFields : List (List Use) → List ℕ → Bool
+areFields uses v =
+    areUsed (getD uses (getD v 0 0) []) (drop 1 v) && (not (eqb (getD v 0 0) 2) || (eqb (getD v 7 0) 0 || eqb (getD v 2 0) 0))
 
 -- whether bytes are a record: as many as it has, with fields that are a record's
 abbrev pub isRecord16 : List ℕ → Bool
-isRecord16 s = eqb (length s) bytes16 && areFields16 (fieldsOf widths16 s)
+isRecord16 s = eqb (length s) bytes16 && areFields uses16 (fieldsOf widths16 s)

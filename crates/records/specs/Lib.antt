@@ -5,3 +5,4 @@ pub mod Rows
 pub mod Moves
 pub mod Kinds
 pub mod Promised
+pub mod Inner

@@ -1,12 +1,15 @@
 // Event records of 12 and of 16 bytes: an event from its record, the record of an event, and a record moved to the other form.
 ghost use mathlib.Core.Path.{_≡_};
+ghost use mathlib.Core.Bool.{true};
 ghost use lib.ListN.{length};
-ghost use Rattle.records.specs.Form.{written, wroteValues, writtenValues};
-ghost use Rattle.records.specs.Event.{valuesOf, isValid, form, eventIn, readOf, wroteOf};
+ghost use Rattle.bits.specs.Fields.{fieldsOf};
+ghost use Rattle.records.specs.Form.{accepts, written, wroteValues, writtenValues};
+ghost use Rattle.records.specs.Event.{widths, valuesOf, isValid, form, eventIn, readOf, wroteOf};
 ghost use Rattle.records.specs.Rows.{eventRow};
 
 mod kinds;
 mod moves;
+mod ranges;
 mod sixteen;
 
 pub use moves::narrow;
@@ -137,43 +140,50 @@ pub fn is_valid(e: Event) -> bool
     ensures { λ r. ⌜ r ≡ isValid e ⌝ }
 {
     let v = values_of(e);
-    kinds::is_event(v[0], v[1], v[2], v[3], v[4], v[5], v[6], v[7], v[8])
+    ranges::is_event(&v)
 }
 
 // The event that the values of the fields stand for: they are just those of a valid event.
 pub fn event_in(v: &[u64; 9]) -> Reading
     ensures { λ r. ⌜ r ≡ eventIn (now (v .entry)) ⌝ }
 {
-    if kinds::holds_event(v) {
+    if ranges::is_event(v) {
         Reading::Is(kinds::event_of(v))
     } else {
         Reading::Faulty
     }
 }
 
+// Whether bytes are a record. If they are, its fields are put into `v`.
+fn is_record(s: &[u8], v: &mut [u64; 9]) -> bool
+    ensures { λ r. ⌜ r ≡ accepts form (now (s .entry)) ⌝ }
+    ensures { λ r. ⌜ (r ≡ true → now (v .exit) ≡ fieldsOf widths (now (s .entry))) ⌝ }
+{
+    if s.len() != BYTES {
+        return false;
+    }
+    bits::read_fields(s, &WIDTHS, v);
+    ranges::is_event(v)
+}
+
 // The event of a record: 12 bytes whose fields are the values of a valid event.
 pub fn read(s: &[u8]) -> Reading
     ensures { λ r. ⌜ r ≡ readOf (now (s .entry)) ⌝ }
 {
-    if s.len() != BYTES {
-        return Reading::Faulty;
-    }
     let mut v = [0u64; 9];
-    bits::read_fields(s, &WIDTHS, &mut v);
-    event_in(&v)
+    if is_record(s, &mut v) {
+        Reading::Is(kinds::event_of(&v))
+    } else {
+        Reading::Faulty
+    }
 }
 
 // Reads a record's numbers: refusal, kind, time, root, unit, premium, contracts, reset, level.
 pub fn read_numbers(s: &[u8], row: &mut [u64; 9])
     ensures { λ _. ⌜ now (row .exit) ≡ eventRow (readOf (now (s .entry))) ⌝ }
 {
-    if s.len() != BYTES {
-        *row = FAULTY;
-        return;
-    }
     let mut v = [0u64; 9];
-    bits::read_fields(s, &WIDTHS, &mut v);
-    if kinds::is_event(v[0], v[1], v[2], v[3], v[4], v[5], v[6], v[7], v[8]) {
+    if is_record(s, &mut v) {
         *row = [0, v[0], v[1], v[2], v[3], v[4], v[5], v[6], v[7]];
     } else {
         *row = FAULTY;
@@ -185,13 +195,13 @@ pub fn write_values(v: [u64; 9], room: &mut [u8]) -> Writing
     ensures { λ r. ⌜ r ≡ wroteValues form v (length (now (room .entry))) ⌝ }
     ensures { λ r. ⌜ now (room .exit) ≡ writtenValues form v (now (room .entry)) ⌝ }
 {
-    if !kinds::is_event(v[0], v[1], v[2], v[3], v[4], v[5], v[6], v[7], v[8]) {
+    if !ranges::is_event(&v) {
         return Writing::Faulty;
     }
     if room.len() < BYTES {
         return Writing::Short;
     }
-    bits::write_fields(&v, &WIDTHS, &mut room[..BYTES]);
+    bits::write_fields(&v, &WIDTHS, BYTES, room);
     Writing::Done
 }
 

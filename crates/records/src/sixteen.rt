@@ -1,14 +1,17 @@
 // Event records of 16 bytes: an event from its record, and the record of an event.
 ghost use mathlib.Core.Path.{_≡_};
+ghost use mathlib.Core.Bool.{true};
 ghost use lib.ListN.{length};
-ghost use Rattle.records.specs.Form.{written, wroteValues, writtenValues};
-ghost use Rattle.records.specs.Event16.{values16Of, form16, event16In, read16Of, wrote16Of};
+ghost use Rattle.bits.specs.Fields.{fieldsOf};
+ghost use Rattle.records.specs.Form.{accepts, written, wroteValues, writtenValues};
+ghost use Rattle.records.specs.Event16.{widths16, values16Of, form16, event16In, read16Of, wrote16Of};
 ghost use Rattle.records.specs.Rows.{event16Row};
 use crate::BYTES16;
 use crate::Event16;
 use crate::Reading16;
 use crate::Writing;
 use crate::kinds;
+use crate::ranges;
 
 // The widths of the fields: kind, time, root, unit, premium, contracts, reset, level, identity, reports, spare.
 pub(crate) const WIDTHS16: [u64; 11] = [4, 37, 6, 2, 27, 20, 4, 1, 16, 5, 6];
@@ -64,48 +67,43 @@ pub fn values16_of(e: Event16) -> [u64; 11]
 pub fn event16_in(v: &[u64; 11]) -> Reading16
     ensures { λ r. ⌜ r ≡ event16In (now (v .entry)) ⌝ }
 {
-    if kinds::holds_event16(v) {
+    if ranges::is_event16(v) {
         Reading16::Is(kinds::event16_of(v))
     } else {
         Reading16::Faulty
     }
 }
 
+// Whether bytes are a record. If they are, its fields are put into `v`.
+fn is_record16(s: &[u8], v: &mut [u64; 11]) -> bool
+    ensures { λ r. ⌜ r ≡ accepts form16 (now (s .entry)) ⌝ }
+    ensures { λ r. ⌜ (r ≡ true → now (v .exit) ≡ fieldsOf widths16 (now (s .entry))) ⌝ }
+{
+    if s.len() != BYTES16 {
+        return false;
+    }
+    bits::read_fields(s, &WIDTHS16, v);
+    ranges::is_event16(v)
+}
+
 // The event of a record: 16 bytes whose fields are the values of a valid event.
 pub fn read16(s: &[u8]) -> Reading16
     ensures { λ r. ⌜ r ≡ read16Of (now (s .entry)) ⌝ }
 {
-    if s.len() != BYTES16 {
-        return Reading16::Faulty;
-    }
     let mut v = [0u64; 11];
-    bits::read_fields(s, &WIDTHS16, &mut v);
-    event16_in(&v)
+    if is_record16(s, &mut v) {
+        Reading16::Is(kinds::event16_of(&v))
+    } else {
+        Reading16::Faulty
+    }
 }
 
 // Reads a record's numbers: refusal, kind, time, root, unit, premium, contracts, reset, level, identity, reports, and two that are 0.
 pub fn read16_numbers(s: &[u8], row: &mut [u64; 13])
     ensures { λ _. ⌜ now (row .exit) ≡ event16Row (read16Of (now (s .entry))) ⌝ }
 {
-    if s.len() != BYTES16 {
-        *row = FAULTY16;
-        return;
-    }
     let mut v = [0u64; 11];
-    bits::read_fields(s, &WIDTHS16, &mut v);
-    if kinds::is_event16(
-        v[0],
-        v[1],
-        v[2],
-        v[3],
-        v[4],
-        v[5],
-        v[6],
-        v[7],
-        v[8],
-        v[9],
-        v[10],
-    ) {
+    if is_record16(s, &mut v) {
         *row = [
             0,
             v[0],
@@ -131,25 +129,13 @@ pub fn write16_values(v: [u64; 11], room: &mut [u8]) -> Writing
     ensures { λ r. ⌜ r ≡ wroteValues form16 v (length (now (room .entry))) ⌝ }
     ensures { λ r. ⌜ now (room .exit) ≡ writtenValues form16 v (now (room .entry)) ⌝ }
 {
-    if !kinds::is_event16(
-        v[0],
-        v[1],
-        v[2],
-        v[3],
-        v[4],
-        v[5],
-        v[6],
-        v[7],
-        v[8],
-        v[9],
-        v[10],
-    ) {
+    if !ranges::is_event16(&v) {
         return Writing::Faulty;
     }
     if room.len() < BYTES16 {
         return Writing::Short;
     }
-    bits::write_fields(&v, &WIDTHS16, &mut room[..BYTES16]);
+    bits::write_fields(&v, &WIDTHS16, BYTES16, room);
     Writing::Done
 }
 

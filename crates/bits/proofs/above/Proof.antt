@@ -1,8 +1,7 @@
 -- `bits::above` meets its contract: from 64 bits on the bits above are top's, below that a part of top and the rest of low. Assumes nothing.
-use mathlib.Core.Path.{sym, ap, ap₂, _∙_}
-use Prim.Native.Nat.{ℕ, _+_, _-_}
+use mathlib.Core.Path.{sym}
 use native.Mathlib.Omega.{arith}
-use Rattle.bits.proofs.Halves.{above-low, above-high, shl-on, above-sum}
+use Rattle.bits.proofs.Cutting.{above-high, above-sum}
 use borrow.Author.Needs.{needs}
 use Rattle.bits.proofs.above.Statement.{statement}
 use Rattle.bits.proofs.above.Tie as tie

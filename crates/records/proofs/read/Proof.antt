@@ -1,32 +1,20 @@
--- `records::read` meets its contract: the fields are read, and their values are read as an event. Assumes nothing.
-use mathlib.Core.Path.{refl, _∙_}
-use native.Mathlib.Omega.{arith}
-use Rattle.bits.specs.Fields.{total}
-use Rattle.bits.proofs.Packing.{widths-to}
-use Rattle.records.specs.Event.{widths}
-use Rattle.records.proofs.Cases.{read-full, read-short}
+-- `records::read` meets its contract: the fields of a record are read as an event. Assumes nothing.
+use Rattle.records.proofs.Cases.{read-is, read-not}
 use borrow.Author.Needs.{needs}
 use Rattle.records.proofs.read.Statement.{statement}
 use Rattle.records.proofs.read.Tie as tie
 
+is-record-requires : tie.Need-is-record-requires
+is-record-requires c κs = search needs
+
+event-of-requires : tie.Need-event-of-requires
+event-of-requires c κs = search needs
+
 returns : tie.Need-returns
-returns c = read-short _ (c .if1 .taken)
-
-slice-aggregate-read-fields : tie.Need-slice-aggregate-read-fields
-slice-aggregate-read-fields c = search needs
-
-slice-aggregate-read-fields-2 : tie.Need-slice-aggregate-read-fields-2
-slice-aggregate-read-fields-2 c = search needs
-
-read-fields-requires : tie.Need-read-fields-requires
-unfolding total
-read-fields-requires c κs = ((omega (arith, c .before .before .if1 .left), omega (arith, c .before .before .if1 .left)), (omega (arith, c .before .before .if1 .left), (refl, widths-to 63 widths tt)))
-
-event-in-requires : tie.Need-event-in-requires
-event-in-requires c κs = search needs
+returns c = read-is _ _ (c .before .before .before .is-record .ensures .0) _ (c .event-of .ensures) (c .before .before .if1 .taken) (c .before .before .before .is-record .ensures .1 (c .before .before .if1 .taken))
 
 returns-2 : tie.Need-returns-2
-returns-2 c = c .event-in .ensures ∙ read-full _ _ (c .before .before .before .before .before .before .if1 .left) (c .before .before .before .read-fields .ensures)
+returns-2 c = read-not _ _ (c .before .is-record .ensures .0) (c .if1 .left)
 
 pub read-spec : {M : Type 1} → statement M
-read-spec = tie.close (tie.spec returns slice-aggregate-read-fields slice-aggregate-read-fields-2 read-fields-requires event-in-requires returns-2)
+read-spec = tie.close (tie.spec is-record-requires event-of-requires returns returns-2)

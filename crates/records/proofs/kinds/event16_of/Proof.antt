@@ -1,70 +1,58 @@
--- `records::kinds::event16_of` meets its contract: the kind picks the event. Assumes nothing.
-use borrow.Author.Tests.{eq-eqb, ne-eqb}
-use Rattle.records.specs.Event16.{event16Of}
+-- `records::kinds::event16_of` meets its contract: the kind picks the event, and what goes away is picked apart. Assumes nothing.
+use borrow.Author.Tests.{ne-eqb}
+use Rattle.records.specs.Event16.{event16Of, awayEventOf}
 use borrow.Author.Needs.{needs}
 use Rattle.records.proofs.kinds.event16_of.Statement.{statement}
 use Rattle.records.proofs.kinds.event16_of.Tie as tie
 
-element-copy-out-if1 : tie.Need-element-copy-out-if1
-element-copy-out-if1 c = search needs
+element-copy-out-kind : tie.Need-element-copy-out-kind
+element-copy-out-kind c = search needs
 
-element-copy-out-t8 : tie.Need-element-copy-out-t8
-element-copy-out-t8 c = search needs
+element-copy-out-time : tie.Need-element-copy-out-time
+element-copy-out-time c = search needs
 
-element-copy-out-t11 : tie.Need-element-copy-out-t11
-element-copy-out-t11 c = search needs
+element-copy-out-root : tie.Need-element-copy-out-root
+element-copy-out-root c = search needs
 
-element-copy-out-t14 : tie.Need-element-copy-out-t14
-element-copy-out-t14 c = search needs
+element-copy-out-unit : tie.Need-element-copy-out-unit
+element-copy-out-unit c = search needs
+
+element-copy-out-premium : tie.Need-element-copy-out-premium
+element-copy-out-premium c = search needs
+
+element-copy-out-contracts : tie.Need-element-copy-out-contracts
+element-copy-out-contracts c = search needs
+
+element-copy-out-t24 : tie.Need-element-copy-out-t24
+element-copy-out-t24 c = search needs
+
+element-copy-out-t27 : tie.Need-element-copy-out-t27
+element-copy-out-t27 c = search needs
+
+element-copy-out-away : tie.Need-element-copy-out-away
+element-copy-out-away c = search needs
+
+element-copy-out-away-2 : tie.Need-element-copy-out-away-2
+element-copy-out-away-2 c = search needs
+
+away-requires : tie.Need-away-requires
+away-requires c κs = search needs
 
 returns : tie.Need-returns
-unfolding event16Of
-returns c = rw (eq-eqb _ _ (c .before .before .before .if1 .taken))
-
-element-copy-out-if2 : tie.Need-element-copy-out-if2
-element-copy-out-if2 c = search needs
-
-element-copy-out-t19 : tie.Need-element-copy-out-t19
-element-copy-out-t19 c = search needs
-
-element-copy-out-t22 : tie.Need-element-copy-out-t22
-element-copy-out-t22 c = search needs
-
-element-copy-out-t25 : tie.Need-element-copy-out-t25
-element-copy-out-t25 c = search needs
-
-element-copy-out-t28 : tie.Need-element-copy-out-t28
-element-copy-out-t28 c = search needs
-
-element-copy-out-t31 : tie.Need-element-copy-out-t31
-element-copy-out-t31 c = search needs
+unfolding event16Of awayEventOf
+returns c = rw (c .before .match .keys1)
 
 returns-2 : tie.Need-returns-2
-unfolding event16Of
-returns-2 c = rw (ne-eqb _ _ (c .before .before .before .before .before .before .before .if1 .left), eq-eqb _ _ (c .before .before .before .before .before .if2 .taken))
-
-element-copy-out-if3 : tie.Need-element-copy-out-if3
-element-copy-out-if3 c = search needs
-
-element-copy-out-t36 : tie.Need-element-copy-out-t36
-element-copy-out-t36 c = search needs
-
-element-copy-out-t39 : tie.Need-element-copy-out-t39
-element-copy-out-t39 c = search needs
-
-element-copy-out-t42 : tie.Need-element-copy-out-t42
-element-copy-out-t42 c = search needs
+unfolding event16Of awayEventOf
+returns-2 c = rw (c .match .keys2)
 
 returns-3 : tie.Need-returns-3
-unfolding event16Of
-returns-3 c = rw (ne-eqb _ _ (c .before .before .before .before .before .before .before .if1 .left), ne-eqb _ _ (c .before .before .before .before .before .if2 .left), eq-eqb _ _ (c .before .before .before .if3 .taken))
-
-away-event-of-requires : tie.Need-away-event-of-requires
-away-event-of-requires c κs = search needs
+unfolding event16Of awayEventOf
+returns-3 c = rw (c .before .match .keys3)
 
 returns-4 : tie.Need-returns-4
-unfolding event16Of
-returns-4 c = rw (ne-eqb _ _ (c .before .before .before .before .before .if1 .left), ne-eqb _ _ (c .before .before .before .if2 .left), ne-eqb _ _ (c .before .if3 .left)) (c .away-event-of .ensures)
+unfolding event16Of awayEventOf
+returns-4 c = rw (ne-eqb _ _ (c .before .before .before .match .rest .0 .0 .1), ne-eqb _ _ (c .before .before .before .match .rest .0 .1), ne-eqb _ _ (c .before .before .before .match .rest .1)) (c .away .ensures)
 
 pub event16-of-spec : {M : Type 1} → statement M
-event16-of-spec = tie.close (tie.spec element-copy-out-if1 element-copy-out-t8 element-copy-out-t11 element-copy-out-t14 returns element-copy-out-if2 element-copy-out-t19 element-copy-out-t22 element-copy-out-t25 element-copy-out-t28 element-copy-out-t31 returns-2 element-copy-out-if3 element-copy-out-t36 element-copy-out-t39 element-copy-out-t42 returns-3 away-event-of-requires returns-4)
+event16-of-spec = tie.close (tie.spec element-copy-out-kind element-copy-out-time element-copy-out-root element-copy-out-unit element-copy-out-premium element-copy-out-contracts element-copy-out-t24 element-copy-out-t27 element-copy-out-away element-copy-out-away-2 away-requires returns returns-2 returns-3 returns-4)

@@ -1,5 +1,6 @@
--- `records::moves::narrowed` meets its contract: each field is taken from its place in the row. Assumes nothing.
-use Rattle.records.proofs.Rowed.{narrowed-row}
+-- `records::moves::narrowed` meets its contract: the fields stand in the old form, the time by the thousand. Assumes nothing.
+use mathlib.Core.Path.{refl}
+use Rattle.records.specs.Moves.{narrowed}
 use borrow.Author.Needs.{needs}
 use Rattle.records.proofs.moves.narrowed.Statement.{statement}
 use Rattle.records.proofs.moves.narrowed.Tie as tie
@@ -29,7 +30,8 @@ element-copy-out-t26 : tie.Need-element-copy-out-t26
 element-copy-out-t26 c = search needs
 
 returns : tie.Need-returns
-returns c = narrowed-row (c .before .before .before .before .before .before .before .before .args .row .now)
+unfolding narrowed
+returns c = refl
 
 pub narrowed-spec : {M : Type 1} → statement M
 narrowed-spec = tie.close (tie.spec element-copy-out-t4 element-copy-out-t7 element-copy-out-t11 element-copy-out-t14 element-copy-out-t17 element-copy-out-t20 element-copy-out-t23 element-copy-out-t26 returns)

@@ -1,5 +1,6 @@
--- `records::moves::widened` meets its contract: each field is taken from its place in the row. Assumes nothing.
-use Rattle.records.proofs.Rowed.{widened-row}
+-- `records::moves::widened` meets its contract: the fields stand in the new form, the time by times 1000. Assumes nothing.
+use mathlib.Core.Path.{refl}
+use Rattle.records.specs.Moves.{widened}
 use borrow.Author.Needs.{needs}
 use Rattle.records.proofs.moves.widened.Statement.{statement}
 use Rattle.records.proofs.moves.widened.Tie as tie
@@ -32,7 +33,8 @@ element-copy-out-t26 : tie.Need-element-copy-out-t26
 element-copy-out-t26 c = search needs
 
 returns : tie.Need-returns
-returns c = widened-row (c .before .before .before .before .before .before .before .before .args .row .now)
+unfolding widened
+returns c = refl
 
 pub widened-spec : {M : Type 1} → statement M
 widened-spec = tie.close (tie.spec element-copy-out-t4 element-copy-out-t7 mul-t8 element-copy-out-t11 element-copy-out-t14 element-copy-out-t17 element-copy-out-t20 element-copy-out-t23 element-copy-out-t26 returns)

@@ -1,32 +1,20 @@
--- `records::sixteen::read16` meets its contract: the fields are read, and their values are read as an event. Assumes nothing.
-use mathlib.Core.Path.{refl, _∙_}
-use native.Mathlib.Omega.{arith}
-use Rattle.bits.specs.Fields.{total}
-use Rattle.bits.proofs.Packing.{widths-to}
-use Rattle.records.specs.Event16.{widths16}
-use Rattle.records.proofs.Cases.{read16-full, read16-short}
+-- `records::sixteen::read16` meets its contract: the fields of a record are read as an event. Assumes nothing.
+use Rattle.records.proofs.Cases.{read16-is, read16-not}
 use borrow.Author.Needs.{needs}
 use Rattle.records.proofs.sixteen.read16.Statement.{statement}
 use Rattle.records.proofs.sixteen.read16.Tie as tie
 
+is-record16-requires : tie.Need-is-record16-requires
+is-record16-requires c κs = search needs
+
+event16-of-requires : tie.Need-event16-of-requires
+event16-of-requires c κs = search needs
+
 returns : tie.Need-returns
-returns c = read16-short _ (c .if1 .taken)
-
-slice-aggregate-read-fields : tie.Need-slice-aggregate-read-fields
-slice-aggregate-read-fields c = search needs
-
-slice-aggregate-read-fields-2 : tie.Need-slice-aggregate-read-fields-2
-slice-aggregate-read-fields-2 c = search needs
-
-read-fields-requires : tie.Need-read-fields-requires
-unfolding total
-read-fields-requires c κs = ((omega (arith, c .before .before .if1 .left), omega (arith, c .before .before .if1 .left)), (omega (arith, c .before .before .if1 .left), (refl, widths-to 63 widths16 tt)))
-
-event16-in-requires : tie.Need-event16-in-requires
-event16-in-requires c κs = search needs
+returns c = read16-is _ _ (c .before .before .before .is-record16 .ensures .0) _ (c .event16-of .ensures) (c .before .before .if1 .taken) (c .before .before .before .is-record16 .ensures .1 (c .before .before .if1 .taken))
 
 returns-2 : tie.Need-returns-2
-returns-2 c = c .event16-in .ensures ∙ read16-full _ _ (c .before .before .before .before .before .before .if1 .left) (c .before .before .before .read-fields .ensures)
+returns-2 c = read16-not _ _ (c .before .is-record16 .ensures .0) (c .if1 .left)
 
 pub read16-spec : {M : Type 1} → statement M
-read16-spec = tie.close (tie.spec returns slice-aggregate-read-fields slice-aggregate-read-fields-2 read-fields-requires event16-in-requires returns-2)
+read16-spec = tie.close (tie.spec is-record16-requires event16-of-requires returns returns-2)
