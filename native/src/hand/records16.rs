@@ -1,7 +1,7 @@
 //! Event records of 16 bytes, as two numbers of 64 bits; the premium stands in both. And records moved from one form to the other.
 
 use super::map::*;
-use super::records::{self, Ranges};
+use super::records::{self, Unused};
 use super::reset::LAST_RESET;
 
 /// The last microsecond of the day, and how many a millisecond has.
@@ -29,49 +29,72 @@ fn fields(record: &[u8; 16]) -> Option<[u64; 10]> {
     let (premium, contracts) = ((high & 0x7FFF) << 12 | low >> 52, low >> 32 & CONTRACTS);
     let (reset, level, identity, reports) = (low >> 28 & 15, low >> 27 & 1, low >> 11 & 0xFFFF, low >> 6 & 31);
     let numbers = [kind, time, root, unit, premium, contracts, reset, level, identity, reports];
-    (low & 63 == 0 && is_good(numbers)).then_some(numbers)
+    is_good(numbers, high, low).then_some(numbers)
 }
 
 /// The refusal of writing these ten numbers into a room.
 pub fn write_record16(numbers: [u64; 10], room: &mut [u8]) -> u64 {
-    if !is_good(numbers) {
+    let [_, _, root, unit, _, _, _, level, identity, _] = numbers;
+    let (high, low) = side_by_side(numbers);
+    if (root > 63) | (unit > 3) | (level > 1) | (identity > LAST_IDENTITY) | !is_good(numbers, high, low) {
         return 16;
     }
     let Some(room) = room.first_chunk_mut() else { return 1 };
-    put(numbers, room);
+    put(high, low, room);
     0
 }
 
-/// Puts good numbers side by side.
+/// The numbers of a record's fields, side by side.
 #[inline]
-fn put([kind, time, root, unit, premium, contracts, reset, level, identity, reports]: [u64; 10], room: &mut [u8; 16]) {
+fn side_by_side([kind, time, root, unit, premium, contracts, reset, level, identity, reports]: [u64; 10]) -> (u64, u64) {
     let high = kind << 60 | time << 23 | root << 17 | unit << 15 | premium >> 12;
     let low = premium << 52 | contracts << 32 | reset << 28 | level << 27 | identity << 11 | reports << 6;
+    (high, low)
+}
+
+/// Puts a record into a room.
+#[inline]
+fn put(high: u64, low: u64, room: &mut [u8; 16]) {
     room[..8].copy_from_slice(&high.to_be_bytes());
     room[8..].copy_from_slice(&low.to_be_bytes());
 }
 
-/// Of order, offer, lockout, sending, report and closing: kind, time, root, unit, premium, contracts, reset, level, identity, reports.
-static KINDS: [Ranges<10>; 6] = [
-    Ranges::new([0; 10], [0, LAST_MICROSECOND, 63, 0, 0, 0, LAST_RESET, 0, 0, 0]),
-    Ranges::new([1, 0, 0, 0, 1, 1, 0, 0, 0, 0], [1, LAST_MICROSECOND, 63, 3, MOST_PREMIUM, MOST_CONTRACTS, 0, 0, 0, 0]),
-    Ranges::new([2, 0, 0, 0, 0, 0, 0, 0, 0, 0], [2, LAST_MICROSECOND, 63, 0, 0, 0, 0, 1, 0, 0]),
-    Ranges::new(
-        [3, 0, 0, 0, 1, 1, 0, 0, 0, 1],
-        [3, LAST_MICROSECOND, 63, 3, MOST_PREMIUM, MOST_CONTRACTS, 0, 0, LAST_IDENTITY, MOST_REPORTS],
-    ),
-    Ranges::new([4, 0, 0, 0, 0, 1, 0, 0, 0, 0], [4, LAST_MICROSECOND, 0, 0, 0, MOST_CONTRACTS, 0, 0, LAST_IDENTITY, 0]),
-    Ranges::new([5, 0, 0, 0, 0, 0, 0, 0, 0, 0], [5, LAST_MICROSECOND, 0, 0, 0, 0, 0, 0, LAST_IDENTITY, 0]),
+/// Where root, and unit and the top of the premium stand in the first number; the rest of the premium with the contracts, and the others, in the second.
+const ROOT: u64 = 63 << 17;
+const TRADED: u64 = (1 << 17) - 1;
+const TRADED_LOW: u64 = u64::MAX << 32;
+const REPORTED: u64 = CONTRACTS << 32;
+const RESET: u64 = 15 << 28;
+const LEVEL: u64 = 1 << 27;
+const IDENTITY: u64 = LAST_IDENTITY << 11;
+const ASKED: u64 = 31 << 6;
+const SPARE: u64 = 63;
+
+/// Of order, offer, lockout, sending, report and closing; the least of premium, contracts and reports.
+static KINDS: [Unused<3>; 6] = [
+    Unused { bits: [TRADED, TRADED_LOW | LEVEL | IDENTITY | ASKED | SPARE], least: [0, 0, 0] },
+    Unused { bits: [0, RESET | LEVEL | IDENTITY | ASKED | SPARE], least: [1, 1, 0] },
+    Unused { bits: [TRADED, TRADED_LOW | RESET | IDENTITY | ASKED | SPARE], least: [0, 0, 0] },
+    Unused { bits: [0, RESET | LEVEL | SPARE], least: [1, 1, 1] },
+    Unused { bits: [ROOT | TRADED, TRADED_LOW & !REPORTED | RESET | LEVEL | ASKED | SPARE], least: [0, 1, 0] },
+    Unused { bits: [ROOT | TRADED, TRADED_LOW | RESET | LEVEL | ASKED | SPARE], least: [0, 0, 0] },
 ];
 
-/// Are the fields that the kind uses in range, and the others 0?
+/// Are the numbers that the kind uses in range, if they fit their fields, and the others 0? All is or-ed together, and nothing branches by the kind.
 #[inline]
-fn is_good(numbers: [u64; 10]) -> bool {
-    let [kind, _, root, _, _, _, _, level, _, _] = numbers;
-    match KINDS.get(kind as usize) {
-        Some(ranges) => ranges.hold(&numbers) & (level == 0 || root == 0),
-        None => false,
-    }
+fn is_good([kind, time, root, _, premium, contracts, reset, level, _, reports]: [u64; 10], high: u64, low: u64) -> bool {
+    let Some(Unused { bits, least }) = KINDS.get(kind as usize) else { return false };
+    let bad = (high & bits[0] | low & bits[1] != 0)
+        | (time > LAST_MICROSECOND)
+        | (premium > MOST_PREMIUM)
+        | (contracts > MOST_CONTRACTS)
+        | (reset > LAST_RESET)
+        | (reports > MOST_REPORTS)
+        | (premium < least[0])
+        | (contracts < least[1])
+        | (reports < least[2])
+        | (level != 0) & (root != 0);
+    !bad
 }
 
 /// The refusal of moving a record of 12 bytes into a room as one of 16.
@@ -79,7 +102,8 @@ pub fn widen(bytes: &[u8], room: &mut [u8]) -> u64 {
     let read = <&[u8; 12]>::try_from(bytes).ok().and_then(records::fields);
     let Some([kind, time, root, unit, premium, contracts, reset, level]) = read else { return 16 };
     let Some(room) = room.first_chunk_mut() else { return 1 };
-    put([kind, time * MICROSECONDS, root, unit, premium, contracts, reset, level, 0, 0], room);
+    let (high, low) = side_by_side([kind, time * MICROSECONDS, root, unit, premium, contracts, reset, level, 0, 0]);
+    put(high, low, room);
     0
 }
 
@@ -92,6 +116,7 @@ pub fn narrow(bytes: &[u8], room: &mut [u8]) -> u64 {
         return 20;
     }
     let Some(room) = room.first_chunk_mut() else { return 1 };
-    records::put([kind, time / MICROSECONDS, root, unit, premium, contracts, reset, level], room);
+    let (high, low) = records::side_by_side([kind, time / MICROSECONDS, root, unit, premium, contracts, reset, level]);
+    records::put(high, low, room);
     0
 }
