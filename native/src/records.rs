@@ -3,6 +3,7 @@
 mod calls;
 mod draws;
 pub mod forms;
+pub mod rounds;
 pub mod seen;
 pub mod times;
 

@@ -47,9 +47,12 @@ fn print_counts() {
     std::fs::remove_dir_all(&folder).expect("the folder goes");
     println!("Instructions of one call, by callgrind.");
     println!("{:WIDE$}{:>8}{:>8}{:>8}{:>8}{:>8}", "", "pass", "proved", "hand", "to pass", "to hand");
-    for (line, [pass, library, hand]) in counted {
+    for (line, [pass, library, hand]) in counted.lines {
         let [to_pass, to_hand] = [pass, hand].map(|count| library as f64 / count as f64);
         println!("{:WIDE$}{pass:8}{library:8}{hand:8}{to_pass:8.2}{to_hand:8.2}", line.name);
+    }
+    for (name, [library, hand]) in counted.records {
+        println!("{name:WIDE$}{:8}{library:8}{hand:8}{:8}{:8.2}", "", "", library as f64 / hand as f64);
     }
 }
 
