@@ -2,7 +2,7 @@
 use Prim.Native.Nat.{ℕ, zero, suc, _+_, _-_, _≤_, _<_, min, zero-le}
 use native.Mathlib.Omega.{arith}
 use native.Mathlib.Nat.{suc-ne-zero}
-use mathlib.Core.Path.{_≡_, refl, sym, ap, _∙_}
+use mathlib.Core.Path.{_≡_, refl, sym, ap, ap₂, _∙_}
 use mathlib.Core.Bool.{Bool, true, false, not, cond, _&&_, and-assoc}
 use mathlib.Core.List.{List}
 use lib.ListN.{length}
@@ -22,13 +22,14 @@ use Rattle.machine.specs.Locks.{verdictOf}
 use Rattle.machine.specs.Offers.{grantOf, levelTrips, longest}
 use Rattle.machine.specs.Judge.{logPlaces, filled, offered, judged, isRefusal}
 use Rattle.state.specs.State.{decode, stored}
-use Rattle.state.specs.Inner.Laid.{withClock}
+use Rattle.state.specs.Inner.Laid.{Fits, withClock}
 use Rattle.state.proofs.Exactly.{sound-decode}
 use Rattle.machine.specs.declared.Offer.{Offer}
 use Rattle.machine.specs.declared.Answer.the-variants.{Judged}
 use Rattle.machine.specs.Deeds.{granted, filling, clockAfter}
 use Rattle.machine.specs.Step.{after, partAfter, accountsAfter, locksAfter, logAfter}
 use Rattle.machine.proofs.Lists.{ordered-wider}
+use Rattle.machine.proofs.Windows.{rate-longest}
 use Rattle.grant.specs.Inner.Grant.{Fillable, AreCuts, Ready, HasRoom}
 use Rattle.grant.specs.declared.Cuts.{Cuts}
 use Rattle.grant.proofs.Trip.{grant-cuts}
@@ -52,6 +53,19 @@ short-is s time n few b e = ap not e ∙ go (hasRate (rulesIn s))
     go : (h : Bool) → not (ltb (cond h inside 0) (512 + 1 - n)) ≡ (h && ltb 512 (cond h inside 0 + n))
     go true = some (ltb inside (512 + 1 - n)) refl
     go false = ap not (lt-ltb 0 (512 + 1 - n) (omega (arith, few)))
+
+-- no place more is free where the entries inside the longest window and the kept places take all
+pub full-by : {s : State} → Fits s → (time : ℕ) {window passed kept : ℕ} → window ≡ longest (rulesIn s) → passed ≡ length (recent window time (s .log))
+    → kept ≡ keptPlaces (s .part .register) → (ltb 0 window && leb 512 (passed + kept)) ≡ isShortOf s time 1
+unfolding isShortOf used
+full-by {s} f time {window} {passed} {kept} is many holds =
+    let n = length (recent (longest (rulesIn s)) time (s .log)) + keptPlaces (s .part .register) in
+    let sum : passed + kept ≡ n = ap₂ (λ (a b : ℕ). a + b) (many ∙ ap (λ (w : ℕ). length (recent w time (s .log))) is) holds in
+    ap₂ (λ (w m : ℕ). ltb 0 w && leb 512 m) is sum ∙ go (ltb 0 (longest (rulesIn s))) n ∙ rw (rate-longest (rootsIn s) (rulesIn s) (f .valid) .0)
+  where
+    go : (b : Bool) (n : ℕ) → (b && leb 512 n) ≡ (b && ltb 512 (cond b n 0 + 1))
+    go true n = same-test (leb 512 n) (ltb 512 (n + 1)) (λ h. lt-ltb 512 (n + 1) (omega (arith, leb-true 512 n h))) (λ h. le-leb 512 n (omega (arith, ltb-true 512 (n + 1) h)))
+    go false n = refl
 
 -- an order to be sent away that is not locked out asks for its places
 pub lacks-is : (s : State) (o : Offer) (reports v : ℕ) (b : Bool) → v ≡ verdictOf (s .part .locks) (o .root) → b ≡ isShortOf s (o .time) reports

@@ -14,8 +14,10 @@ use Rattle.log.proofs.blank.Kinds as blank-kinds
 use Rattle.log.proofs.blank.Reads as blank-reads
 use Rattle.log.proofs.join.Kinds as join-kinds
 use Rattle.log.proofs.join.Reads as join-reads
-use Rattle.log.proofs.no_memos.Kinds as no-memos-kinds
-use Rattle.log.proofs.no_memos.Reads as no-memos-reads
+use Rattle.log.proofs.memos_of.Kinds as memos-of-kinds
+use Rattle.log.proofs.memos_of.Reads as memos-of-reads
+use Rattle.log.proofs.read_window.Kinds as read-window-kinds
+use Rattle.log.proofs.read_window.Reads as read-window-reads
 use Rattle.log.proofs.sum_in.Kinds as sum-in-kinds
 use Rattle.log.proofs.sum_in.Reads as sum-in-reads
 use Rattle.log.proofs.recalled.Kinds as recalled-kinds
@@ -39,8 +41,11 @@ blank κs args asked x y u v p q = (refl, λ i. (alike p q i, v .1))
 pub join : Determines 1 join-kinds.ps join-kinds.r join-reads.Asked join-reads.Learnt
 join κs args asked x y u v p q = (refl, λ i. (alike p q i, v .1))
 
-pub no-memos : Determines 0 no-memos-kinds.ps no-memos-kinds.r no-memos-reads.Asked no-memos-reads.Learnt
-no-memos κs args asked x y u v p q = (alike (p .1) (q .1), refl)
+pub memos-of : Determines 0 memos-of-kinds.ps memos-of-kinds.r memos-of-reads.Asked memos-of-reads.Learnt
+memos-of κs args asked x y u v p q = (alike (p .1) (q .1), refl)
+
+pub read-window : Determines 1 read-window-kinds.ps read-window-kinds.r read-window-reads.Asked read-window-reads.Learnt
+read-window κs args asked x y u v p q = (alike p q, refl)
 
 pub sum-in : Determines 0 sum-in-kinds.ps sum-in-kinds.r sum-in-reads.Asked sum-in-reads.Learnt
 sum-in κs args asked x y u v p q = (alike p q, refl)

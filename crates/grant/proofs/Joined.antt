@@ -9,24 +9,61 @@ use lib.Dec.{ltb}
 use borrow.Author.Tests.{ltb-true, not-true, not-false}
 use Rattle.laws.proofs.Tests.{and-l, and-r}
 use Rattle.measures.specs.Ranges.{offers}
-use Rattle.machine.specs.Entries.{isEntry, recent}
+use Rattle.machine.specs.Entries.{isEntry, areOrdered, recent, isRecent}
 use Rattle.machine.specs.State.{State, rulesIn, rootsIn}
 use Rattle.rules.specs.Valid.{hasRate}
 use Rattle.machine.specs.Offers.{entryOf, longest, joinedLog}
 use Rattle.packing.proofs.EntryPlace.{entry-valid}
-use Rattle.state.specs.Inner.Laid.{Fits, withLog}
+use Rattle.state.specs.Inner.Laid.{Laid, Fits, withLog}
 use Rattle.machine.specs.declared.Offer.{Offer}
-use Rattle.machine.proofs.Lists.{every-keep, every-join}
-use Rattle.grant.specs.Inner.Grant.{Fillable, HasRoom}
+use Rattle.machine.proofs.Lists.{every-keep, every-join, keep-le}
+use Rattle.log.specs.Inner.Log.{lastOf}
+use Rattle.log.specs.Inner.Memo.{IsRead}
+use Rattle.log.specs.Inner.Reading.{readingOf}
+use Rattle.log.proofs.Leaving.{window-read, recent-last}
+use Rattle.state.specs.State.{decode}
+use Rattle.state.proofs.Laid.{laid-held, laid-entries}
+use Rattle.machine.specs.declared.Entry.{Entry}
+use Rattle.grant.specs.declared.Inside.{Inside}
+use Rattle.grant.specs.Inner.Grant.{insideOf, Fillable, HasRoom}
 use Rattle.machine.proofs.Windows.{rate-longest}
+
+-- what is inside the longest window at a time
+module _ (s : State) (time : ℕ) {inside : Inside} (e : inside ≡ insideOf s time) where
+  pub window-is : inside .window ≡ longest (rulesIn s)
+  unfolding insideOf
+  window-is = ap (λ (i : Inside). i .window) e
+
+  pub passed-is : inside .read .passed ≡ length (recent (inside .window) time (s .log))
+  unfolding insideOf readingOf
+  passed-is = ap (λ (i : Inside). i .read .passed) e ∙ ap (λ (w : ℕ). length (recent w time (s .log))) (sym window-is)
+
+module _ {xs : List ℕ} (h : Laid xs) (time : ℕ) where
+  abbrev log : List Entry
+  log = decode xs .log
+
+  pub inside-read : {inside : Inside} → inside ≡ insideOf (decode xs) time → IsRead log (inside .read)
+  unfolding insideOf
+  inside-read e =
+      let w = longest (rulesIn (decode xs)) in
+      subst (λ (i : Inside). IsRead log (i .read)) (sym e)
+      (subst (λ (l : List Entry). IsRead l (readingOf w time l)) (laid-entries h) (window-read w time _ _ (laid-held h .held)))
+
+  -- in order of time they are the last ones
+  pub laid-last : (window : ℕ) → areOrdered 0 time log ≡ true → recent window time log ≡ lastOf (length (recent window time log)) log
+  laid-last window ordered =
+      subst (λ (l : List Entry). recent window time l ≡ lastOf (length (recent window time l)) l) (laid-entries h)
+      (recent-last window time _ _ (laid-held h .held) (ap (areOrdered 0 time) (laid-entries h) ∙ ordered))
+
+-- no more than there are
+pub inside-most : (window time : ℕ) (es : List Entry) → length (recent window time es) ≤ length es
+unfolding recent
+inside-most window time es = keep-le (isRecent window time) es
 
 -- whether a fill joins the log, by the longest window
 module _ (s : State) (f : Fits s) {window : ℕ} (is : window ≡ longest (rulesIn s)) where
   rate-is : hasRate (rulesIn s) ≡ ltb 0 window
   rate-is = rate-longest (rootsIn s) (rulesIn s) (f .valid) .0 ∙ ap (ltb 0) (sym is)
-
-  pub window-day : window ≤ 86_400_000
-  window-day = omega (arith, rate-longest (rootsIn s) (rulesIn s) (f .valid) .1, is)
 
   module _ (o : Offer) (grant : ℕ) where
     joins : (hasRate (rulesIn s) && ltb 0 grant) ≡ (ltb 0 window && ltb 0 grant)

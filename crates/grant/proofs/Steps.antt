@@ -26,8 +26,9 @@ use Rattle.machine.specs.declared.Sent.{Sent}
 use Rattle.machine.specs.Deeds.{Source, granted, reported, filling, clockAfter}
 use Rattle.machine.specs.Step.{after, partAfter, accountsAfter, locksAfter, logAfter}
 use Rattle.machine.proofs.Grants.{grant-le}
-use Rattle.grant.specs.Inner.Grant.{leastAt, reachedAt, Fillable, HasRoom, AllCredited, marked, Ready, Returning}
+use Rattle.grant.specs.Inner.Grant.{insideOf, leastAt, reachedAt, Fillable, HasRoom, AllCredited, marked, Ready, Returning}
 use Rattle.grant.specs.declared.Cuts.{Cuts}
+use Rattle.grant.specs.declared.Inside.{Inside}
 use Rattle.grant.specs.declared.Reached.{Reached}
 use Rattle.grant.specs.declared.Trips.{Trips}
 use Rattle.grant.proofs.Trip.{grant-cuts, level-trips}
@@ -83,6 +84,10 @@ module _ {xs : List ℕ} {o : Offer} {n : ℕ} (f : Filling xs o n) where
       most = f .most;
       room = subst (λ (s : State). HasRoom s o n) (sym (held-state h)) paid-room;
     }
+
+    pub paid-inside : {inside : Inside} → inside ≡ insideOf (decode xs) (o .time) → inside ≡ insideOf (decode ys) (o .time)
+    unfolding insideOf rulesIn
+    paid-inside e = e ∙ ap (λ (s : State). insideOf s (o .time)) (sym (held-state h))
 
     -- the log
     pub logged-holds : {zs : List ℕ} → zs ≡ stored (logged o n (decode ys)) ys → Holds (logged o n (paid o n (decode xs))) xs zs

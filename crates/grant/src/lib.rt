@@ -7,13 +7,15 @@ ghost use Rattle.measures.specs.Ranges.{premiums, offers};
 ghost use Rattle.rules.specs.Rules.{levelOf, isRate};
 ghost use Rattle.rules.specs.declared.Level.the-variants.{Firm};
 ghost use Rattle.machine.specs.Offers.{sameLevel, joinedLog};
-ghost use Rattle.log.specs.Inner.Memo.{RightTwo};
+ghost use Rattle.log.specs.Inner.Memo.{IsRead, RightTwo};
+ghost use Rattle.machine.specs.Entries.{areOrdered};
 ghost use Rattle.rules.specs.Valid.{isTotal};
 ghost use Rattle.machine.specs.State.{rulesIn};
 ghost use Rattle.state.specs.State.{stored, decode};
 ghost use Rattle.state.specs.Inner.Laid.{Laid, accountIn, withLog};
 ghost use Rattle.register.specs.Register.{sentAtPlace};
-ghost use Rattle.grant.specs.Inner.Grant.{Fillable, areTotals, Lowered, AreCuts, Credited, AllCredited, HasRoom, marked, Ready, Filled, Returning, Returned};
+ghost use Rattle.grant.specs.Inner.Grant.{insideOf, Fillable, areTotals, Lowered, AreCuts, Credited, AllCredited, HasRoom, marked, Ready, Filled, Returning, Returned};
+use log::Reading;
 use log::Two;
 use machine::Entry;
 use machine::Offer;
@@ -39,6 +41,22 @@ pub struct Reached {
 pub struct Trips {
     pub root: bool,
     pub firm: bool,
+}
+
+// The longest window of the rules, 0 if none is a rate rule, and its reading at a time.
+pub struct Inside {
+    pub window: u64,
+    pub read: Reading,
+}
+
+// What is inside the longest window at a time.
+pub fn inside_at(m: &[u64], time: u64) -> Inside
+    requires { ⌜ Laid (now m) × (areOrdered 0 time (decode (now m) .log) ≡ true) ⌝ }
+    ensures { λ r. ⌜ r ≡ insideOf (decode (now (m .entry))) time ⌝ }
+{
+    let window = state::longest_window(m);
+    let read = log::read_window(&m[state::LOG..state::SIZE], window, time);
+    Inside { window, read }
 }
 
 // Whether a rule counts for the firm.
@@ -102,9 +120,9 @@ fn lower(m: &[u64], o: Offer, i: usize, rule: Rule, cuts: Cuts, memos: Two) -> L
     }
 }
 
-// The cuts of an offer: of each rule, the account for the offer's unit is asked.
-pub fn cuts_of(m: &[u64], o: Offer) -> Cuts
-    requires { ⌜ Fillable (now m) o ⌝ }
+// The cuts of an offer: of each rule, the account for the offer's unit is asked. A reading of the log is not made again.
+pub fn cuts_of(m: &[u64], o: Offer, read: Reading) -> Cuts
+    requires { ⌜ Fillable (now m) o × IsRead (decode (now m) .log) read ⌝ }
     ensures { λ r. ⌜ AreCuts (now (m .entry)) o r ⌝ }
 {
     let rules = state::rules_in(m);
@@ -112,7 +130,7 @@ pub fn cuts_of(m: &[u64], o: Offer) -> Cuts
         root: o.contracts,
         firm: o.contracts,
     };
-    let mut memos = log::no_memos();
+    let mut memos = log::memos_of(read);
     let mut place: usize = 0;
     let mut i: usize = 0;
     while i < rules {
@@ -171,12 +189,11 @@ fn credit(m: &mut [u64], o: Offer, grant: u64) -> Reached
 }
 
 // The fill joins the log, if the grant is above 0 and a rule is a rate rule.
-fn join_log(m: &mut [u64], o: Offer, grant: u64)
-    requires { ⌜ Fillable (now m) o × (grant ≤ offers .most) × HasRoom (decode (now m)) o grant ⌝ }
+fn join_log(m: &mut [u64], o: Offer, grant: u64, inside: Inside)
+    requires { ⌜ Fillable (now m) o × (grant ≤ offers .most) × HasRoom (decode (now m)) o grant × (inside ≡ insideOf (decode (now m)) (o .time)) ⌝ }
     ensures { λ _. ⌜ now (m .exit) ≡ stored (withLog (decode (now (m .entry))) (joinedLog (rulesIn (decode (now (m .entry)))) (decode (now (m .entry)) .log) o grant)) (now (m .entry)) ⌝ }
 {
-    let longest = state::longest_window(m);
-    if !((0 < longest) & (0 < grant)) {
+    if !((0 < inside.window) & (0 < grant)) {
         return;
     }
     let e = Entry {
@@ -188,7 +205,8 @@ fn join_log(m: &mut [u64], o: Offer, grant: u64)
         forroot: true,
         forfirm: true,
     };
-    log::join(&mut m[state::LOG..state::SIZE], longest, o.time, e);
+    let read = inside.read;
+    log::join(&mut m[state::LOG..state::SIZE], read.passed, e);
 }
 
 // The clock and the trips.
@@ -206,12 +224,12 @@ fn mark(m: &mut [u64], o: Offer, trips: Trips)
 }
 
 // Memory after a grant: totals, log, clock and trips. Returns the trips.
-pub fn fill(m: &mut [u64], o: Offer, grant: u64, cuts: Cuts) -> Trips
-    requires { ⌜ Ready (now m) o grant cuts ⌝ }
+pub fn fill(m: &mut [u64], o: Offer, grant: u64, cuts: Cuts, inside: Inside) -> Trips
+    requires { ⌜ Ready (now m) o grant cuts × (inside ≡ insideOf (decode (now m)) (o .time)) ⌝ }
     ensures { λ r. ⌜ Filled (now (m .entry)) o grant (now (m .exit)) r ⌝ }
 {
     let reached = credit(m, o, grant);
-    join_log(m, o, grant);
+    join_log(m, o, grant, inside);
     let less = grant < o.contracts;
     let trips = Trips {
         root: reached.root | (less & (cuts.root == grant)),
@@ -226,9 +244,10 @@ pub fn come_back(m: &mut [u64], o: Offer, i: usize) -> Trips
     requires { ⌜ Returning (now m) o i ⌝ }
     ensures { λ r. ⌜ Returned (now (m .entry)) o (sentAtPlace (decode (now (m .entry)) .part .register) i .identity) (now (m .exit)) r ⌝ }
 {
-    let cuts = cuts_of(m, o);
+    let inside = inside_at(m, o.time);
+    let cuts = cuts_of(m, o, inside.read);
     let reached = credit(m, o, o.contracts);
-    join_log(m, o, o.contracts);
+    join_log(m, o, o.contracts, inside);
     register::use_up(&mut m[state::REGISTER..state::LOG], i, o.contracts);
     // A level trips if one of its rules allows less than is reported, or an absolute one stands at its limit after it.
     let trips = Trips {

@@ -2,14 +2,14 @@
 use Prim.Native.Nat.{ℕ, _+_, _*_, _-_, _≤_, _<_}
 use mathlib.Core.Path.{_≡_, refl, sym, ap, _∙_}
 use mathlib.Core.Bool.{true}
-use mathlib.Core.List.{List, [], _∷_, _++_, append-assoc}
+use mathlib.Core.List.{List, [], _∷_, _++_, append-assoc, append-nil}
 use native.Mathlib.Numerals.{add-one}
 use native.Mathlib.Omega.{arith}
-use lib.ListN.{length, getD, take, drop, set, length-append, length-drop, take-append-drop}
+use lib.ListN.{length, getD, take, drop, set, length-append, length-drop, take-append-drop, drop-of-length-le}
 use lib.Seq.{take-at, drop-at, take-suc, length-take-le, getD-append-add, getD-drop}
 use Rattle.laws.proofs.Tests.{and-l, and-r}
 use Rattle.tables.specs.Inner.Tables.{zeros, flat, tableNumbers}
-use Rattle.packing.specs.EntryPlace.{entryNumbers}
+use Rattle.packing.specs.EntryPlace.{entryNumbers, logTable}
 use Rattle.machine.specs.declared.Entry.{Entry}
 use Rattle.rules.specs.Rules.{counts}
 use Rattle.rules.specs.declared.Kind.{Kind}
@@ -19,13 +19,16 @@ use Rattle.laws.specs.Folds.{every, keep}
 use Rattle.machine.proofs.Lists.{keep-le}
 use Rattle.tables.proofs.Tables.{length-flat, length-places}
 use Rattle.packing.proofs.EntryPlace.{entry-ranged}
-use Rattle.log.specs.Inner.Log.{HeldLog, entriesOf, Last, Kept}
+use Rattle.log.specs.Inner.Log.{HeldLog, entriesOf, lastOf, movedLog, Last}
 use Rattle.log.specs.Newest.{isSince, newest, lookedAt}
+use Rattle.log.specs.Inner.Memo.{readingSince, IsRead}
+use Rattle.log.specs.Inner.Reading.{readingOf}
 use Rattle.log.specs.Inner.Sieve.{firstTime}
 use Rattle.log.proofs.Logs.{codec, held-valid, held-table}
 use Rattle.log.proofs.Newest.{newest-many, newest-kept, few-looked-at}
+use Rattle.log.proofs.Readings.{keep-many}
 use Rattle.log.proofs.Sifting.{still-counts}
-use Rattle.log.proofs.Turns.{flat-append, all-kept, more}
+use Rattle.log.proofs.Turns.{flat-append, more}
 
 -- the entries that still count for a kind at a time are those that are not before the first time that does
 counts-since : (kind : Kind) (time : ℕ) (es : List Entry) → every (isEntry 64) es ≡ true → keep (λ e. counts kind (e .time) time) es ≡ keep (isSince (firstTime kind time)) es
@@ -40,6 +43,13 @@ pub few-for-kind : (kind : Kind) (time k : ℕ) (xs : List ℕ) → HeldLog k xs
     → lookedAt (firstTime kind time) (entriesOf k xs) ≤ length (keep (λ e. counts kind (e .time) time) (entriesOf k xs)) + 1
 few-for-kind kind time k xs held ordered =
     omega (arith, few-looked-at (firstTime kind time) 0 time (entriesOf k xs) ordered, ap length (counts-since kind time (entriesOf k xs) (held-valid held)))
+
+-- the reading of a window says how many entries are not before its time
+pub window-read : (window time k : ℕ) (xs : List ℕ) → HeldLog k xs → IsRead (entriesOf k xs) (readingOf window time (entriesOf k xs))
+unfolding readingOf readingSince recent counts
+window-read window time k xs held =
+    let es = entriesOf k xs in
+    ap length (counts-since (Rate window) time es (held-valid held)) ∙ keep-many (firstTime (Rate window) time) es
 
 -- in order of time those inside a window are the last ones
 module _ (window time k : ℕ) (xs : List ℕ) (held : HeldLog k xs) (ordered : areOrdered 0 time (entriesOf k xs) ≡ true) where
@@ -61,6 +71,12 @@ module _ (window time k : ℕ) (xs : List ℕ) (held : HeldLog k xs) (ordered : 
         last = recent-since ∙ newest-kept first 0 time es ordered ∙ (λ j. drop (long j - sym is j) es);
       }
 
+  -- so many last ones
+  pub recent-last : recent window time (entriesOf k xs) ≡ lastOf (length (recent window time (entriesOf k xs))) (entriesOf k xs)
+  recent-last =
+      let l = inside-last refl in
+      l .last ∙ (λ j. drop (sym (length-places codec k xs) j - l .count j) (entriesOf k xs))
+
 -- the entries that stay, moved to the front
 flat-drop : (es : List Entry) (d : ℕ) (zs : List ℕ) → d ≤ length es → drop (d * 2) (flat entryNumbers es ++ zs) ≡ flat entryNumbers (drop d es) ++ zs
 flat-drop es d zs h =
@@ -70,19 +86,21 @@ flat-drop es d zs h =
     ∙ drop-at (flat entryNumbers (take d es)) (flat entryNumbers (drop d es) ++ zs) (d * 2)
     (length-flat codec (take d es) ∙ ap (λ (n : ℕ). n * 2) (length-take-le d es h))
 
-module _ {window time k : ℕ} {xs : List ℕ} (held : HeldLog k xs) {r : ℕ} (inside : Last window time k xs r) where
+module _ {k : ℕ} {xs : List ℕ} (held : HeldLog k xs) {r : ℕ} (most : r ≤ k) where
   abbrev es : List Entry
   es = entriesOf k xs
 
   long : length es ≡ k
   long = length-places codec k xs
 
-  pub all-inside : r ≡ k → Kept window time k xs xs k
-  all-inside all =
-      let none : k - r ≡ 0 = omega arith in
-      all-kept held (inside .last ∙ ap (λ (n : ℕ). drop n es) none)
+  -- where all entries stay nothing moves
+  pub all-kept : r ≡ k → xs ≡ movedLog r es
+  all-kept all =
+      let none : length es - r ≡ 0 = omega (arith, long) in
+      let end : length es ≤ r = omega (arith, long) in
+      held-table held ∙ ap logTable (sym (rw (none, drop-of-length-le es end) (append-nil es)))
 
-  pub kept-moved : {ys : List ℕ} → ys ≡ take (r * 2) (drop ((k - r) * 2) xs) ++ drop (r * 2) xs → Kept window time k xs ys r
+  pub kept-moved : {ys : List ℕ} → ys ≡ take (r * 2) (drop ((k - r) * 2) xs) ++ drop (r * 2) xs → ys ≡ movedLog r es
   unfolding tableNumbers
   kept-moved {ys} e =
       let n = r * 2 in
@@ -91,17 +109,14 @@ module _ {window time k : ℕ} {xs : List ℕ} (held : HeldLog k xs) {r : ℕ} (
       let kept = flat entryNumbers (drop gone es) in
       let is : xs ≡ flat entryNumbers es ++ zs = held-table held in
       let front : drop (gone * 2) xs ≡ kept ++ zs = ap (drop (gone * 2)) is ∙ flat-drop es gone zs (omega (arith, long)) in
-      let back : drop n xs ≡ flat entryNumbers (drop r es) ++ zs = ap (drop n) is ∙ flat-drop es r zs (omega (arith, inside .most, long)) in
-      let size : length kept ≡ n = length-flat codec (drop gone es) ∙ omega (arith, length-drop gone es, inside .most, long) in
-      let all : length (drop gone es ++ drop r es) ≡ length es = length-append (drop gone es) (drop r es) ∙ omega (arith, length-drop gone es, length-drop r es, inside .most, long) in
-      record {
-        count = inside .count;
-        most = inside .most;
-        log =
-            e ∙ rw (front, back, take-at kept zs n size, inside .last, all)
-            (sym (append-assoc kept (flat entryNumbers (drop r es)) zs)
-            ∙ ap (λ (l : List ℕ). l ++ zs) (sym (flat-append (drop gone es) (drop r es))));
-      }
+      let back : drop n xs ≡ flat entryNumbers (drop r es) ++ zs = ap (drop n) is ∙ flat-drop es r zs (omega (arith, long)) in
+      let size : length kept ≡ n = length-flat codec (drop gone es) ∙ omega (arith, length-drop gone es, long) in
+      let all : length (drop gone es ++ drop r es) ≡ length es = length-append (drop gone es) (drop r es) ∙ omega (arith, length-drop gone es, length-drop r es, long) in
+      let from : length es - r ≡ gone = omega (arith, long) in
+      e
+      ∙ rw (front, back, take-at kept zs n size, from, all)
+      (sym (append-assoc kept (flat entryNumbers (drop r es)) zs)
+      ∙ ap (λ (l : List ℕ). l ++ zs) (sym (flat-append (drop gone es) (drop r es))))
 
 -- numbers moved to the front, one after the other
 module _ (s : List ℕ) (d j : ℕ) (fits : d + j < length s) where

@@ -6,5 +6,7 @@ pub mod Flags
 pub mod Turns
 pub mod Unflagging
 pub mod Memos
+pub mod Adding
 pub mod Newest
 pub mod Leaving
+pub mod Readings

@@ -10,13 +10,13 @@ use lib.Seq.{sets, drop-cons, getD-append-add, getD-drop, set-at, append-snoc, t
 use Rattle.tables.specs.Inner.Tables.{zeros, flat, tableNumbers}
 use Rattle.laws.specs.Folds.{every}
 use Rattle.laws.proofs.Every.{every-first, every-drop, every-append, every-join}
-use Rattle.machine.specs.Entries.{isEntry, recent}
+use Rattle.machine.specs.Entries.{isEntry}
 use Rattle.machine.specs.declared.Entry.{Entry}
 use Rattle.packing.specs.EntryPlace.{entryAt, entryNumbers, isEntryPlace, logTable}
 use Rattle.shapes.proofs.Tables.{length-zeros}
 use Rattle.tables.proofs.Tables.{length-flat, length-places, length-table, place-table, read-table, put-at, put-next}
 use Rattle.tables.proofs.AllZero.{zeros-add}
-use Rattle.log.specs.Inner.Log.{HeldLog, entriesOf, joinedEntries, Kept}
+use Rattle.log.specs.Inner.Log.{HeldLog, entriesOf, lastOf, movedLog, joinedEntries}
 use Rattle.log.proofs.Logs.{codec, held-valid, held-table}
 
 -- a list p and then another from p's length on: what stands past p, one more at p's end, and how long they are
@@ -119,18 +119,6 @@ module _ {out : List Entry → List Entry} {k : ℕ} {xs : List ℕ} {i j : ℕ}
   pub turned-made : k ≤ i → out [] ≡ [] → t .made ≡ out (entriesOf k xs)
   turned-made l none = sym (append-nil (t .made)) ∙ ap (λ (l : List Entry). t .made ++ l) (sym (ap out (over l) ∙ none)) ∙ t .whole
 
--- where all entries are inside the window nothing moves
-pub all-kept : {window time k : ℕ} {xs : List ℕ} → HeldLog k xs → recent window time (entriesOf k xs) ≡ entriesOf k xs → Kept window time k xs xs k
-all-kept {k = k} {xs = xs} h same =
-    let es = entriesOf k xs in
-    let long = length-places codec k xs in
-    let end : length es ≤ k = omega arith in
-    record {
-      count = sym (ap length same ∙ long);
-      most = omega arith;
-      log = held-table h ∙ ap logTable (sym (rw (same, drop-of-length-le es end) (append-nil es)));
-    }
-
 pub flat-append : (p q : List Entry) → flat entryNumbers (p ++ q) ≡ flat entryNumbers p ++ flat entryNumbers q
 unfolding flat
 flat-append [] q = refl
@@ -167,12 +155,13 @@ rest-blanked {k = k} {r = r} {xs = xs} {ys = ys} h p count most log is =
     rw (is, many, log) (blanked p (drop r es) (r * 2) n (omega (arith, h .fits)) (ap (λ (m : ℕ). m * 2) count) rest)
 
 -- an entry put after those that stay, once the places after these are set to 0
-pub joined-log : {window time k r : ℕ} {xs ys bs : List ℕ} → HeldLog k xs → Kept window time k xs ys r → (e : Entry) → r < 512
+pub joined-log : {k r : ℕ} {xs ys bs : List ℕ} → HeldLog k xs → r ≤ k → ys ≡ movedLog r (entriesOf k xs) → (e : Entry) → r < 512
     → bs ≡ zeros (length (take (k * 2 - r * 2) (drop (r * 2) ys)))
-    → sets (take (r * 2) ys ++ (bs ++ drop (k * 2 - r * 2) (drop (r * 2) ys))) (r * 2) (entryNumbers e) ≡ logTable (joinedEntries window time e (entriesOf k xs))
-joined-log {window = window} {time = time} {k = k} {xs = xs} h s e room is =
-    let rs = recent window time (entriesOf k xs) in
-    rw (rest-blanked h rs (sym (s .count)) (s .most) (s .log) is, s .count) (put-next codec 512 rs e (omega (arith, s .count)))
+    → sets (take (r * 2) ys ++ (bs ++ drop (k * 2 - r * 2) (drop (r * 2) ys))) (r * 2) (entryNumbers e) ≡ logTable (joinedEntries r e (entriesOf k xs))
+joined-log {k = k} {r = r} {xs = xs} h most moved e room is =
+    let rs = lastOf r (entriesOf k xs) in
+    let count : length rs ≡ r = omega (arith, length-drop (length (entriesOf k xs) - r) (entriesOf k xs), length-places codec k xs) in
+    rw (rest-blanked h rs count most moved is) (ap (λ (n : ℕ). sets (logTable rs) (n * 2) (entryNumbers e)) (sym count) ∙ put-next codec 512 rs e (omega arith))
 
 -- numbers set to 0, one after the other
 pub zeros-more : (s : List ℕ) (i : ℕ) → i < length s → set (zeros i ++ drop i s) i 0 ≡ zeros (i + 1) ++ drop (i + 1) s

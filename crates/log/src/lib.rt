@@ -13,7 +13,8 @@ ghost use lib.ListN.{length};
 ghost use Rattle.rules.specs.Amounts.{amountIn};
 ghost use Rattle.tables.specs.Inner.Tables.{zeros};
 ghost use Rattle.log.specs.Inner.Log.{entriesHold, logHolds, HeldIn, entriesIn, logNumbers, joinedEntries};
-ghost use Rattle.log.specs.Inner.Memo.{memoSum, noMemo, recalledOf, RightTwo};
+ghost use Rattle.log.specs.Inner.Memo.{memoSum, noMemo, recalledOf, IsRead, RightTwo};
+ghost use Rattle.log.specs.Inner.Reading.{readingOf};
 ghost use Rattle.log.specs.Inner.Sieve.{sieveOf};
 
 mod clearing;
@@ -27,6 +28,7 @@ use measures::Executions;
 use measures::TenThousandths;
 use measures::Time;
 use rules::Amount;
+use rules::Kind;
 use rules::Limit;
 use rules::Rule;
 
@@ -73,6 +75,25 @@ pub fn is_log(log: &[u64], roots: u64, clock: u64) -> bool
     are_entries(&log[1..SIZE], k, roots, clock)
 }
 
+// A first time, and how many of the log's entries are not before it.
+pub struct Reading {
+    pub from: u64,
+    pub passed: usize,
+}
+
+// The reading of a window at a time: the entries inside it, counted from the newest on.
+pub fn read_window(log: &[u64], window: u64, time: u64) -> Reading
+    requires { ⌜ HeldIn (now log) × (areOrdered 0 time (entriesIn (now log)) ≡ true) ⌝ }
+    ensures { λ r. ⌜ r ≡ readingOf window time (entriesIn (now (log .entry))) ⌝ }
+{
+    let k = log[0] as usize;
+    let passed = windows::inside(&log[1..SIZE], k, window, time);
+    Reading {
+        from: sieves::first_time(Kind::Rate(window), time),
+        passed,
+    }
+}
+
 // What the entries that pass a sieve count in each measure, and how many are not before its time.
 pub struct Memo {
     pub mask: u64,
@@ -84,15 +105,16 @@ pub struct Memo {
     pub count: Executions,
 }
 
-// The memos of the last sieve and of the one before it.
+// The memos of the last sieve and of the one before it, and a reading.
 pub struct Two {
     pub last: Memo,
     pub other: Memo,
+    pub read: Reading,
 }
 
-// Two memos of a sieve that no entry passes.
-pub fn no_memos() -> Two
-    ensures { λ r. ⌜ ((es : List Entry) → RightTwo es r) × (r ≡ record { last = noMemo; other = noMemo }) ⌝ }
+// Two memos of a sieve that no entry passes, and a reading.
+pub fn memos_of(read: Reading) -> Two
+    ensures { λ r. ⌜ ((es : List Entry) → IsRead es read → RightTwo es r) × (r ≡ record { last = noMemo; other = noMemo; read = read }) ⌝ }
 {
     let none = Memo {
         mask: 0,
@@ -106,6 +128,7 @@ pub fn no_memos() -> Two
     Two {
         last: none,
         other: none,
+        read,
     }
 }
 
@@ -143,21 +166,24 @@ pub fn recalled(log: &[u64], rule: Rule, time: u64, before: Two) -> Two
     let s = sieves::sieve_of(rule, time);
     let last = before.last;
     let other = before.other;
+    let read = before.read;
     if sieves::is_for(s, last) {
-        return Two { last, other };
+        return Two { last, other, read };
     }
     if sieves::is_for(s, other) {
         return Two {
             last: other,
             other: last,
+            read,
         };
     }
     let k = log[0] as usize;
-    let passed = sieves::passed_from(&log[1..SIZE], k, s.from, last);
+    let passed = sieves::passed_from(&log[1..SIZE], k, s.from, before);
     let new = sieves::memo_of(&log[1..SIZE], k, passed, s);
     Two {
         last: new,
         other: last,
+        read,
     }
 }
 
@@ -191,12 +217,12 @@ pub fn blank(s: &mut [u64])
     }
 }
 
-// The entries that are no longer inside a window at a time leave the log, and e joins.
-pub fn join(log: &mut [u64], window: u64, time: u64, e: Entry)
-    requires { ⌜ HeldIn (now log) × (window ≤ 86_400_000) × (areOrdered 0 time (entriesIn (now log)) ≡ true) × (isEntry 64 e ≡ true) × (length (recent window time (entriesIn (now log))) < 512) ⌝ }
-    ensures { λ _. ⌜ now (log .exit) ≡ logNumbers (joinedEntries window time e (entriesIn (now (log .entry)))) ⌝ }
+// Of the log's entries the last ones stay, and e joins.
+pub fn join(log: &mut [u64], left: usize, e: Entry)
+    requires { ⌜ HeldIn (now log) × (left ≤ length (entriesIn (now log))) × (left < 512) × (isEntry 64 e ≡ true) ⌝ }
+    ensures { λ _. ⌜ now (log .exit) ≡ logNumbers (joinedEntries left e (entriesIn (now (log .entry)))) ⌝ }
 {
     let k = log[0] as usize;
-    let n = windows::join_places(&mut log[1..SIZE], k, window, time, e);
+    let n = windows::join_places(&mut log[1..SIZE], k, left, e);
     log[0] = n as u64;
 }

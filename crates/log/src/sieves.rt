@@ -1,15 +1,17 @@
 // What counts for a rule at a time, and what the entries that do count.
 ghost use mathlib.Core.Path.{_≡_};
-ghost use mathlib.Core.Bool.{true, cond};
+ghost use mathlib.Core.Bool.{true, cond, _&&_};
 ghost use Rattle.rules.specs.Valid.{isRule};
 ghost use Prim.Native.Nat.{ℕ, _≤_};
 ghost use Rattle.machine.specs.Entries.{areOrdered};
+ghost use lib.Dec.{eqb, ltb};
 ghost use lib.ListN.{length};
 ghost use Rattle.log.specs.Inner.Log.{HeldLog, entriesOf};
-ghost use Rattle.log.specs.Inner.Memo.{memoFor, isMemoOf, Passed};
+ghost use Rattle.log.specs.Inner.Memo.{memoFor, isMemoOf, RightTwo};
 ghost use Rattle.log.specs.Newest.{newest};
 ghost use Rattle.log.specs.Inner.Sieve.{firstTime, sieveOf, isWanted};
 use crate::Memo;
+use crate::Two;
 use crate::windows::since;
 use measures::Contracts;
 use measures::Executions;
@@ -88,13 +90,29 @@ pub(crate) fn is_for(s: Sieve, m: Memo) -> bool
     (m.mask == s.mask) & (m.want == s.want) & (m.from == s.from)
 }
 
-// How many entries a reading from a first time on passes: as many as that of a memo with the same first time did, else the log is read.
-pub(crate) fn passed_from(log: &[u64], k: usize, from: u64, m: Memo) -> usize
-    requires { ⌜ HeldLog k (now log) × (from ≤ 86_400_000) × Passed (entriesOf k (now log)) m × ((clock : ℕ) × (areOrdered 0 clock (entriesOf k (now log)) ≡ true)) ⌝ }
+// Whether a memo says how many entries a reading from a first time on passes.
+fn has_read(m: Memo, from: u64) -> bool
+    ensures { λ r. ⌜ r ≡ (ltb 0 (m .mask) && eqb (m .from) from) ⌝ }
+{
+    (0 < m.mask) & (m.from == from)
+}
+
+// How many entries a reading from a first time on passes: as many as one that was made before did, else the log is read.
+pub(crate) fn passed_from(log: &[u64], k: usize, from: u64, before: Two) -> usize
+    requires { ⌜ HeldLog k (now log) × (from ≤ 86_400_000) × RightTwo (entriesOf k (now log)) before × ((clock : ℕ) × (areOrdered 0 clock (entriesOf k (now log)) ≡ true)) ⌝ }
     ensures { λ r. ⌜ r ≡ length (newest from (entriesOf k (now (log .entry)))) ⌝ }
 {
-    if (0 < m.mask) & (m.from == from) {
-        return m.passed;
+    let read = before.read;
+    let last = before.last;
+    let other = before.other;
+    if read.from == from {
+        return read.passed;
+    }
+    if has_read(last, from) {
+        return last.passed;
+    }
+    if has_read(other, from) {
+        return other.passed;
     }
     since(log, k, from)
 }

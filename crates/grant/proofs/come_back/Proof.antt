@@ -4,22 +4,29 @@ use Rattle.machine.specs.Deeds.{reported}
 use Rattle.state.specs.State.{decode}
 use Rattle.state.proofs.After.{held-laid}
 use Rattle.register.specs.Register.{sentAtPlace}
-use Rattle.grant.proofs.Steps.{returning-filling, returning-trips, paid-holds, paid-filling, logged-holds, still-placed, reported-holds, used-root, filled-memory}
+use Rattle.grant.proofs.Joined.{inside-read}
+use Rattle.grant.proofs.Steps.{returning-filling, returning-trips, paid-holds, paid-filling, paid-inside, logged-holds, still-placed, reported-holds, used-root, filled-memory}
 use borrow.Author.Needs.{needs}
 use Rattle.grant.proofs.come_back.Statement.{statement}
 use Rattle.grant.proofs.come_back.Tie as tie
 
+inside-at-requires : tie.Need-inside-at-requires
+inside-at-requires c κs = search needs
+
 cuts-of-requires : tie.Need-cuts-of-requires
-cuts-of-requires c κs = search needs
+cuts-of-requires c κs =
+    let p = c .before .before .before .before .pre .asked in
+    (p, inside-read (p .laid) _ (c .before .inside-at .ensures))
 
 credit-requires : tie.Need-credit-requires
 credit-requires c κs = search needs
 
 join-log-requires : tie.Need-join-log-requires
 join-log-requires c κs =
-    let f = returning-filling (c .before .before .before .before .before .before .before .before .pre) in
-    let g = paid-filling f (paid-holds f (c .before .before .before .credit .ensures)) in
-    (g .asked, g .most, g .room)
+    let f = returning-filling (c .before .before .before .before .before .before .before .before .before .before .pre) in
+    let h = paid-holds f (c .before .before .before .credit .ensures) in
+    let g = paid-filling f h in
+    (g .asked, g .most, g .room, paid-inside f h (c .before .before .before .before .before .before .before .inside-at .ensures))
 
 sub-use-up : tie.Need-sub-use-up
 sub-use-up c = search needs
@@ -32,13 +39,13 @@ part-use-up-end c = search needs
 
 use-up-requires : tie.Need-use-up-requires
 use-up-requires c κs =
-    let r = c .before .before .before .before .before .before .before .before .before .before .before .before .pre in
+    let r = c .before .before .before .before .before .before .before .before .before .before .before .before .before .before .pre in
     let f = returning-filling r in
     still-placed r (logged-holds f (paid-holds f (c .before .before .before .before .before .before .before .credit .ensures)) (c .before .before .before .join-log .ensures))
 
 mark-requires : tie.Need-mark-requires
 mark-requires c κs =
-    let start = c .before .before .before .before .before .before .before .before .before .before .before .before .before .before .before .before .before .before .before .before .before .before in
+    let start = c .before .before .before .before .before .before .before .before .before .before .before .before .before .before .before .before .before .before .before .before .before .before .before .before in
     let r = start .pre in
     let f = returning-filling r in
     let h = reported-holds r (logged-holds f (paid-holds f (c .before .before .before .before .before .before .before .before .before .before .before .before .before .before .before .before .before .credit .ensures)) (c .before .before .before .before .before .before .before .before .before .before .before .before .before .join-log .ensures)) (c .before .before .before .before .before .before .before .before .before .use-up .ensures) in
@@ -49,7 +56,7 @@ same-length c = search needs
 
 returns : tie.Need-returns
 returns c =
-    let start = c .before .before .before .before .before .before .before .before .before .before .before .before .before .before .before .before .before .before .before .before .before .before .before .before .before in
+    let start = c .before .before .before .before .before .before .before .before .before .before .before .before .before .before .before .before .before .before .before .before .before .before .before .before .before .before .before in
     let r = start .pre in
     let f = returning-filling r in
     let h = reported-holds r (logged-holds f (paid-holds f (c .before .before .before .before .before .before .before .before .before .before .before .before .before .before .before .before .before .before .before .before .credit .ensures)) (c .before .before .before .before .before .before .before .before .before .before .before .before .before .before .before .before .join-log .ensures)) (c .before .before .before .before .before .before .before .before .before .before .before .before .use-up .ensures) in
@@ -62,6 +69,7 @@ pub come-back-spec : {M : Type 1} → statement M
 come-back-spec =
     tie.close
     (tie.spec
+    inside-at-requires
     cuts-of-requires
     credit-requires
     join-log-requires

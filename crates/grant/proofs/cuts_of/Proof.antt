@@ -25,10 +25,10 @@ abbrev μ-loop : tie.MeasureT-loop
 μ-loop m o rules cuts₀ memos₀ place₀ i₀ cuts memos place i = rules - i
 
 rules-in-requires : tie.Need-rules-in-requires Inv-loop μ-loop
-rules-in-requires c κs = c .before .pre .laid
+rules-in-requires c κs = c .before .pre .0 .laid
 
-no-memos-requires : tie.Need-no-memos-requires Inv-loop μ-loop
-no-memos-requires c κs = search needs
+memos-of-requires : tie.Need-memos-of-requires Inv-loop μ-loop
+memos-of-requires c κs = search needs
 
 loop-holds : tie.Need-loop-holds Inv-loop μ-loop
 unfolding cellsOf
@@ -38,12 +38,12 @@ loop-holds c =
     let o = start .args .o in (
       cut-none (decode xs .log) o (decode xs .part .accounts) (Root (o .root)),
       cut-none (decode xs .log) o (decode xs .part .accounts) Firm,
-      c .no-memos .ensures .0 (decode xs .log),
+      c .memos-of .ensures .0 (decode xs .log) (start .pre .1),
       refl,
     )
 
 rule-in-requires : tie.Need-rule-in-requires Inv-loop μ-loop
-rule-in-requires c κs = (c .before .before .before .before .before .pre .laid, omega (arith, c .before .before .before .rules-in .ensures, c .loop-test .taken))
+rule-in-requires c κs = (c .before .before .before .before .before .pre .0 .laid, omega (arith, c .before .before .before .rules-in .ensures, c .loop-test .taken))
 
 of-unit-requires : tie.Need-of-unit-requires Inv-loop μ-loop
 of-unit-requires c κs = search needs
@@ -56,19 +56,19 @@ add-lower c =
     let at-loop = c .before .before .before .before in
     let start = at-loop .before .before .before .before in
     let low : at-loop .loop .i < length (rulesIn (decode (start .args .m .now))) = omega (arith, at-loop .before .before .rules-in .ensures, c .before .before .before .loop-test .taken) in
-    omega (arith, laid-few (start .pre .laid), faced-low (start .pre .laid) low (at-loop .loop .inv .3) (c .before .before .rule-in .ensures) (start .args .o) (start .pre .unit) (c .place-of .ensures))
+    omega (arith, laid-few (start .pre .0 .laid), faced-low (start .pre .0 .laid) low (at-loop .loop .inv .3) (c .before .before .rule-in .ensures) (start .args .o) (start .pre .0 .unit) (c .place-of .ensures))
 
 lower-requires : tie.Need-lower-requires Inv-loop μ-loop
 lower-requires c κs =
     let at-loop = c .before .before .before .before in
     let start = at-loop .before .before .before .before in
     let low : at-loop .loop .i < length (rulesIn (decode (start .args .m .now))) = omega (arith, at-loop .before .before .rules-in .ensures, c .before .before .before .loop-test .taken) in
-    let laid = start .pre .laid in
+    let laid = start .pre .0 .laid in
     let place = at-loop .loop .inv .3 in
     let is = c .before .before .rule-in .ensures in (
-      start .pre,
-      faced-low laid low place is (start .args .o) (start .pre .unit) (c .place-of .ensures),
-      faced-rule laid low place is (start .args .o) (start .pre .unit) (c .place-of .ensures) (c .before .of-unit .ensures),
+      start .pre .0,
+      faced-low laid low place is (start .args .o) (start .pre .0 .unit) (c .place-of .ensures),
+      faced-rule laid low place is (start .args .o) (start .pre .0 .unit) (c .place-of .ensures) (c .before .of-unit .ensures),
       at-loop .loop .inv .2,
     )
 
@@ -81,13 +81,13 @@ add-place c =
     let at-loop = at-rule .before .before in
     let start = at-loop .before .before .before .before in
     let low : at-loop .loop .i < length (rulesIn (decode (start .args .m .now))) = omega (arith, at-loop .before .before .rules-in .ensures, at-rule .before .loop-test .taken) in
-    let on = next-place (start .pre .laid) low (at-loop .loop .inv .3) (at-rule .rule-in .ensures) (c .accounts .ensures) in
-    omega (arith, place-within (start .pre .laid) (at-loop .loop .i + 1) on, laid-few (start .pre .laid))
+    let on = next-place (start .pre .0 .laid) low (at-loop .loop .inv .3) (at-rule .rule-in .ensures) (c .accounts .ensures) in
+    omega (arith, place-within (start .pre .0 .laid) (at-loop .loop .i + 1) on, laid-few (start .pre .0 .laid))
 
 add-i : tie.Need-add-i Inv-loop μ-loop
 add-i c =
     let at-loop = c .before .before .before .before .before .before .before .before in
-    omega (arith, at-loop .before .before .rules-in .ensures, c .before .before .before .before .before .before .before .loop-test .taken, at-loop .before .before .before .before .pre .laid .fits .rules)
+    omega (arith, at-loop .before .before .rules-in .ensures, c .before .before .before .before .before .before .before .loop-test .taken, at-loop .before .before .before .before .pre .0 .laid .fits .rules)
 
 loop-less : tie.Need-loop-less Inv-loop μ-loop
 loop-less c = search needs
@@ -100,14 +100,14 @@ loop-again c =
     let o = start .args .o in
     let xs = start .args .m .now in
     let low : at-loop .loop .i < length (rulesIn (decode (start .args .m .now))) = omega (arith, at-loop .before .before .rules-in .ensures, at-rule .before .loop-test .taken) in
-    let laid = start .pre .laid in
+    let laid = start .pre .0 .laid in
     let place = at-loop .loop .inv .3 in
     let is = at-rule .rule-in .ensures in
     let own = c .before .before .before .before .place-of .ensures in
     let e = c .before .before .before .lower .ensures in
     let on = next-place laid low place is (c .accounts .ensures) in (
-      cut-rule laid low place is o (start .pre .unit) own on (at-loop .loop .inv .0) (e .0 .root),
-      cut-rule laid low place is o (start .pre .unit) own on (at-loop .loop .inv .1) (e .0 .firm),
+      cut-rule laid low place is o (start .pre .0 .unit) own on (at-loop .loop .inv .0) (e .0 .root),
+      cut-rule laid low place is o (start .pre .0 .unit) own on (at-loop .loop .inv .1) (e .0 .firm),
       e .1,
       on,
     )
@@ -116,8 +116,8 @@ returns : tie.Need-returns Inv-loop μ-loop
 returns c =
     let at-loop = c .before in
     let start = at-loop .before .before .before .before in
-    let all = walked (start .pre .laid) {r = at-loop .loop .i} (at-loop .loop .inv .3) (omega (arith, at-loop .before .before .rules-in .ensures, c .loop-test .left)) in
+    let all = walked (start .pre .0 .laid) {r = at-loop .loop .i} (at-loop .loop .inv .3) (omega (arith, at-loop .before .before .rules-in .ensures, c .loop-test .left)) in
     record { root = cut-done (at-loop .loop .inv .0) all; firm = cut-done (at-loop .loop .inv .1) all }
 
 pub cuts-of-spec : {M : Type 1} → statement M
-cuts-of-spec = tie.close (tie.spec Inv-loop μ-loop rules-in-requires no-memos-requires loop-holds rule-in-requires of-unit-requires place-of-requires add-lower lower-requires accounts-requires add-place add-i loop-less loop-again returns)
+cuts-of-spec = tie.close (tie.spec Inv-loop μ-loop rules-in-requires memos-of-requires loop-holds rule-in-requires of-unit-requires place-of-requires add-lower lower-requires accounts-requires add-place add-i loop-less loop-again returns)

@@ -1,5 +1,9 @@
 -- `log::join` meets its contract: the new log's places, and its count. Assumes nothing.
-use Rattle.log.proofs.Logs.{set-table}
+use native.Mathlib.Omega.{arith}
+use lib.ListN.{getD}
+use Rattle.tables.proofs.Tables.{length-places}
+use Rattle.log.specs.Inner.Log.{placesIn}
+use Rattle.log.proofs.Logs.{codec, set-table}
 use borrow.Author.Needs.{needs}
 use Rattle.log.proofs.join.Statement.{statement}
 use Rattle.log.proofs.join.Tie as tie
@@ -17,7 +21,10 @@ part-join-places-end : tie.Need-part-join-places-end
 part-join-places-end c = search needs
 
 join-places-requires : tie.Need-join-places-requires
-join-places-requires c κs = search needs
+join-places-requires c κs =
+    let s = c .before .before .before in
+    let k = getD (s .args .log .now) 0 0 in
+    (s .pre .0 .held, omega (arith, s .pre .1, length-places codec k (placesIn (s .args .log .now))), s .pre .2, s .pre .3)
 
 slice-write-log : tie.Need-slice-write-log
 slice-write-log c = search needs

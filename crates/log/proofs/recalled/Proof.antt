@@ -16,8 +16,8 @@ is-for-requires c κs = search needs
 returns : tie.Need-returns
 unfolding recalledOf
 returns c =
-    let start = c .before .before .before .before .before .before in
-    let sieve = c .before .before .before .before .sieve-of .ensures in
+    let start = c .before .before .before .before .before .before .before in
+    let sieve = c .before .before .before .before .before .sieve-of .ensures in
     let is = sym (c .before .is-for .ensures) ∙ c .if1 .taken in (
       start .pre .2,
       for-rule (start .pre .0 .held) _ _ (start .pre .1) _ (start .pre .2 .last) sieve is,
@@ -30,11 +30,11 @@ is-for-requires-2 c κs = search needs
 returns-2 : tie.Need-returns-2
 unfolding recalledOf
 returns-2 c =
-    let start = c .before .before .before .before .before .before .before .before in
-    let sieve = c .before .before .before .before .before .before .sieve-of .ensures in
+    let start = c .before .before .before .before .before .before .before .before .before in
+    let sieve = c .before .before .before .before .before .before .before .sieve-of .ensures in
     let not-last = sym (c .before .before .before .is-for .ensures) ∙ c .before .before .if1 .left in
     let is = sym (c .before .is-for2 .ensures) ∙ c .if2 .taken in (
-      record { last = start .pre .2 .other; other = start .pre .2 .last; last-passed = start .pre .2 .other-passed; other-passed = start .pre .2 .last-passed },
+      record { last = start .pre .2 .other; other = start .pre .2 .last; last-passed = start .pre .2 .other-passed; other-passed = start .pre .2 .last-passed; read = start .pre .2 .read },
       for-rule (start .pre .0 .held) _ _ (start .pre .1) _ (start .pre .2 .other) sieve is,
       rw (← sieve, not-last, is),
     )
@@ -53,8 +53,8 @@ part-passed-from-end c = search needs
 
 passed-from-requires : tie.Need-passed-from-requires
 passed-from-requires c κs =
-    let start = c .before .before .before .before .before .before .before .before .before .before in
-    (start .pre .0 .held, from-most (start .args .rule) (start .args .time) (c .before .before .before .before .before .before .before .before .sieve-of .ensures), start .pre .2 .last-passed, (start .args .time, start .pre .3))
+    let start = c .before .before .before .before .before .before .before .before .before .before .before in
+    (start .pre .0 .held, from-most (start .args .rule) (start .args .time) (c .before .before .before .before .before .before .before .before .before .sieve-of .ensures), start .pre .2, (start .args .time, start .pre .3))
 
 sub-memo-of : tie.Need-sub-memo-of
 sub-memo-of c = search needs
@@ -71,12 +71,12 @@ memo-of-requires c κs = search needs
 returns-3 : tie.Need-returns-3
 unfolding recalledOf
 returns-3 c =
-    let start = c .before .before .before .before .before .before .before .before .before .before .before .before .before in
-    let sieve = c .before .before .before .before .before .before .before .before .before .before .before .sieve-of .ensures in
+    let start = c .before .before .before .before .before .before .before .before .before .before .before .before .before .before in
+    let sieve = c .before .before .before .before .before .before .before .before .before .before .before .before .sieve-of .ensures in
     let not-last = sym (c .before .before .before .before .before .before .before .before .is-for .ensures) ∙ c .before .before .before .before .before .before .before .if1 .left in
     let not-other = sym (c .before .before .before .before .before .before .is-for2 .ensures) ∙ c .before .before .before .before .before .if2 .left in
     let m = memoed (start .args .time) (start .pre .3) (c .memo-of .ensures) in (
-      record { last = m .right; other = start .pre .2 .last; last-passed = m .many; other-passed = start .pre .2 .last-passed },
+      record { last = m .right; other = start .pre .2 .last; last-passed = m .many; other-passed = start .pre .2 .last-passed; read = start .pre .2 .read },
       for-rule (start .pre .0 .held) _ _ (start .pre .1) _ (m .right) sieve (m .is-for),
       rw (← sieve, not-last, not-other, m .all),
     )

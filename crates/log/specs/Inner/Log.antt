@@ -1,5 +1,5 @@
 -- The log in its places, and what the loops over them leave. Assumes nothing.
-use Prim.Native.Nat.{ℕ, _+_, _*_, _-_, _≤_}
+use Prim.Native.Nat.{ℕ, _*_, _-_, _≤_}
 use mathlib.Core.Path.{_≡_}
 use mathlib.Core.Bool.{Bool, true, _&&_}
 use mathlib.Core.List.{List, [], _∷_, _++_}
@@ -50,21 +50,23 @@ entriesIn xs = entriesOf (getD xs 0 0) (placesIn xs)
 abbrev pub logNumbers : List Entry → List ℕ
 logNumbers es = length es ∷ logTable es
 
--- the entries after one joined: those inside a window at a time, and then the new one
-abbrev pub joinedEntries : ℕ → ℕ → Entry → List Entry → List Entry
-joinedEntries window time e log = recent window time log ++ (e ∷ [])
+-- the last n of some entries
+abbrev pub lastOf : ℕ → List Entry → List Entry
+lastOf n es = drop (length es - n) es
+
+-- the log's places once its last n entries moved down: these first, and after them what stood there
+abbrev pub movedLog : ℕ → List Entry → List ℕ
+movedLog n es = logTable (lastOf n es ++ drop n es)
+
+-- the entries after one joined: the last n of them, and then the new one
+abbrev pub joinedEntries : ℕ → Entry → List Entry → List Entry
+joinedEntries n e es = lastOf n es ++ (e ∷ [])
 
 -- of the k entries in xs the r inside a window are the last ones
 pub record Last (window time k : ℕ) (xs : List ℕ) (r : ℕ) : Type 0 where
   pub count : r ≡ length (recent window time (entriesOf k xs))
   pub most : r ≤ k
   pub last : recent window time (entriesOf k xs) ≡ drop (k - r) (entriesOf k xs)
-
--- of the k entries in xs the r inside a window stand first in ys, and the places after them are as they were
-pub record Kept (window time k : ℕ) (xs ys : List ℕ) (r : ℕ) : Type 0 where
-  pub count : r ≡ length (recent window time (entriesOf k xs))
-  pub most : r ≤ k
-  pub log : ys ≡ logTable (recent window time (entriesOf k xs) ++ drop r (entriesOf k xs))
 
 -- ys holds just these entries, and r is how many they are
 pub record Left (es : List Entry) (ys : List ℕ) (r : ℕ) : Type 0 where

@@ -10,6 +10,7 @@ use Rattle.machine.specs.declared.Entry.{Entry}
 use Rattle.laws.specs.Folds.{sumOf}
 use Rattle.log.specs.declared.sieves.Sieve.{Sieve}
 use Rattle.log.specs.declared.Memo.{Memo}
+use Rattle.log.specs.declared.Reading.{Reading}
 use Rattle.log.specs.declared.Two.{Two}
 use Rattle.log.specs.Newest.{isSince}
 use Rattle.log.specs.Inner.Sieve.{sifted}
@@ -52,11 +53,16 @@ noMemo = record { mask = 0; want = 1; from = 0; passed = 0; notional = record { 
 unfoldable pub recalledOf : Sieve → List Entry → Two → Two
 recalledOf s es before =
     cond (isMemoOf s (before .last)) before
-    (cond (isMemoOf s (before .other)) (record { last = before .other; other = before .last }) (record { last = memoFor s es; other = before .last }))
+    (cond (isMemoOf s (before .other)) (record { last = before .other; other = before .last; read = before .read })
+    (record { last = memoFor s es; other = before .last; read = before .read }))
 
 -- a memo says what these entries count
 unfoldable pub Right : List Entry → Memo → Type 0
 Right es m = (limit : Limit) → memoSum limit m ≡ sumOf (sifted limit (sieveFor m)) es
+
+-- a reading says how many of these entries are not before its time
+abbrev pub IsRead : List Entry → Reading → Type 0
+IsRead es read = read .passed ≡ readingSince (read .from) es
 
 -- a memo of a sieve with a mask says how many of these entries are not before its time
 abbrev pub Passed : List Entry → Memo → Type 0
@@ -67,3 +73,4 @@ pub record RightTwo (es : List Entry) (t : Two) : Type 0 where
   pub other : Right es (t .other)
   pub last-passed : Passed es (t .last)
   pub other-passed : Passed es (t .other)
+  pub read : IsRead es (t .read)

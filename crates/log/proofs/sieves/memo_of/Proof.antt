@@ -1,12 +1,9 @@
 -- `log::memo_of` meets its contract: in each measure, what is summed from place i on, with what the reading still passes before it, is the whole; and so
 -- many as it passes are left to sum, which is the measure. Assumes nothing.
 use Prim.Native.Nat.{ℕ, _+_, _*_, _-_, _≤_, _<_}
-use mathlib.Core.Path.{_≡_, refl, sym, ap, _∙_}
-use mathlib.Core.Bool.{cond}
-use mathlib.Core.List.{[], _∷_}
+use mathlib.Core.Path.{_≡_, refl, sym, ap}
 use native.Mathlib.Omega.{arith}
 use lib.ListN.{length, getD}
-use Rattle.packing.specs.EntryPlace.{entryAt}
 use Rattle.tables.proofs.Tables.{length-places}
 use Rattle.rules.specs.declared.Limit.{Limit}
 use Rattle.machine.specs.declared.Entry.{Entry}
@@ -14,12 +11,13 @@ use Rattle.log.specs.declared.sieves.Sieve.{Sieve}
 use Rattle.log.specs.Inner.Log.{entriesOf}
 use Rattle.log.specs.Inner.Memo.{memoFor}
 use Rattle.log.specs.Newest.{newest}
-use Rattle.log.specs.Inner.Sieve.{isWanted, sifted}
+use Rattle.log.specs.Inner.Sieve.{sifted}
 use Rattle.log.proofs.Logs.{codec}
 use Rattle.log.proofs.Newest.{newest-most, read-on}
 use Rattle.log.proofs.Sifting.{place-since}
 use Rattle.log.proofs.Sums.{Summed, summed-none, summed-done}
-use Rattle.log.proofs.Memos.{small, more-notional, more-volume, more-count, sum-fits, not-stopped, none-left, since-passed, inDollars, inContracts, inExecutions}
+use Rattle.log.proofs.Memos.{since-passed, inDollars, inContracts, inExecutions}
+use Rattle.log.proofs.Adding.{small, more-notional, more-volume, more-count, sum-fits, not-stopped, none-left}
 use borrow.Author.Needs.{needs}
 use Rattle.log.proofs.sieves.memo_of.Statement.{statement}
 use Rattle.log.proofs.sieves.memo_of.Tie as tie

@@ -1,11 +1,12 @@
 -- `log::join_places` meets its contract: the entries that stay, the places after them set to 0, and then the new one make the new log. Assumes nothing.
-use Prim.Native.Nat.{ℕ, _+_, _<_}
-use mathlib.Core.Path.{sym, ap, _∙_}
+use Prim.Native.Nat.{ℕ, _+_, _-_}
+use mathlib.Core.Path.{_≡_, sym, ap, _∙_}
 use mathlib.Core.List.{[], _∷_}
 use native.Mathlib.Omega.{arith}
-use lib.ListN.{length-append}
-use Rattle.log.specs.Inner.Log.{entriesOf}
-use Rattle.machine.specs.Entries.{recent}
+use lib.ListN.{length, length-append, length-drop}
+use Rattle.tables.proofs.Tables.{length-places}
+use Rattle.log.specs.Inner.Log.{entriesOf, lastOf}
+use Rattle.log.proofs.Logs.{codec}
 use Rattle.log.proofs.Turns.{joined-log}
 use borrow.Author.Needs.{needs}
 use Rattle.log.proofs.windows.join_places.Statement.{statement}
@@ -24,10 +25,10 @@ mul-blank : tie.Need-mul-blank
 mul-blank c = search needs
 
 sub-blank : tie.Need-sub-blank
-sub-blank c = omega (arith, c .before .before .keep .ensures .most)
+sub-blank c = search needs
 
 part-blank-start : tie.Need-part-blank-start
-part-blank-start c = omega (arith, c .before .before .keep .ensures .most)
+part-blank-start c = search needs
 
 part-blank-end : tie.Need-part-blank-end
 part-blank-end c = search needs
@@ -51,13 +52,11 @@ returns c =
     let at-keep = at-blank .before .before .before .before in
     let start = at-keep .before .before .before in
     let a = start .args in
-    let s = at-keep .keep .ensures in
-    let room : at-keep .keep .result < 512 = omega (arith, s .count, start .pre .3) in
+    let es = entriesOf (a .k) (a .log .now) in
+    let many : length (lastOf (a .left) es) ≡ a .left = omega (arith, length-drop (length es - a .left) es, length-places codec (a .k) (a .log .now), start .pre .1) in
     record {
-      count =
-          ap (λ (n : ℕ). n + 1) (s .count)
-          ∙ sym (length-append (recent (a .window) (a .time) (entriesOf (a .k) (a .log .now))) (a .e ∷ []));
-      log = at-put .put-entry .ensures ∙ joined-log (start .pre .0) s (a .e) room (at-blank .blank .ensures);
+      count = sym (length-append (lastOf (a .left) es) (a .e ∷ []) ∙ ap (λ (n : ℕ). n + 1) many);
+      log = at-put .put-entry .ensures ∙ joined-log (start .pre .0) (start .pre .1) (at-keep .keep .ensures) (a .e) (start .pre .2) (at-blank .blank .ensures);
     }
 
 pub join-places-spec : {M : Type 1} → statement M
