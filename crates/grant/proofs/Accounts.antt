@@ -1,6 +1,6 @@
 -- The accounts credited one after the other. Assumes nothing.
 use Prim.Native.Nat.{ℕ, _+_, _≤_, _<_}
-use mathlib.Core.Path.{ap, _∙_}
+use mathlib.Core.Path.{_≡_, ap, _∙_, subst}
 use mathlib.Core.Bool.{Bool, false, _&&_, _||_}
 use mathlib.Core.List.{List}
 use lib.ListN.{length}
@@ -16,6 +16,11 @@ use Rattle.grant.specs.Inner.Grant.{concerns, fillsBy, reachedAt, Credit
 use Rattle.grant.specs.declared.Reached.{Reached}
 use Rattle.grant.proofs.Credits.{credit-fair}
 use Rattle.grant.proofs.Tested.{Tested, tested-none, tested-more, tested-done}
+
+-- the same account by another number
+pub credited-there : {o : Offer} {grant i j : ℕ} {xs ys : List ℕ} {before after : Reached} → i ≡ j → Credited o grant i xs ys before after
+    → Credited o grant j xs ys before after
+credited-there {o} {grant} {xs = xs} {ys = ys} {before = before} {after = after} e h = subst (λ (n : ℕ). Credited o grant n xs ys before after) e h
 
 module _ (o : Offer) (grant : ℕ) where
   -- an absolute rule of a level that covers the offer stands at its limit after the grant

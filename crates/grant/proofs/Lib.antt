@@ -7,3 +7,4 @@ pub mod Accounts
 pub mod Joined
 pub mod Steps
 pub mod Rules
+pub mod Scopes

@@ -36,7 +36,7 @@ module _ {xs : List ℕ} (h : Laid xs) where
 
   module _ {r : ℕ} (low : r < length rules) {place : ℕ} (at : place ≡ firstCell rules r) {rule : Rule} (is : rule ≡ ruleNumbered rules r) where
     module _ (o : Offer) (known : In units (o .unit)) {n : ℕ} (own : n ≡ placeIn (rule .scope) (o .unit)) where
-      facing : place + n ≡ firstCell rules r + placeIn (ruleNumbered rules r .scope) (o .unit)
+      pub facing : place + n ≡ firstCell rules r + placeIn (ruleNumbered rules r .scope) (o .unit)
       facing = ap₂ (λ (a b : ℕ). a + b) at (own ∙ ap (λ (q : Rule). placeIn (q .scope) (o .unit)) is)
 
       -- the account that the offer looks at, and its rule

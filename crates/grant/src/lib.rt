@@ -1,27 +1,31 @@
 // An offer's grant: what the rules of each level allow of it, and what a fill leaves in memory, be it granted or reported from away.
 ghost use mathlib.Core.Path.{_≡_};
-ghost use mathlib.Core.Bool.{true, not};
+ghost use mathlib.Core.Bool.{true};
 ghost use Prim.Native.Nat.{_≤_, _<_};
 ghost use lib.ListN.{length};
-ghost use Rattle.measures.specs.Ranges.{premiums, offers};
-ghost use Rattle.rules.specs.Rules.{levelOf, isRate};
+ghost use Rattle.measures.specs.Ranges.{offers};
+ghost use Rattle.rules.specs.Rules.{levelOf};
 ghost use Rattle.rules.specs.declared.Level.the-variants.{Firm};
-ghost use Rattle.machine.specs.Offers.{sameLevel, joinedLog};
+ghost use Rattle.machine.specs.Offers.{sameLevel, joinedLog, coversOffer};
 ghost use Rattle.log.specs.Inner.Memo.{IsRead, RightTwo};
 ghost use Rattle.machine.specs.Entries.{areOrdered};
-ghost use Rattle.rules.specs.Valid.{isTotal};
 ghost use Rattle.machine.specs.State.{rulesIn};
+ghost use Rattle.machine.specs.Remaining.{firstCell};
 ghost use Rattle.state.specs.State.{stored, decode};
 ghost use Rattle.state.specs.Inner.Laid.{Laid, accountIn, withLog};
 ghost use Rattle.register.specs.Register.{sentAtPlace};
-ghost use Rattle.grant.specs.Inner.Grant.{insideOf, Fillable, areTotals, Lowered, AreCuts, Credited, AllCredited, HasRoom, marked, Ready, Filled, Returning, Returned};
+ghost use Rattle.grant.specs.Inner.Grant.{insideOf, Fillable, facedBy, Lowered, AreCuts, HasRoom, marked, Ready, Filled, Returning, Returned};
+
+mod covering;
+mod crediting;
+
+use crediting::credit;
 use log::Reading;
 use log::Two;
 use machine::Entry;
 use machine::Offer;
 use measures::Contracts;
 use measures::TenThousandths;
-use rules::Kind;
 use rules::Rule;
 use rules::Scope;
 
@@ -60,7 +64,7 @@ pub fn inside_at(m: &[u64], time: u64) -> Inside
 }
 
 // Whether a rule counts for the firm.
-fn is_firm(rule: Rule) -> bool
+pub(crate) fn is_firm(rule: Rule) -> bool
     ensures { λ r. ⌜ r ≡ sameLevel (levelOf (rule .scope)) Firm ⌝ }
 {
     let scope = rule.scope;
@@ -71,31 +75,17 @@ fn is_firm(rule: Rule) -> bool
     }
 }
 
-// Whether a rule is an absolute rule.
-fn is_absolute(rule: Rule) -> bool
-    ensures { λ r. ⌜ r ≡ not (isRate (rule .kind)) ⌝ }
-{
-    let kind = rule.kind;
-    match kind {
-        Kind::Rate(_) => false,
-        Kind::Absolute => true,
-    }
-}
-
 // The cuts after some rules, and the memos after these.
 struct Lowering {
     cuts: Cuts,
     memos: Two,
 }
 
-// The cuts after account i, which has this rule: that of its level is lowered to what it allows, if it covers the offer.
+// The cuts after account i, which has this rule, and which covers the offer: that of its level is lowered to what it allows.
 fn lower(m: &[u64], o: Offer, i: usize, rule: Rule, cuts: Cuts, memos: Two) -> Lowering
-    requires { ⌜ Fillable (now m) o × (i < length (decode (now m) .part .accounts)) × (rule ≡ accountIn (now m) i .rule) × RightTwo (decode (now m) .log) memos ⌝ }
+    requires { ⌜ Fillable (now m) o × (i < length (decode (now m) .part .accounts)) × (rule ≡ accountIn (now m) i .rule) × RightTwo (decode (now m) .log) memos × (coversOffer o rule ≡ true) ⌝ }
     ensures { λ r. ⌜ Lowered (now (m .entry)) o i cuts (r .cuts) × RightTwo (decode (now (m .entry)) .log) (r .memos) ⌝ }
 {
-    if !rule.covers(o.root, o.unit) {
-        return Lowering { cuts, memos };
-    }
     let told = counting::counted_by(m, i, rule, o.time, memos);
     let next = told.memos;
     let counted = told.amount;
@@ -120,6 +110,19 @@ fn lower(m: &[u64], o: Offer, i: usize, rule: Rule, cuts: Cuts, memos: Two) -> L
     }
 }
 
+// The cuts after rule i, whose accounts begin at a place: those that it leaves as they are if it does not cover the offer.
+fn lower_at(m: &[u64], o: Offer, i: usize, place: usize, cuts: Cuts, memos: Two) -> Lowering
+    requires { ⌜ Fillable (now m) o × (i < length (rulesIn (decode (now m)))) × (place ≡ firstCell (rulesIn (decode (now m))) i) × RightTwo (decode (now m) .log) memos ⌝ }
+    ensures { λ r. ⌜ Lowered (now (m .entry)) o (facedBy (now (m .entry)) o i) cuts (r .cuts) × RightTwo (decode (now (m .entry)) .log) (r .memos) ⌝ }
+{
+    if !covering::covers_at(m, i, o) {
+        return Lowering { cuts, memos };
+    }
+    let rule = state::rule_in(m, i);
+    let own = rule.of_unit(o.unit);
+    lower(m, o, place + rule.place_of(o.unit), own, cuts, memos)
+}
+
 // The cuts of an offer: of each rule, the account for the offer's unit is asked. A reading of the log is not made again.
 pub fn cuts_of(m: &[u64], o: Offer, read: Reading) -> Cuts
     requires { ⌜ Fillable (now m) o × IsRead (decode (now m) .log) read ⌝ }
@@ -134,58 +137,13 @@ pub fn cuts_of(m: &[u64], o: Offer, read: Reading) -> Cuts
     let mut place: usize = 0;
     let mut i: usize = 0;
     while i < rules {
-        let rule = state::rule_in(m, i);
-        let own = rule.of_unit(o.unit);
-        let after = lower(m, o, place + rule.place_of(o.unit), own, cuts, memos);
+        let after = lower_at(m, o, i, place, cuts, memos);
         cuts = after.cuts;
         memos = after.memos;
-        place += rule.accounts();
+        place += covering::accounts_at(m, i);
         i += 1;
     }
     cuts
-}
-
-// Account i, which has this rule, is credited with a grant: its total rises if the rule is absolute and covers the offer.
-fn credit_one(m: &mut [u64], o: Offer, grant: u64, i: usize, rule: Rule, before: Reached) -> Reached
-    requires { ⌜ Laid (now m) × (i < length (decode (now m) .part .accounts)) × (rule ≡ accountIn (now m) i .rule) × (isTotal (accountIn (now m) i .rule) (accountIn (now m) i .total) ≡ true) × (o .premium ≤ premiums .most) × (grant ≤ offers .most) ⌝ }
-    ensures { λ r. ⌜ Credited o grant i (now (m .entry)) (now (m .exit)) before r ⌝ }
-{
-    if !(is_absolute(rule) & rule.covers(o.root, o.unit)) {
-        return before;
-    }
-    let limit = rule.limit;
-    let total = state::total_in(m, i, limit);
-    let account = rule.filled(total, TenThousandths(o.premium), Contracts(grant));
-    let after = account.total;
-    state::put_total(m, i, after);
-    let full = rule.reached(after);
-    let firm = is_firm(rule);
-    Reached {
-        root: before.root | (!firm & full),
-        firm: before.firm | (firm & full),
-    }
-}
-
-// Every account is credited with a grant: of each rule, that for the offer's unit may rise.
-fn credit(m: &mut [u64], o: Offer, grant: u64) -> Reached
-    requires { ⌜ Fillable (now m) o × (areTotals (decode (now m)) ≡ true) × (grant ≤ offers .most) ⌝ }
-    ensures { λ r. ⌜ AllCredited o grant (now (m .entry)) (now (m .exit)) r ⌝ }
-{
-    let rules = state::rules_in(m);
-    let mut reached = Reached {
-        root: false,
-        firm: false,
-    };
-    let mut place: usize = 0;
-    let mut i: usize = 0;
-    while i < rules {
-        let rule = state::rule_in(m, i);
-        let own = rule.of_unit(o.unit);
-        reached = credit_one(m, o, grant, place + rule.place_of(o.unit), own, reached);
-        place += rule.accounts();
-        i += 1;
-    }
-    reached
 }
 
 // The fill joins the log, if the grant is above 0 and a rule is a rate rule.

@@ -1,8 +1,9 @@
 -- `grant::cuts_of` meets its contract: the lesser of a cut and what the accounts of the rules from i on leave is what all accounts leave. Assumes nothing.
-use Prim.Native.Nat.{_+_, _-_, _<_}
-use mathlib.Core.Path.{_≡_, refl}
+use Prim.Native.Nat.{ℕ, _+_, _-_, _<_}
+use mathlib.Core.Path.{_≡_, refl, subst}
 use native.Mathlib.Omega.{arith}
 use lib.ListN.{length}
+use Rattle.rules.specs.declared.Level.{Level}
 use Rattle.rules.specs.declared.Level.the-variants.{Firm, Root}
 use Rattle.machine.specs.State.{rulesIn, cellsOf}
 use Rattle.machine.specs.Remaining.{firstCell}
@@ -11,7 +12,7 @@ use Rattle.log.specs.Inner.Memo.{RightTwo}
 use Rattle.state.proofs.Laid.{laid-few}
 use Rattle.state.proofs.Walked.{place-within, walked, next-place}
 use Rattle.grant.proofs.Cut.{Cut, cut-none, cut-done}
-use Rattle.grant.proofs.Rules.{faced-low, faced-rule, cut-rule}
+use Rattle.grant.proofs.Rules.{cut-rule}
 use borrow.Author.Needs.{needs}
 use Rattle.grant.proofs.cuts_of.Statement.{statement}
 use Rattle.grant.proofs.cuts_of.Tie as tie
@@ -42,72 +43,45 @@ loop-holds c =
       refl,
     )
 
-rule-in-requires : tie.Need-rule-in-requires Inv-loop μ-loop
-rule-in-requires c κs = (c .before .before .before .before .before .pre .0 .laid, omega (arith, c .before .before .before .rules-in .ensures, c .loop-test .taken))
+lower-at-requires : tie.Need-lower-at-requires Inv-loop μ-loop
+lower-at-requires c κs =
+    let start = c .before .before .before .before .before in
+    (start .pre .0, omega (arith, c .before .before .before .rules-in .ensures, c .loop-test .taken), c .before .loop .inv .3, c .before .loop .inv .2)
 
-of-unit-requires : tie.Need-of-unit-requires Inv-loop μ-loop
-of-unit-requires c κs = search needs
-
-place-of-requires : tie.Need-place-of-requires Inv-loop μ-loop
-place-of-requires c κs = search needs
-
-add-lower : tie.Need-add-lower Inv-loop μ-loop
-add-lower c =
-    let at-loop = c .before .before .before .before in
-    let start = at-loop .before .before .before .before in
-    let low : at-loop .loop .i < length (rulesIn (decode (start .args .m .now))) = omega (arith, at-loop .before .before .rules-in .ensures, c .before .before .before .loop-test .taken) in
-    omega (arith, laid-few (start .pre .0 .laid), faced-low (start .pre .0 .laid) low (at-loop .loop .inv .3) (c .before .before .rule-in .ensures) (start .args .o) (start .pre .0 .unit) (c .place-of .ensures))
-
-lower-requires : tie.Need-lower-requires Inv-loop μ-loop
-lower-requires c κs =
-    let at-loop = c .before .before .before .before in
-    let start = at-loop .before .before .before .before in
-    let low : at-loop .loop .i < length (rulesIn (decode (start .args .m .now))) = omega (arith, at-loop .before .before .rules-in .ensures, c .before .before .before .loop-test .taken) in
-    let laid = start .pre .0 .laid in
-    let place = at-loop .loop .inv .3 in
-    let is = c .before .before .rule-in .ensures in (
-      start .pre .0,
-      faced-low laid low place is (start .args .o) (start .pre .0 .unit) (c .place-of .ensures),
-      faced-rule laid low place is (start .args .o) (start .pre .0 .unit) (c .place-of .ensures) (c .before .of-unit .ensures),
-      at-loop .loop .inv .2,
-    )
-
-accounts-requires : tie.Need-accounts-requires Inv-loop μ-loop
-accounts-requires c κs = search needs
+accounts-at-requires : tie.Need-accounts-at-requires Inv-loop μ-loop
+accounts-at-requires c κs =
+    let start = c .before .before .before .before .before .before .before .before in
+    (start .pre .0 .laid, omega (arith, c .before .before .before .before .before .before .rules-in .ensures, c .before .before .before .loop-test .taken))
 
 add-place : tie.Need-add-place Inv-loop μ-loop
 add-place c =
-    let at-rule = c .before .before .before .before .before .before in
-    let at-loop = at-rule .before .before in
-    let start = at-loop .before .before .before .before in
-    let low : at-loop .loop .i < length (rulesIn (decode (start .args .m .now))) = omega (arith, at-loop .before .before .rules-in .ensures, at-rule .before .loop-test .taken) in
-    let on = next-place (start .pre .0 .laid) low (at-loop .loop .inv .3) (at-rule .rule-in .ensures) (c .accounts .ensures) in
-    omega (arith, place-within (start .pre .0 .laid) (at-loop .loop .i + 1) on, laid-few (start .pre .0 .laid))
+    let start = c .before .before .before .before .before .before .before .before .before in
+    let l = c .before .before .before .before .before .loop in
+    let low : l .i < length (rulesIn (decode (start .args .m .now))) = omega (arith, c .before .before .before .before .before .before .before .rules-in .ensures, c .before .before .before .before .loop-test .taken) in
+    let on = next-place (start .pre .0 .laid) low (l .inv .3) refl (c .accounts-at .ensures) in
+    omega (arith, place-within (start .pre .0 .laid) (l .i + 1) on, laid-few (start .pre .0 .laid))
 
 add-i : tie.Need-add-i Inv-loop μ-loop
-add-i c =
-    let at-loop = c .before .before .before .before .before .before .before .before in
-    omega (arith, at-loop .before .before .rules-in .ensures, c .before .before .before .before .before .before .before .loop-test .taken, at-loop .before .before .before .before .pre .0 .laid .fits .rules)
+add-i c = omega (arith, c .before .before .before .before .before .before .before .rules-in .ensures, c .before .before .before .before .loop-test .taken, c .before .before .before .before .before .before .before .before .before .pre .0 .laid .fits .rules)
 
 loop-less : tie.Need-loop-less Inv-loop μ-loop
 loop-less c = search needs
 
 loop-again : tie.Need-loop-again Inv-loop μ-loop
 loop-again c =
-    let at-rule = c .before .before .before .before .before .before in
-    let at-loop = at-rule .before .before in
-    let start = at-loop .before .before .before .before in
+    let start = c .before .before .before .before .before .before .before .before .before in
+    let l = c .before .before .before .before .before .loop in
     let o = start .args .o in
     let xs = start .args .m .now in
-    let low : at-loop .loop .i < length (rulesIn (decode (start .args .m .now))) = omega (arith, at-loop .before .before .rules-in .ensures, at-rule .before .loop-test .taken) in
+    let low : l .i < length (rulesIn (decode xs)) = omega (arith, c .before .before .before .before .before .before .before .rules-in .ensures, c .before .before .before .before .loop-test .taken) in
     let laid = start .pre .0 .laid in
-    let place = at-loop .loop .inv .3 in
-    let is = at-rule .rule-in .ensures in
-    let own = c .before .before .before .before .place-of .ensures in
-    let e = c .before .before .before .lower .ensures in
-    let on = next-place laid low place is (c .accounts .ensures) in (
-      cut-rule laid low place is o (start .pre .0 .unit) own on (at-loop .loop .inv .0) (e .0 .root),
-      cut-rule laid low place is o (start .pre .0 .unit) own on (at-loop .loop .inv .1) (e .0 .firm),
+    let e = c .before .before .before .lower-at .ensures in
+    let on = next-place laid low (l .inv .3) refl (c .accounts-at .ensures) in
+    let from : (level : Level) (n : ℕ) → Cut (decode xs .log) o (decode xs .part .accounts) level (l .place) n
+    → Cut (decode xs .log) o (decode xs .part .accounts) level (firstCell (rulesIn (decode xs)) (l .i)) n =
+    λ level n. subst (λ (p : ℕ). Cut (decode xs .log) o (decode xs .part .accounts) level p n) (l .inv .3) in (
+      cut-rule laid low refl refl o (start .pre .0 .unit) refl on (from (Root (o .root)) _ (l .inv .0)) (e .0 .root),
+      cut-rule laid low refl refl o (start .pre .0 .unit) refl on (from Firm _ (l .inv .1)) (e .0 .firm),
       e .1,
       on,
     )
@@ -120,4 +94,4 @@ returns c =
     record { root = cut-done (at-loop .loop .inv .0) all; firm = cut-done (at-loop .loop .inv .1) all }
 
 pub cuts-of-spec : {M : Type 1} → statement M
-cuts-of-spec = tie.close (tie.spec Inv-loop μ-loop rules-in-requires memos-of-requires loop-holds rule-in-requires of-unit-requires place-of-requires add-lower lower-requires accounts-requires add-place add-i loop-less loop-again returns)
+cuts-of-spec = tie.close (tie.spec Inv-loop μ-loop rules-in-requires memos-of-requires loop-holds lower-at-requires accounts-at-requires add-place add-i loop-less loop-again returns)

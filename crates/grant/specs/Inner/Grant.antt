@@ -9,8 +9,11 @@ use Rattle.measures.specs.Ranges.{In, times, units, premiums, offers}
 use Rattle.rules.specs.Amounts.{numberOf}
 use Rattle.rules.specs.Rules.{levelOf, isRate, added, ceiling}
 use Rattle.rules.specs.Allowance.{allowance}
+use Rattle.rules.specs.Units.{placeIn}
+use Rattle.machine.specs.Remaining.{ruleNumbered, firstCell}
 use Rattle.rules.specs.declared.Level.{Level}
 use Rattle.rules.specs.declared.Level.the-variants.{Firm, Root}
+use Rattle.rules.specs.declared.Rule.{Rule}
 use Rattle.rules.specs.declared.Account.{Account}
 use Rattle.laws.specs.Folds.{every, anyOf}
 use Rattle.machine.specs.declared.Entry.{Entry}
@@ -76,6 +79,20 @@ pub record Fillable (xs : List ℕ) (o : Offer) : Type 0 where
 -- each total of a state is in its range
 abbrev pub areTotals : State → Bool
 areTotals s = every (λ a. isTotal (a .rule) (a .total)) (s .part .accounts)
+
+-- where the account of rule i stands that an offer looks at, which is that for its unit; and so in a memory
+abbrev pub facedIn : List Rule → Offer → ℕ → ℕ
+facedIn rules o i = firstCell rules i + placeIn (ruleNumbered rules i .scope) (o .unit)
+
+abbrev pub facedBy : List ℕ → Offer → ℕ → ℕ
+facedBy xs o i = facedIn (rulesIn (decode xs)) o i
+
+-- a memory in which a state is laid out, and a grant of an offer in range
+pub record Creditable (xs : List ℕ) (o : Offer) (grant : ℕ) : Type 0 where
+  pub laid : Laid xs
+  pub unit : In units (o .unit)
+  pub premium : o .premium ≤ premiums .most
+  pub most : grant ≤ offers .most
 
 -- what account i leaves of the cuts
 pub record Lowered (xs : List ℕ) (o : Offer) (i : ℕ) (before after : Cuts) : Type 0 where

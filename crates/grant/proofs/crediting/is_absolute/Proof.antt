@@ -1,8 +1,8 @@
 -- `grant::is_absolute` meets its contract: each kind is a rate or absolute. Assumes nothing.
 use Rattle.rules.specs.Rules.{isRate}
 use borrow.Author.Needs.{needs}
-use Rattle.grant.proofs.is_absolute.Statement.{statement}
-use Rattle.grant.proofs.is_absolute.Tie as tie
+use Rattle.grant.proofs.crediting.is_absolute.Statement.{statement}
+use Rattle.grant.proofs.crediting.is_absolute.Tie as tie
 
 enum-told : tie.Need-enum-told
 enum-told c = search needs
