@@ -5,11 +5,12 @@ use mathlib.Core.Bool.{Bool, true, false, cond, _&&_, _||_}
 use lib.ListN.{length}
 use lib.Dec.{eqb}
 use borrow.Author.Tests.{eq-eqb, ne-eqb}
-use Rattle.rules.specs.Rules.{covers}
+use Rattle.rules.specs.Rules.{covers, isRate}
+use Rattle.rules.specs.declared.Kind.the-variants.{Rate, Absolute}
 use Rattle.rules.specs.Units.{unitsOf, scopeFor}
 use Rattle.rules.specs.declared.Scope.{Scope}
 use Rattle.rules.specs.declared.Scope.the-variants.{EveryFill, WholeRoot, OneUnit}
-use Rattle.packing.specs.RulePlace.{scopeFrom}
+use Rattle.packing.specs.RulePlace.{scopeFrom, kindFrom}
 
 module _ (n r u : ℕ) {scope : Scope} (is : scope ≡ scopeFrom n r u) where
   -- a rule covers the fills of its root, and of its unit if it has one
@@ -34,3 +35,12 @@ module _ (n r u : ℕ) {scope : Scope} (is : scope ≡ scopeFrom n r u) where
       go : (a : Bool) → length (unitsOf (cond a EveryFill (OneUnit r u))) ≡ 1
       go true = refl
       go false = refl
+
+-- a rule is a rate rule by its kind's number
+pub rate-by : (n window : ℕ) → isRate (kindFrom n window) ≡ eqb n 0
+unfolding kindFrom isRate
+rate-by n window = go (eqb n 0)
+  where
+    go : (b : Bool) → isRate (cond b (Rate window) Absolute) ≡ b
+    go true = refl
+    go false = refl

@@ -1,7 +1,10 @@
 // Whether a rule covers an offer, and how many accounts it has, by the rule's second number alone: most rules of a long profile do not.
 ghost use mathlib.Core.Path.{_≡_};
+ghost use mathlib.Core.Bool.{not, _&&_};
 ghost use Prim.Native.Nat.{_/_, _%_, _<_};
+ghost use lib.Dec.{eqb};
 ghost use lib.ListN.{length};
+ghost use Rattle.rules.specs.Rules.{isRate};
 ghost use Rattle.rules.specs.Units.{unitsOf, ofUnit};
 ghost use Rattle.packing.specs.RulePlace.{scopeFrom};
 ghost use Rattle.machine.specs.State.{rulesIn};
@@ -11,10 +14,10 @@ ghost use Rattle.state.specs.State.{decode};
 ghost use Rattle.state.specs.Inner.Laid.{Laid};
 use machine::Offer;
 
-// The second number of rule i, which has its scope, its root and its unit.
+// The second number of rule i, which has its kind, its scope, its root and its unit.
 fn scope_word(m: &[u64], i: usize) -> u64
     requires { ⌜ Laid (now m) × (i < length (rulesIn (decode (now m)))) ⌝ }
-    ensures { λ r. ⌜ ruleNumbered (rulesIn (decode (now (m .entry)))) i .scope ≡ scopeFrom (r / 256 % 4) (r / 4 % 64) (r % 4) ⌝ }
+    ensures { λ r. ⌜ (ruleNumbered (rulesIn (decode (now (m .entry)))) i .scope ≡ scopeFrom (r / 256 % 4) (r / 4 % 64) (r % 4)) × (isRate (ruleNumbered (rulesIn (decode (now (m .entry)))) i .kind) ≡ eqb (r / 1024 % 2) 0) ⌝ }
 {
     let table = &m[state::RULES..state::TOTALS];
     let at = i * 2 + 1;
@@ -29,6 +32,17 @@ pub(crate) fn covers_at(m: &[u64], i: usize, o: Offer) -> bool
     let word = scope_word(m, i);
     let scope = word / 256 % 4;
     (scope == 0) | ((word / 4 % 64 == o.root) & ((scope == 1) | (word % 4 == o.unit)))
+}
+
+// Whether rule i is absolute and, as it counts for an offer's unit, covers the offer: its total rises by a fill.
+pub(crate) fn rises_at(m: &[u64], i: usize, o: Offer) -> bool
+    requires { ⌜ Laid (now m) × (i < length (rulesIn (decode (now m)))) ⌝ }
+    ensures { λ r. ⌜ r ≡ (not (isRate (ruleNumbered (rulesIn (decode (now (m .entry)))) i .kind)) && coversOffer o (ofUnit (ruleNumbered (rulesIn (decode (now (m .entry)))) i) (o .unit))) ⌝ }
+{
+    if scope_word(m, i) / 1024 % 2 == 0 {
+        return false;
+    }
+    covers_at(m, i, o)
 }
 
 // How many accounts rule i has.

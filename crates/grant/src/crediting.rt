@@ -1,6 +1,6 @@
 // The totals after a grant: of each rule that covers the offer, that of the account for the offer's unit.
 ghost use mathlib.Core.Path.{_≡_};
-ghost use mathlib.Core.Bool.{true, not};
+ghost use mathlib.Core.Bool.{true, not, _&&_};
 ghost use Prim.Native.Nat.{_≤_, _<_};
 ghost use lib.ListN.{length};
 ghost use Rattle.measures.specs.Ranges.{premiums, offers};
@@ -14,33 +14,18 @@ ghost use Rattle.state.specs.Inner.Laid.{Laid, accountIn};
 ghost use Rattle.grant.specs.Inner.Grant.{Fillable, areTotals, facedBy, Creditable, Credited, AllCredited};
 use crate::Reached;
 use crate::covering::accounts_at;
-use crate::covering::covers_at;
+use crate::covering::rises_at;
 use crate::is_firm;
 use machine::Offer;
 use measures::Contracts;
 use measures::TenThousandths;
-use rules::Kind;
 use rules::Rule;
 
-// Whether a rule is an absolute rule.
-fn is_absolute(rule: Rule) -> bool
-    ensures { λ r. ⌜ r ≡ not (isRate (rule .kind)) ⌝ }
-{
-    let kind = rule.kind;
-    match kind {
-        Kind::Rate(_) => false,
-        Kind::Absolute => true,
-    }
-}
-
-// Account i, which has this rule, and which covers the offer, is credited with a grant: its total rises if the rule is absolute.
+// Account i, which has this rule, and an absolute one that covers the offer, is credited with a grant: its total rises.
 fn credit_one(m: &mut [u64], o: Offer, grant: u64, i: usize, rule: Rule, before: Reached) -> Reached
-    requires { ⌜ Laid (now m) × (i < length (decode (now m) .part .accounts)) × (rule ≡ accountIn (now m) i .rule) × (isTotal (accountIn (now m) i .rule) (accountIn (now m) i .total) ≡ true) × (o .premium ≤ premiums .most) × (grant ≤ offers .most) × (coversOffer o rule ≡ true) ⌝ }
+    requires { ⌜ Laid (now m) × (i < length (decode (now m) .part .accounts)) × (rule ≡ accountIn (now m) i .rule) × (isTotal (accountIn (now m) i .rule) (accountIn (now m) i .total) ≡ true) × (o .premium ≤ premiums .most) × (grant ≤ offers .most) × ((not (isRate (rule .kind)) && coversOffer o rule) ≡ true) ⌝ }
     ensures { λ r. ⌜ Credited o grant i (now (m .entry)) (now (m .exit)) before r ⌝ }
 {
-    if !is_absolute(rule) {
-        return before;
-    }
     let limit = rule.limit;
     let total = state::total_in(m, i, limit);
     let account = rule.filled(total, TenThousandths(o.premium), Contracts(grant));
@@ -54,7 +39,7 @@ fn credit_one(m: &mut [u64], o: Offer, grant: u64, i: usize, rule: Rule, before:
     }
 }
 
-// Rule i, whose accounts begin at a place, is credited with a grant: no number changes if it does not cover the offer.
+// Rule i, whose accounts begin at a place, is credited with a grant: no number changes if it is a rate rule or does not cover the offer.
 fn credit_at(
     m: &mut [u64],
     o: Offer,
@@ -66,7 +51,7 @@ fn credit_at(
     requires { ⌜ Creditable (now m) o grant × (i < length (rulesIn (decode (now m)))) × (place ≡ firstCell (rulesIn (decode (now m))) i) × (isTotal (accountIn (now m) (facedBy (now m) o i) .rule) (accountIn (now m) (facedBy (now m) o i) .total) ≡ true) ⌝ }
     ensures { λ r. ⌜ Credited o grant (facedBy (now (m .entry)) o i) (now (m .entry)) (now (m .exit)) before r ⌝ }
 {
-    if !covers_at(m, i, o) {
+    if !rises_at(m, i, o) {
         return before;
     }
     let rule = state::rule_in(m, i);

@@ -13,7 +13,7 @@ returns : tie.Need-returns
 unfolding coversOffer ofUnit
 returns c =
     let o = c .before .before .before .before .args .o in
-    covered-is _ _ _ (c .before .before .scope-word .ensures) (o .root) (o .unit)
+    covered-is _ _ _ (c .before .before .scope-word .ensures .0) (o .root) (o .unit)
 
 pub covers-at-spec : {M : Type 1} → statement M
 covers-at-spec = tie.close (tie.spec scope-word-requires returns)

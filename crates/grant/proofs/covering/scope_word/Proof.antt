@@ -3,10 +3,12 @@ use Prim.Native.Nat.{_+_, _*_}
 use native.Mathlib.Omega.{arith}
 use mathlib.Core.Path.{sym, ap, _∙_}
 use lib.ListN.{getD}
+use Rattle.rules.specs.Rules.{isRate}
 use Rattle.rules.specs.declared.Rule.{Rule}
 use Rattle.packing.proofs.RulePlace.{rule-in, rule-here}
 use Rattle.state.specs.Inner.Tests.{rulesPart}
 use Rattle.state.proofs.Laid.{laid-rule}
+use Rattle.grant.proofs.Scopes.{rate-by}
 use borrow.Author.Needs.{needs}
 use Rattle.grant.proofs.covering.scope_word.Statement.{statement}
 use Rattle.grant.proofs.covering.scope_word.Tie as tie
@@ -40,7 +42,8 @@ returns c =
     let start = c .before .before in
     let part = rulesPart (start .args .m .now) in
     let at = start .args .i * 2 + 1 in
-    sym (ap (λ (q : Rule). q .scope) (sym (rule-in (getD part at 0) (getD part (at + 1) 0) _) ∙ rule-here part at (shared-slice-read-result c) ∙ laid-rule (start .pre .0) (start .pre .1)))
+    let is = sym (rule-in (getD part at 0) (getD part (at + 1) 0) _) ∙ rule-here part at (shared-slice-read-result c) ∙ laid-rule (start .pre .0) (start .pre .1) in
+    (sym (ap (λ (q : Rule). q .scope) is), ap (λ (q : Rule). isRate (q .kind)) (sym is) ∙ rate-by _ _)
 
 pub scope-word-spec : {M : Type 1} → statement M
 scope-word-spec =

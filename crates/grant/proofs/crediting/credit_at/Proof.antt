@@ -2,8 +2,8 @@
 use Prim.Native.Nat.{ℕ}
 use native.Mathlib.Omega.{arith}
 use mathlib.Core.Path.{_≡_, refl, sym, ap, _∙_, subst}
-use mathlib.Core.Bool.{Bool, true, not, _||_, and-false, or-false}
-use borrow.Author.Tests.{not-true, not-false}
+use mathlib.Core.Bool.{Bool, true, not, _&&_, _||_, or-false}
+use borrow.Author.Tests.{not-false}
 use Rattle.rules.specs.Rules.{isRate}
 use Rattle.rules.specs.Units.{ofUnit}
 use Rattle.rules.specs.Valid.{isTotal}
@@ -21,14 +21,14 @@ use borrow.Author.Needs.{needs}
 use Rattle.grant.proofs.crediting.credit_at.Statement.{statement}
 use Rattle.grant.proofs.crediting.credit_at.Tie as tie
 
-covers-at-requires : tie.Need-covers-at-requires
-covers-at-requires c κs = let p = c .before .before .pre in (p .0 .laid, p .1)
+rises-at-requires : tie.Need-rises-at-requires
+rises-at-requires c κs = let p = c .before .before .pre in (p .0 .laid, p .1)
 
 same-length : tie.Need-same-length
 same-length c = search needs
 
 returns : tie.Need-returns
-unfolding coversOffer
+unfolding coversOffer ofUnit
 returns c =
     let start = c .before .before .before .before in
     let args = start .args in
@@ -37,13 +37,11 @@ returns c =
     let j = facedBy (args .m .now) o (args .i) in
     let a = accountIn (args .m .now) j in
     let is = faced-rule (p .0 .laid) (p .1) refl refl o (p .0 .unit) refl refl in
-    let outside = sym (not-true (c .before .covers-at .result) (c .if1 .taken)) ∙ c .before .covers-at .ensures in
-    let none = ap not (and-false (not (isRate (a .rule .kind)))) in
-    let kind = ap (λ (q : Rule). not (isRate (q .kind))) (sym is) in
+    let none = ap not (sym (c .before .rises-at .ensures)) ∙ c .if1 .taken in
     record {
-      memory = change-none (credited o (args .grant)) j (p .0 .laid) (credited-off o (args .grant) a is kind outside none);
-      root = sym (ap (λ (b : Bool). args .before .root || b) (fills-off o (args .grant) a is kind outside (Root (o .root)) none) ∙ or-false (args .before .root));
-      firm = sym (ap (λ (b : Bool). args .before .firm || b) (fills-off o (args .grant) a is kind outside Firm none) ∙ or-false (args .before .firm));
+      memory = change-none (credited o (args .grant)) j (p .0 .laid) (credited-off o (args .grant) a is refl refl none);
+      root = sym (ap (λ (b : Bool). args .before .root || b) (fills-off o (args .grant) a is refl refl (Root (o .root)) none) ∙ or-false (args .before .root));
+      firm = sym (ap (λ (b : Bool). args .before .firm || b) (fills-off o (args .grant) a is refl refl Firm none) ∙ or-false (args .before .firm));
     }
 
 rule-in-requires : tie.Need-rule-in-requires
@@ -62,6 +60,7 @@ add-credit-one c =
     omega (arith, laid-few (p .0 .laid), faced-low (p .0 .laid) (p .1) (p .2) (c .before .before .before .rule-in .ensures) (start .args .o) (p .0 .unit) (c .place-of .ensures))
 
 credit-one-requires : tie.Need-credit-one-requires
+unfolding ofUnit
 credit-one-requires c κs =
     let start = c .before .before .before .before .before .before .before .before .before in
     let o = start .args .o in
@@ -76,7 +75,7 @@ credit-one-requires c κs =
       subst (λ (j : ℕ). isTotal (accountIn xs j .rule) (accountIn xs j .total) ≡ true) (sym at) (p .3),
       p .0 .premium,
       p .0 .most,
-      ap (coversOffer o) (own ∙ ap (λ (q : Rule). ofUnit q (o .unit)) is) ∙ sym (c .before .before .before .before .before .before .covers-at .ensures) ∙ not-false (c .before .before .before .before .before .before .covers-at .result) (c .before .before .before .before .before .if1 .left),
+      ap (λ (q : Rule). not (isRate (q .kind)) && coversOffer o q) (own ∙ ap (λ (q : Rule). ofUnit q (o .unit)) is) ∙ sym (c .before .before .before .before .before .before .rises-at .ensures) ∙ not-false (c .before .before .before .before .before .before .rises-at .result) (c .before .before .before .before .before .if1 .left),
     )
 
 same-length-2 : tie.Need-same-length-2
@@ -91,4 +90,4 @@ returns-2 c =
     credited-there at (c .before .before .credit-one .ensures)
 
 pub credit-at-spec : {M : Type 1} → statement M
-credit-at-spec = tie.close (tie.spec covers-at-requires same-length returns rule-in-requires of-unit-requires place-of-requires add-credit-one credit-one-requires same-length-2 returns-2)
+credit-at-spec = tie.close (tie.spec rises-at-requires same-length returns rule-in-requires of-unit-requires place-of-requires add-credit-one credit-one-requires same-length-2 returns-2)
