@@ -32,7 +32,7 @@ use Rattle.state.proofs.Laid.{laid-sent}
 use Rattle.state.proofs.Exactly.{sound-decode}
 use Rattle.calls.specs.Calls.{memoryRefusal, callAnswer, callMemory}
 use Rattle.calls.proofs.Armed.{sound-memory}
-use Rattle.calls.proofs.Away.{found-open, found-sent}
+use Rattle.calls.proofs.AwayTests.{found-open, found-sent}
 use Rattle.calls.proofs.Steps.{done, laid, acts, after-decoded}
 use Rattle.figures.specs.declared.Happening.{Happening}
 use Rattle.figures.specs.declared.Happening.the-variants.{Uncounted, Ordered, Offered, Reported}

@@ -3,7 +3,7 @@ use mathlib.Core.Path.{refl, sym, ap, _∙_}
 use mathlib.Core.Bool.{true, false, not}
 use Rattle.calls.proofs.Steps.{laid}
 use Rattle.calls.proofs.Timed.{timed-ready}
-use Rattle.calls.proofs.Away.{close-timed, close-is}
+use Rattle.calls.proofs.AwayTests.{close-timed, close-is}
 use borrow.Author.Needs.{needs}
 use Rattle.calls.proofs.refusals.close_refusal.Statement.{statement}
 use Rattle.calls.proofs.refusals.close_refusal.Tie as tie

@@ -1,6 +1,6 @@
 -- `calls::is_open` meets its contract: the place that is found is one of the register's exactly if an order is open. Assumes nothing.
 use Rattle.state.proofs.Laid.{laid-orders}
-use Rattle.calls.proofs.Away.{found-open}
+use Rattle.calls.proofs.AwayTests.{found-open}
 use borrow.Author.Needs.{needs}
 use Rattle.calls.proofs.refusals.is_open.Statement.{statement}
 use Rattle.calls.proofs.refusals.is_open.Tie as tie

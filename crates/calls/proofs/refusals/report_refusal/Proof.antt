@@ -5,7 +5,7 @@ use native.Mathlib.Omega.{arith}
 use Rattle.state.proofs.Laid.{laid-orders}
 use Rattle.calls.proofs.Steps.{laid}
 use Rattle.calls.proofs.Timed.{timed-ready}
-use Rattle.calls.proofs.Away.{found-sent, found-none, found-one, report-timed, report-drawn, report-is}
+use Rattle.calls.proofs.AwayTests.{found-sent, found-none, found-one, report-timed, report-drawn, report-is}
 use borrow.Author.Needs.{needs}
 use Rattle.calls.proofs.refusals.report_refusal.Statement.{statement}
 use Rattle.calls.proofs.refusals.report_refusal.Tie as tie

@@ -6,7 +6,7 @@ use Rattle.measures.specs.Ranges.{isIn, units, premiums, offers, identities, re
 use Rattle.state.specs.State.{decode}
 use Rattle.calls.proofs.Steps.{laid}
 use Rattle.calls.proofs.Timed.{timed-ready}
-use Rattle.calls.proofs.Away.{send-timed, send-known, send-priced, send-is, send-met, send-full, send-free}
+use Rattle.calls.proofs.AwayTests.{send-timed, send-known, send-priced, send-is, send-met, send-full, send-free}
 use borrow.Author.Needs.{needs}
 use Rattle.calls.proofs.refusals.send_refusal.Statement.{statement}
 use Rattle.calls.proofs.refusals.send_refusal.Tie as tie
