@@ -20,6 +20,8 @@ use Rattle.packing.proofs.entry_place.Kinds as entry-place-kinds
 use Rattle.packing.proofs.entry_place.Reads as entry-place-reads
 use Rattle.packing.proofs.limit_number.Kinds as limit-number-kinds
 use Rattle.packing.proofs.limit_number.Reads as limit-number-reads
+use Rattle.packing.proofs.root_number.Kinds as root-number-kinds
+use Rattle.packing.proofs.root_number.Reads as root-number-reads
 
 pub rule-of : Determines 0 rule-of-kinds.ps rule-of-kinds.r rule-of-reads.Asked rule-of-reads.Learnt
 rule-of κs args asked x y u v p q = (alike p q, refl)
@@ -47,3 +49,6 @@ entry-place κs args asked x y u v p q = (alike p q, refl)
 
 pub limit-number : Determines 0 limit-number-kinds.ps limit-number-kinds.r limit-number-reads.Asked limit-number-reads.Learnt
 limit-number κs args asked x y u v p q = (alike p q, refl)
+
+pub root-number : Determines 0 root-number-kinds.ps root-number-kinds.r root-number-reads.Asked root-number-reads.Learnt
+root-number κs args asked x y u v p q = (alike p q, refl)

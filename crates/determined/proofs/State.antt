@@ -36,6 +36,12 @@ use Rattle.state.proofs.uses_less.Kinds as uses-less-kinds
 use Rattle.state.proofs.uses_less.Reads as uses-less-reads
 use Rattle.state.proofs.orders_in.Kinds as orders-in-kinds
 use Rattle.state.proofs.orders_in.Reads as orders-in-reads
+use Rattle.state.proofs.covering.covers_at.Kinds as covers-at-kinds
+use Rattle.state.proofs.covering.covers_at.Reads as covers-at-reads
+use Rattle.state.proofs.covering.rises_at.Kinds as rises-at-kinds
+use Rattle.state.proofs.covering.rises_at.Reads as rises-at-reads
+use Rattle.state.proofs.covering.accounts_at.Kinds as accounts-at-kinds
+use Rattle.state.proofs.covering.accounts_at.Reads as accounts-at-reads
 
 pub copy : Determines 2 copy-kinds.ps copy-kinds.r copy-reads.Asked copy-reads.Learnt
 copy κs args asked x y u v p q = (refl, λ i. (v .0, (alike p q i, v .1 .1)))
@@ -87,3 +93,12 @@ uses-less κs args asked x y u v p q = (alike p q, refl)
 
 pub orders-in : Determines 1 orders-in-kinds.ps orders-in-kinds.r orders-in-reads.Asked orders-in-reads.Learnt
 orders-in κs args asked x y u v p q = (alike p q, refl)
+
+pub covers-at : Determines 1 covers-at-kinds.ps covers-at-kinds.r covers-at-reads.Asked covers-at-reads.Learnt
+covers-at κs args asked x y u v p q = (alike p q, refl)
+
+pub rises-at : Determines 1 rises-at-kinds.ps rises-at-kinds.r rises-at-reads.Asked rises-at-reads.Learnt
+rises-at κs args asked x y u v p q = (alike p q, refl)
+
+pub accounts-at : Determines 1 accounts-at-kinds.ps accounts-at-kinds.r accounts-at-reads.Asked accounts-at-reads.Learnt
+accounts-at κs args asked x y u v p q = (alike p q, refl)

@@ -7,4 +7,3 @@ pub mod Accounts
 pub mod Joined
 pub mod Steps
 pub mod Rules
-pub mod Scopes

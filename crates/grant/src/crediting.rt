@@ -13,8 +13,6 @@ ghost use Rattle.state.specs.State.{decode};
 ghost use Rattle.state.specs.Inner.Laid.{Laid, accountIn};
 ghost use Rattle.grant.specs.Inner.Grant.{Fillable, areTotals, facedBy, Creditable, Credited, AllCredited};
 use crate::Reached;
-use crate::covering::accounts_at;
-use crate::covering::rises_at;
 use crate::is_firm;
 use machine::Offer;
 use measures::Contracts;
@@ -51,7 +49,7 @@ fn credit_at(
     requires { ⌜ Creditable (now m) o grant × (i < length (rulesIn (decode (now m)))) × (place ≡ firstCell (rulesIn (decode (now m))) i) × (isTotal (accountIn (now m) (facedBy (now m) o i) .rule) (accountIn (now m) (facedBy (now m) o i) .total) ≡ true) ⌝ }
     ensures { λ r. ⌜ Credited o grant (facedBy (now (m .entry)) o i) (now (m .entry)) (now (m .exit)) before r ⌝ }
 {
-    if !rises_at(m, i, o) {
+    if !state::covering::rises_at(m, i, o) {
         return before;
     }
     let rule = state::rule_in(m, i);
@@ -72,7 +70,7 @@ pub(crate) fn credit(m: &mut [u64], o: Offer, grant: u64) -> Reached
     let mut place: usize = 0;
     let mut i: usize = 0;
     while i < rules {
-        let own = accounts_at(m, i);
+        let own = state::covering::accounts_at(m, i);
         reached = credit_at(m, o, grant, i, place, reached);
         place += own;
         i += 1;

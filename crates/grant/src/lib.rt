@@ -16,7 +16,6 @@ ghost use Rattle.state.specs.Inner.Laid.{Laid, accountIn, withLog};
 ghost use Rattle.register.specs.Register.{sentAtPlace};
 ghost use Rattle.grant.specs.Inner.Grant.{insideOf, Fillable, facedBy, Lowered, AreCuts, HasRoom, marked, Ready, Filled, Returning, Returned};
 
-mod covering;
 mod crediting;
 
 use crediting::credit;
@@ -115,7 +114,7 @@ fn lower_at(m: &[u64], o: Offer, i: usize, place: usize, cuts: Cuts, memos: Two)
     requires { ⌜ Fillable (now m) o × (i < length (rulesIn (decode (now m)))) × (place ≡ firstCell (rulesIn (decode (now m))) i) × RightTwo (decode (now m) .log) memos ⌝ }
     ensures { λ r. ⌜ Lowered (now (m .entry)) o (facedBy (now (m .entry)) o i) cuts (r .cuts) × RightTwo (decode (now (m .entry)) .log) (r .memos) ⌝ }
 {
-    if !covering::covers_at(m, i, o) {
+    if !state::covering::covers_at(m, i, o) {
         return Lowering { cuts, memos };
     }
     let rule = state::rule_in(m, i);
@@ -140,7 +139,7 @@ pub fn cuts_of(m: &[u64], o: Offer, read: Reading) -> Cuts
         let after = lower_at(m, o, i, place, cuts, memos);
         cuts = after.cuts;
         memos = after.memos;
-        place += covering::accounts_at(m, i);
+        place += state::covering::accounts_at(m, i);
         i += 1;
     }
     cuts

@@ -5,7 +5,7 @@ ghost use mathlib.Core.List.{[], _∷_};
 ghost use Prim.Native.Nat.{_%_};
 ghost use lib.Dec.{ltb};
 ghost use Rattle.measures.specs.Ranges.{isIn, premiums, offers};
-ghost use Rattle.packing.specs.RulePlace.{limitNumber, ruleAt, isRulePlace, rulePlace};
+ghost use Rattle.packing.specs.RulePlace.{limitNumber, rootNumber, ruleAt, isRulePlace, rulePlace};
 ghost use Rattle.rules.specs.Valid.{isRule};
 ghost use Rattle.packing.specs.EntryPlace.{entryAt, entryPlace};
 ghost use Rattle.packing.specs.Gaps.{gapOf, entryGaps};
@@ -19,6 +19,7 @@ use measures::TenThousandths;
 use measures::Time;
 use rules::Limit;
 use rules::Rule;
+use rules::Scope;
 use tables::Place;
 
 // Two to the 20th and to the 27th: what the longer fields stay below.
@@ -28,6 +29,17 @@ const TWO_27: u64 = 134_217_728;
 
 // Two to the 63rd: what joined gaps stay below where each is clear.
 pub const CLEAR: u64 = 9_223_372_036_854_775_808;
+
+// The root that a scope gives, by its number or its name; 0 where there is none.
+pub fn root_number(scope: Scope) -> u64
+    ensures { λ r. ⌜ r ≡ rootNumber scope ⌝ }
+{
+    match scope {
+        Scope::EveryFill => 0,
+        Scope::WholeRoot(root) => root,
+        Scope::OneUnit(root, _) => root,
+    }
+}
 
 // A limit's number.
 pub fn limit_number(limit: Limit) -> u64
@@ -81,7 +93,7 @@ fn may_hold(rule: Rule) -> bool
         & terms::is_scope(
             64,
             terms::scope_number(scope),
-            terms::root_number(scope),
+            root_number(scope),
             terms::unit_number(scope),
         )
 }

@@ -2,7 +2,7 @@
 ghost use mathlib.Core.Path.{_≡_};
 ghost use Prim.Native.Nat.{_≤_};
 ghost use Rattle.measures.specs.Ranges.{_to_, isIn};
-ghost use Rattle.packing.specs.RulePlace.{measureNumber, windowNumber, kindNumber, scopeNumber, rootNumber, unitNumber, limitFrom, kindFrom, scopeFrom, isLimitPlace, isKindPlace, isScopePlace};
+ghost use Rattle.packing.specs.RulePlace.{measureNumber, windowNumber, kindNumber, scopeNumber, unitNumber, limitFrom, kindFrom, scopeFrom, isLimitPlace, isKindPlace, isScopePlace};
 use measures::Contracts;
 use measures::Dollars;
 use measures::Executions;
@@ -51,17 +51,6 @@ pub(crate) fn scope_number(scope: Scope) -> u64
         Scope::EveryFill => 0,
         Scope::WholeRoot(_) => 1,
         Scope::OneUnit(_, _) => 2,
-    }
-}
-
-// A scope's root, 0 for none.
-pub(crate) fn root_number(scope: Scope) -> u64
-    ensures { λ r. ⌜ r ≡ rootNumber scope ⌝ }
-{
-    match scope {
-        Scope::EveryFill => 0,
-        Scope::WholeRoot(root) => root,
-        Scope::OneUnit(root, _) => root,
     }
 }
 

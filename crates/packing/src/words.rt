@@ -9,6 +9,7 @@ ghost use Rattle.packing.specs.EntryPlace.{fillWidths, amountWidths, fil
 use crate::TWO_20;
 use crate::TWO_27;
 use crate::limit_number;
+use crate::root_number;
 use crate::terms;
 use machine::Entry;
 use numbers::pick;
@@ -35,7 +36,7 @@ pub(crate) fn scope_word(rule: Rule) -> u64
     terms::measure_number(limit) * 2048
         + terms::kind_number(kind) * 1024
         + terms::scope_number(scope) * 256
-        + terms::root_number(scope) * 4
+        + root_number(scope) * 4
         + terms::unit_number(scope)
 }
 

@@ -5,7 +5,7 @@ ghost use Prim.Native.Nat.{_+_, _*_, _≤_, _<_};
 ghost use lib.ListN.{length};
 ghost use lib.Seq.{sets};
 ghost use Rattle.text.specs.Text.{lines, indexOf};
-ghost use Rattle.packing.specs.RulePlace.{rootNumber, ruleNumbers};
+ghost use Rattle.packing.specs.RulePlace.{ruleNumbers};
 ghost use Rattle.rules.specs.Valid.{isRule};
 ghost use Rattle.machine.specs.State.{Profile};
 ghost use Rattle.admission.specs.Inner.Counting.{noRules};
@@ -71,17 +71,6 @@ fn scope_numbered(scope: Scope, names: &[u64]) -> Scope
     }
 }
 
-// The name that a scope gives its root, 0 where there is none.
-fn name_in(scope: Scope) -> u64
-    ensures { λ r. ⌜ r ≡ rootNumber scope ⌝ }
-{
-    match scope {
-        Scope::EveryFill => 0,
-        Scope::WholeRoot(name) => name,
-        Scope::OneUnit(name, _) => name,
-    }
-}
-
 // Puts a rule at place i of the rules.
 fn put_rule(rules: &mut [u64], i: usize, rule: Rule)
     requires { ⌜ (length (now rules) ≡ 512) × (i < 256) × (isRule 64 rule ≡ true) ⌝ }
@@ -122,7 +111,7 @@ fn take_in(
         return Admitted::With(next);
     }
     // The root is new.
-    roots[known] = name_in(scope);
+    roots[known] = packing::root_number(scope);
     Admitted::With(next)
 }
 

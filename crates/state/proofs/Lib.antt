@@ -5,6 +5,7 @@ pub mod Places
 pub mod Stores
 pub mod Exactly
 pub mod Laid
+pub mod Scopes
 pub mod Uses
 pub mod Walked
 pub mod After

@@ -16,6 +16,7 @@ ghost use Rattle.machine.specs.Offers.{longest};
 ghost use Rattle.machine.specs.Refusals.{used};
 ghost use lib.Dec.{ltb};
 
+pub mod covering;
 mod tests;
 
 use given::Tested;

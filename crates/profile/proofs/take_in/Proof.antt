@@ -79,8 +79,8 @@ returns-2 c =
     takes-known held (s .args .rule) (s .pre .1) (a .before .before .scope-numbered .ensures) _ _ (j .before .next .given .1) (a .admit .ensures _ (held .so-far))
     (c .if1 .taken) (u .put-rule .ensures)
 
-name-in-requires : tie.Need-name-in-requires
-name-in-requires c κs = search needs
+root-number-requires : tie.Need-root-number-requires
+root-number-requires c κs = search needs
 
 mul-roots : tie.Need-mul-roots
 mul-roots c = search needs
@@ -112,7 +112,7 @@ returns-3 c =
     let s = begun a in
     λ p held.
     takes-new held (s .args .rule) (s .pre .1) (a .before .before .scope-numbered .ensures) _ _ (j .before .next .given .1) (a .admit .ensures _ (held .so-far))
-    (e .if1 .left) (c .name-in .ensures) (u .put-rule .ensures)
+    (e .if1 .left) (c .root-number .ensures) (u .put-rule .ensures)
 
 pub take-in-spec : {M : Type 1} → statement M
 take-in-spec =
@@ -132,7 +132,7 @@ take-in-spec =
     same-length-4
     same-length-5
     returns-2
-    name-in-requires
+    root-number-requires
     mul-roots
     slice-write-roots
     same-length-6

@@ -1,4 +1,4 @@
--- `grant::covering::rises_at` meets its contract: a rate rule's total does not rise. Assumes nothing.
+-- `state::covering::rises_at` meets its contract: a rate rule's total does not rise. Assumes nothing.
 use mathlib.Core.Path.{sym, ap, _∙_}
 use mathlib.Core.Bool.{Bool, not, _&&_}
 use borrow.Author.Tests.{eq-eqb, ne-eqb}
@@ -6,10 +6,10 @@ use Rattle.rules.specs.Units.{ofUnit}
 use Rattle.machine.specs.Offers.{coversOffer}
 use Rattle.machine.specs.Remaining.{ruleNumbered}
 use Rattle.machine.specs.State.{rulesIn}
 use Rattle.state.specs.State.{decode}
 use borrow.Author.Needs.{needs}
-use Rattle.grant.proofs.covering.rises_at.Statement.{statement}
-use Rattle.grant.proofs.covering.rises_at.Tie as tie
+use Rattle.state.proofs.covering.rises_at.Statement.{statement}
+use Rattle.state.proofs.covering.rises_at.Tie as tie
 
 scope-word-requires : tie.Need-scope-word-requires
 scope-word-requires c κs = search needs

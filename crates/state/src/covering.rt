@@ -10,8 +10,10 @@ ghost use Rattle.packing.specs.RulePlace.{scopeFrom};
 ghost use Rattle.machine.specs.State.{rulesIn};
 ghost use Rattle.machine.specs.Remaining.{ruleNumbered};
 ghost use Rattle.machine.specs.Offers.{coversOffer};
 ghost use Rattle.state.specs.State.{decode};
 ghost use Rattle.state.specs.Inner.Laid.{Laid};
+use crate::RULES;
+use crate::TOTALS;
 use machine::Offer;
 
 // The second number of rule i, which has its kind, its scope, its root and its unit.
@@ -19,13 +21,13 @@ fn scope_word(m: &[u64], i: usize) -> u64
     requires { ⌜ Laid (now m) × (i < length (rulesIn (decode (now m)))) ⌝ }
     ensures { λ r. ⌜ (ruleNumbered (rulesIn (decode (now (m .entry)))) i .scope ≡ scopeFrom (r / 256 % 4) (r / 4 % 64) (r % 4)) × (isRate (ruleNumbered (rulesIn (decode (now (m .entry)))) i .kind) ≡ eqb (r / 1024 % 2) 0) ⌝ }
 {
-    let table = &m[state::RULES..state::TOTALS];
+    let table = &m[RULES..TOTALS];
     let at = i * 2 + 1;
     table[at + 1]
 }
 
 // Whether rule i, as it counts for an offer's unit, covers the offer.
-pub(crate) fn covers_at(m: &[u64], i: usize, o: Offer) -> bool
+pub fn covers_at(m: &[u64], i: usize, o: Offer) -> bool
     requires { ⌜ Laid (now m) × (i < length (rulesIn (decode (now m)))) ⌝ }
     ensures { λ r. ⌜ r ≡ coversOffer o (ofUnit (ruleNumbered (rulesIn (decode (now (m .entry)))) i) (o .unit)) ⌝ }
 {
@@ -35,7 +37,7 @@ pub(crate) fn covers_at(m: &[u64], i: usize, o: Offer) -> bool
 }
 
 // Whether rule i is absolute and, as it counts for an offer's unit, covers the offer: its total rises by a fill.
-pub(crate) fn rises_at(m: &[u64], i: usize, o: Offer) -> bool
+pub fn rises_at(m: &[u64], i: usize, o: Offer) -> bool
     requires { ⌜ Laid (now m) × (i < length (rulesIn (decode (now m)))) ⌝ }
     ensures { λ r. ⌜ r ≡ (not (isRate (ruleNumbered (rulesIn (decode (now (m .entry)))) i .kind)) && coversOffer o (ofUnit (ruleNumbered (rulesIn (decode (now (m .entry)))) i) (o .unit))) ⌝ }
 {
@@ -46,7 +48,7 @@ pub(crate) fn rises_at(m: &[u64], i: usize, o: Offer) -> bool
 }
 
 // How many accounts rule i has.
-pub(crate) fn accounts_at(m: &[u64], i: usize) -> usize
+pub fn accounts_at(m: &[u64], i: usize) -> usize
     requires { ⌜ Laid (now m) × (i < length (rulesIn (decode (now m)))) ⌝ }
     ensures { λ r. ⌜ r ≡ length (unitsOf (ruleNumbered (rulesIn (decode (now (m .entry)))) i .scope)) ⌝ }
 {

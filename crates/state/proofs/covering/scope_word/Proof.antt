@@ -1,4 +1,4 @@
--- `grant::covering::scope_word` meets its contract: the rule stands in its place of the table. Assumes nothing.
+-- `state::covering::scope_word` meets its contract: the rule stands in its place of the table. Assumes nothing.
 use Prim.Native.Nat.{_+_, _*_}
 use native.Mathlib.Omega.{arith}
 use mathlib.Core.Path.{sym, ap, _∙_}
@@ -6,12 +6,12 @@ use lib.ListN.{getD}
 use Rattle.rules.specs.Rules.{isRate}
 use Rattle.rules.specs.declared.Rule.{Rule}
 use Rattle.packing.proofs.RulePlace.{rule-in, rule-here}
 use Rattle.state.specs.Inner.Tests.{rulesPart}
 use Rattle.state.proofs.Laid.{laid-rule}
-use Rattle.grant.proofs.Scopes.{rate-by}
+use Rattle.state.proofs.Scopes.{rate-by}
 use borrow.Author.Needs.{needs}
-use Rattle.grant.proofs.covering.scope_word.Statement.{statement}
-use Rattle.grant.proofs.covering.scope_word.Tie as tie
+use Rattle.state.proofs.covering.scope_word.Statement.{statement}
+use Rattle.state.proofs.covering.scope_word.Tie as tie
 
 sub-table : tie.Need-sub-table
 sub-table c = search needs

@@ -1,8 +1,8 @@
--- `grant::covering::accounts_at` meets its contract: a root's rule without a unit has four accounts, and any other one. Assumes nothing.
-use Rattle.grant.proofs.Scopes.{four-accounts, one-account}
+-- `state::covering::accounts_at` meets its contract: a root's rule without a unit has four accounts, and any other one. Assumes nothing.
+use Rattle.state.proofs.Scopes.{four-accounts, one-account}
 use borrow.Author.Needs.{needs}
-use Rattle.grant.proofs.covering.accounts_at.Statement.{statement}
-use Rattle.grant.proofs.covering.accounts_at.Tie as tie
+use Rattle.state.proofs.covering.accounts_at.Statement.{statement}
+use Rattle.state.proofs.covering.accounts_at.Tie as tie
 
 scope-word-requires : tie.Need-scope-word-requires
 scope-word-requires c κs = search needs

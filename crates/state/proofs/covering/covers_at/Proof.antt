@@ -1,10 +1,10 @@
--- `grant::covering::covers_at` meets its contract: the digits of the second number tell the rule's scope. Assumes nothing.
+-- `state::covering::covers_at` meets its contract: the digits of the second number tell the rule's scope. Assumes nothing.
 use Rattle.rules.specs.Units.{ofUnit}
 use Rattle.machine.specs.Offers.{coversOffer}
-use Rattle.grant.proofs.Scopes.{covered-is}
+use Rattle.state.proofs.Scopes.{covered-is}
 use borrow.Author.Needs.{needs}
-use Rattle.grant.proofs.covering.covers_at.Statement.{statement}
-use Rattle.grant.proofs.covering.covers_at.Tie as tie
+use Rattle.state.proofs.covering.covers_at.Statement.{statement}
+use Rattle.state.proofs.covering.covers_at.Tie as tie
 
 scope-word-requires : tie.Need-scope-word-requires
 scope-word-requires c κs = search needs
