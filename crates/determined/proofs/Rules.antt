@@ -2,8 +2,6 @@
 use mathlib.Core.Path.{refl}
 use Rattle.determined.specs.Determines.{Determines}
 use Rattle.laws.proofs.One.{alike}
-use Rattle.rules.proofs.Rule.covers.Kinds as rule-covers-kinds
-use Rattle.rules.proofs.Rule.covers.Reads as rule-covers-reads
 use Rattle.rules.proofs.Rule.counted.Kinds as rule-counted-kinds
 use Rattle.rules.proofs.Rule.counted.Reads as rule-counted-reads
 use Rattle.rules.proofs.Rule.allowance.Kinds as rule-allowance-kinds
@@ -30,9 +28,6 @@ use Rattle.rules.proofs.Rule.place_of.Kinds as rule-place-of-kinds
 use Rattle.rules.proofs.Rule.place_of.Reads as rule-place-of-reads
 use Rattle.rules.proofs.Rule.of_unit.Kinds as rule-of-unit-kinds
 use Rattle.rules.proofs.Rule.of_unit.Reads as rule-of-unit-reads
-
-pub rule-covers : Determines 0 rule-covers-kinds.ps rule-covers-kinds.r rule-covers-reads.Asked rule-covers-reads.Learnt
-rule-covers κs args asked x y u v p q = (alike p q, refl)
 
 pub rule-counted : Determines 0 rule-counted-kinds.ps rule-counted-kinds.r rule-counted-reads.Asked rule-counted-reads.Learnt
 rule-counted κs args asked x y u v p q = (alike p q, refl)

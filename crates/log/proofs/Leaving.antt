@@ -117,19 +117,3 @@ module _ {k : ℕ} {xs : List ℕ} (held : HeldLog k xs) {r : ℕ} (most : r ≤
       ∙ rw (front, back, take-at kept zs n size, from, all)
       (sym (append-assoc kept (flat entryNumbers (drop r es)) zs)
       ∙ ap (λ (l : List ℕ). l ++ zs) (sym (flat-append (drop gone es) (drop r es))))
-
--- numbers moved to the front, one after the other
-module _ (s : List ℕ) (d j : ℕ) (fits : d + j < length s) where
-  moved-at : getD (take j (drop d s) ++ drop j s) (d + j) 0 ≡ getD s (d + j) 0
-  moved-at =
-      let size : length (take j (drop d s)) ≡ j = length-take-le j (drop d s) (omega (arith, length-drop d s)) in
-      let turn : d + j ≡ length (take j (drop d s)) + d = omega (arith, size) in
-      ap (λ (n : ℕ). getD (take j (drop d s) ++ drop j s) n 0) turn
-      ∙ getD-append-add (take j (drop d s)) (drop j s) d 0 ∙ getD-drop j s d 0 ∙ ap (λ (n : ℕ). getD s n 0) (omega arith)
-
-  pub move-on : {t : List ℕ} → t ≡ take j (drop d s) ++ drop j s → set t j (getD t (d + j) 0) ≡ take (j + 1) (drop d s) ++ drop (j + 1) s
-  move-on {t} e =
-      let size : length (take j (drop d s)) ≡ j = length-take-le j (drop d s) (omega (arith, length-drop d s)) in
-      let more-taken : take (j + 1) (drop d s) ≡ take j (drop d s) ++ (getD s (d + j) 0 ∷ []) =
-      rw (add-one j, take-suc (drop d s) j 0 (omega (arith, length-drop d s)), getD-drop d s j 0) in
-      rw (e, moved-at) (more 0 (take j (drop d s)) s j size (getD s (d + j) 0) (omega arith) ∙ ap (λ (l : List ℕ). l ++ drop (j + 1) s) (sym more-taken))

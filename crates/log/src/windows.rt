@@ -82,18 +82,6 @@ pub(crate) fn inside(log: &[u64], k: usize, window: u64, time: u64) -> usize
     since(log, k, first_time(Kind::Rate(window), time))
 }
 
-// The n numbers from place d on go to the front.
-fn move_down(s: &mut [u64], d: usize, n: usize)
-    requires { ⌜ d + n ≤ length (now s) ⌝ }
-    ensures { λ _. ⌜ now (s .exit) ≡ take n (drop d (now (s .entry))) ++ drop n (now (s .entry)) ⌝ }
-{
-    let mut j: usize = 0;
-    while j < n {
-        s[j] = s[d + j];
-        j += 1;
-    }
-}
-
 // Of the log's k entries the last ones move down, in their order.
 fn keep(log: &mut [u64], k: usize, left: usize)
     requires { ⌜ HeldLog k (now log) × (left ≤ k) ⌝ }
@@ -104,7 +92,7 @@ fn keep(log: &mut [u64], k: usize, left: usize)
     }
     let from = (k - left) * 2;
     let n = left * 2;
-    move_down(log, from, n);
+    tables::move_down(log, from, n);
 }
 
 // Puts an entry at place i of a log.

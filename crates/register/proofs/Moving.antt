@@ -1,4 +1,4 @@
--- Numbers that go two places up, one after the other. Assumes nothing.
+-- Numbers that have gone two places up, and the two that become 0. Assumes nothing.
 use Prim.Native.Nat.{ℕ, suc, _+_, _-_, _<_}
 use mathlib.Core.Path.{_≡_, sym, ap, _∙_}
 use mathlib.Core.List.{List, [], _∷_, _++_}
@@ -13,26 +13,6 @@ module _ (s : List ℕ) (j : ℕ) where
   -- the first j numbers are those that stood two places after them, and the others as they were
   abbrev pub movedUp : List ℕ
   movedUp = take j (drop 2 s) ++ drop j s
-
-  module _ (fits : j + 2 < length s) where
-    size : length (take j (drop 2 s)) ≡ j
-    size = length-take-le j (drop 2 s) (omega (arith, length-drop 2 s))
-
-    next : getD movedUp (j + 2) 0 ≡ getD s (j + 2) 0
-    next =
-        let turn : j + 2 ≡ length (take j (drop 2 s)) + 2 = omega (arith, size) in
-        ap (λ (n : ℕ). getD movedUp n 0) turn ∙ getD-append-add (take j (drop 2 s)) (drop j s) 2 0 ∙ getD-drop j s 2 0
-
-    taken : take (suc j) (drop 2 s) ≡ take j (drop 2 s) ++ (getD s (j + 2) 0 ∷ [])
-    taken =
-        let turn : 2 + j ≡ j + 2 = omega arith in
-        take-suc (drop 2 s) j 0 (omega (arith, length-drop 2 s))
-        ∙ ap (λ (x : ℕ). take j (drop 2 s) ++ (x ∷ [])) (getD-drop 2 s j 0 ∙ ap (λ (n : ℕ). getD s n 0) turn)
-
-    pub moved-on : {t : List ℕ} → t ≡ movedUp → set t j (getD t (j + 2) 0) ≡ take (j + 1) (drop 2 s) ++ drop (j + 1) s
-    moved-on {t} e =
-        rw (e, next, add-one j, taken, drop-cons s j 0 (omega arith), set-at (take j (drop 2 s)) (getD s j 0) (drop (suc j) s) (getD s (j + 2) 0) j size)
-        (sym (append-snoc (take j (drop 2 s)) (getD s (j + 2) 0) (drop (suc j) s)))
 
   -- all have moved, and the last two become 0
   pub moved-all : {t : List ℕ} → j + 2 ≡ length s → t ≡ movedUp → set (set t j 0) (j + 1) 0 ≡ drop 2 s ++ zeros 2

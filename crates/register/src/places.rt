@@ -28,11 +28,7 @@ pub(crate) fn move_up(s: &mut [u64])
     ensures { λ _. ⌜ now (s .exit) ≡ drop 2 (now (s .entry)) ++ zeros 2 ⌝ }
 {
     let n = s.len() - 2;
-    let mut j: usize = 0;
-    while j < n {
-        s[j] = s[j + 2];
-        j += 1;
-    }
+    tables::move_down(s, 2, n);
     s[n] = 0;
     s[n + 1] = 0;
 }

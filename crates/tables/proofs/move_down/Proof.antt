@@ -1,13 +1,13 @@
--- `log::move_down` meets its contract: j numbers have moved, and from place j on all are as they were. Assumes nothing.
+-- `tables::move_down` meets its contract: j numbers have moved, and from place j on all are as they were. Assumes nothing.
 use Prim.Native.Nat.{_+_, _-_, _≤_}
 use mathlib.Core.Path.{_≡_, refl, _∙_}
 use mathlib.Core.List.{_++_}
 use native.Mathlib.Omega.{arith}
 use lib.ListN.{length, take, drop, length-set}
-use Rattle.log.proofs.Leaving.{move-on}
+use Rattle.tables.proofs.Moving.{move-on}
 use borrow.Author.Needs.{needs}
-use Rattle.log.proofs.windows.move_down.Statement.{statement}
-use Rattle.log.proofs.windows.move_down.Tie as tie
+use Rattle.tables.proofs.move_down.Statement.{statement}
+use Rattle.tables.proofs.move_down.Tie as tie
 
 abbrev Inv-loop : tie.InvT-loop
 Inv-loop s₀ d n j₀ s j = (j ≤ n) × (length s ≡ length s₀) × (s ≡ take j (drop d s₀) ++ drop j s₀)
