@@ -55,13 +55,13 @@ pub fn run_counted() {
     // made first, since what is made between two counts may be counted too
     let all_rounds = rounds();
     for line in lines() {
-        for who in 0..WHO.len() {
+        for (who, way) in WHO.into_iter().enumerate() {
             let (mut m, mut account, mut room) = (line.state.clone(), no_account(), line.call.room());
             for _ in 0..CALLS {
                 m.copy_from_slice(&line.state);
                 account.fill(0);
-                let who = black_box(WHO[who]);
-                mbrumzheg_counted(&mut || who(&line, black_box(&mut m), black_box(&mut account), black_box(&mut room)));
+                let call = black_box(way);
+                mbrumzheg_counted(&mut || call(&line, black_box(&mut m), black_box(&mut account), black_box(&mut room)));
             }
             mbrumzheg_counted_all(black_box(who));
         }
