@@ -19,7 +19,7 @@ use Rattle.machine.specs.declared.Offer.{Offer}
 use Rattle.machine.proofs.Lists.{every-keep, every-join, keep-le}
 use Rattle.log.specs.Inner.Log.{lastOf}
 use Rattle.log.specs.Inner.Memo.{IsRead}
-use Rattle.log.specs.Inner.Reading.{readingOf}
+use Rattle.log.specs.Inner.Reading.{windowReading}
 use Rattle.log.proofs.Leaving.{window-read, recent-last}
 use Rattle.state.specs.State.{decode}
 use Rattle.state.proofs.Laid.{laid-held, laid-entries}
@@ -35,7 +35,7 @@ module _ (s : State) (time : ℕ) {inside : Inside} (e : inside ≡ insideOf s t
   window-is = ap (λ (i : Inside). i .window) e
 
   pub passed-is : inside .read .passed ≡ length (recent (inside .window) time (s .log))
-  unfolding insideOf readingOf
+  unfolding insideOf windowReading
   passed-is = ap (λ (i : Inside). i .read .passed) e ∙ ap (λ (w : ℕ). length (recent w time (s .log))) (sym window-is)
 
 module _ {xs : List ℕ} (h : Laid xs) (time : ℕ) where
@@ -47,7 +47,7 @@ module _ {xs : List ℕ} (h : Laid xs) (time : ℕ) where
   inside-read e =
       let w = longest (rulesIn (decode xs)) in
       subst (λ (i : Inside). IsRead log (i .read)) (sym e)
-      (subst (λ (l : List Entry). IsRead l (readingOf w time l)) (laid-entries h) (window-read w time _ _ (laid-held h .held)))
+      (subst (λ (l : List Entry). IsRead l (windowReading w time l)) (laid-entries h) (window-read w time _ _ (laid-held h .held)))
 
   -- in order of time they are the last ones
   pub laid-last : (window : ℕ) → areOrdered 0 time log ≡ true → recent window time log ≡ lastOf (length (recent window time log)) log

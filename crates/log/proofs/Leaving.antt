@@ -22,7 +22,7 @@ use Rattle.packing.proofs.EntryPlace.{entry-ranged}
 use Rattle.log.specs.Inner.Log.{HeldLog, entriesOf, lastOf, movedLog, Last}
 use Rattle.log.specs.Newest.{isSince, newest, lookedAt}
 use Rattle.log.specs.Inner.Memo.{readingSince, IsRead}
-use Rattle.log.specs.Inner.Reading.{readingOf}
+use Rattle.log.specs.Inner.Reading.{windowReading}
 use Rattle.log.specs.Inner.Sieve.{firstTime}
 use Rattle.log.proofs.Logs.{codec, held-valid, held-table}
 use Rattle.log.proofs.Newest.{newest-many, newest-kept, few-looked-at}
@@ -45,8 +45,8 @@ few-for-kind kind time k xs held ordered =
     omega (arith, few-looked-at (firstTime kind time) 0 time (entriesOf k xs) ordered, ap length (counts-since kind time (entriesOf k xs) (held-valid held)))
 
 -- the reading of a window says how many entries are not before its time
-pub window-read : (window time k : ℕ) (xs : List ℕ) → HeldLog k xs → IsRead (entriesOf k xs) (readingOf window time (entriesOf k xs))
-unfolding readingOf readingSince recent counts
+pub window-read : (window time k : ℕ) (xs : List ℕ) → HeldLog k xs → IsRead (entriesOf k xs) (windowReading window time (entriesOf k xs))
+unfolding windowReading readingSince recent counts
 window-read window time k xs held =
     let es = entriesOf k xs in
     ap length (counts-since (Rate window) time es (held-valid held)) ∙ keep-many (firstTime (Rate window) time) es

@@ -10,7 +10,7 @@ use Rattle.laws.specs.Folds.{keep, sumOf}
 use Rattle.machine.specs.declared.Entry.{Entry}
 use Rattle.log.specs.Newest.{passed, isSince, newest, lookedAt}
 use Rattle.log.specs.Inner.Log.{HeldLog, entriesOf}
-use Rattle.log.specs.Inner.Reading.{Passing, OfFour}
+use Rattle.log.specs.Inner.Reading.{PassesOn, OfFour}
 use Rattle.log.proofs.Newest.{read-on, read-stop, read-less}
 use Rattle.log.proofs.Sifting.{place-since, place-before}
 
@@ -24,15 +24,15 @@ pub newest-all : (es : List Entry) → length (newest 0 es) ≡ length es
 unfolding newest
 newest-all es = ap length (all-passed (reverse es)) ∙ length-reverse es
 
-pub passing-none : (first k : ℕ) (xs : List ℕ) → Passing first k xs 0
+pub passing-none : (first k : ℕ) (xs : List ℕ) → PassesOn first k xs 0
 passing-none first k xs =
     let all : k - 0 ≡ k = omega arith in
     record { passes = rw all (omega arith); looks = rw all (omega arith) }
 
 -- a reading came to the place before the n newest of k entries
-module _ {first k n m : ℕ} {xs : List ℕ} (p : Passing first k xs n) (held : HeldLog m xs) (within : k ≤ m) (some : n < k) {at : ℕ} (is : at ≡ (k - n - 1) * 2) where
+module _ {first k n m : ℕ} {xs : List ℕ} (p : PassesOn first k xs n) (held : HeldLog m xs) (within : k ≤ m) (some : n < k) {at : ℕ} (is : at ≡ (k - n - 1) * 2) where
   -- it passes the next entry
-  pub passing-more : first * 1024 ≤ getD xs at 0 → Passing first k xs (n + 1)
+  pub passing-more : first * 1024 ≤ getD xs at 0 → PassesOn first k xs (n + 1)
   passing-more inside =
       let t = place-since first (k - n - 1) held (omega arith) (rw (sym is) inside) in
       let next : k - n - 1 ≡ k - (n + 1) = omega arith in

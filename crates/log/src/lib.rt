@@ -14,7 +14,7 @@ ghost use Rattle.rules.specs.Amounts.{amountIn};
 ghost use Rattle.tables.specs.Inner.Tables.{zeros};
 ghost use Rattle.log.specs.Inner.Log.{entriesHold, logHolds, HeldIn, entriesIn, logNumbers, joinedEntries};
 ghost use Rattle.log.specs.Inner.Memo.{memoSum, noMemo, recalledOf, IsRead, RightTwo};
-ghost use Rattle.log.specs.Inner.Reading.{readingOf};
+ghost use Rattle.log.specs.Inner.Reading.{windowReading};
 ghost use Rattle.log.specs.Inner.Sieve.{sieveOf};
 
 mod clearing;
@@ -84,7 +84,7 @@ pub struct Reading {
 // The reading of a window at a time: the entries inside it, counted from the newest on.
 pub fn read_window(log: &[u64], window: u64, time: u64) -> Reading
     requires { ⌜ HeldIn (now log) × (areOrdered 0 time (entriesIn (now log)) ≡ true) ⌝ }
-    ensures { λ r. ⌜ r ≡ readingOf window time (entriesIn (now (log .entry))) ⌝ }
+    ensures { λ r. ⌜ r ≡ windowReading window time (entriesIn (now (log .entry))) ⌝ }
 {
     let k = log[0] as usize;
     let passed = windows::inside(&log[1..SIZE], k, window, time);

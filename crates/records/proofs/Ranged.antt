@@ -12,15 +12,15 @@ use borrow.Author.Tests.{le-leb, lt-leb, leb-true, leb-false, eqb-true, eqb-fals
 use Rattle.measures.specs.Ranges.{_to_, isIn}
 use Rattle.laws.proofs.Tests.{and-l, and-r, and-on}
 use Rattle.records.specs.Kinds.{Use, none, within, uses16, isUsed, areUsed, areFields}
-use Rattle.records.specs.Inner.Ranges.{leastOf, mostOf, areBetween, uses12}
+use Rattle.records.specs.Inner.Ranges.{leastFields, mostFields, areBetween, uses12}
 
 zero-in : (n : ℕ) → isIn (0 to 0) n ≡ eqb n 0
 zero-in zero = refl
 zero-in (suc n) = rw (lt-leb (suc n) 0 (zero-lt-suc n), ne-eqb (suc n) 0 (λ e. omega arith)) (and-false (leb 0 (suc n)))
 
 -- numbers lie between the least and the most of uses exactly if they are what the uses allow
-between-used : (us : List Use) (v : List ℕ) → areBetween (leastOf us) (mostOf us) v ≡ areUsed us v
-unfolding leastOf mostOf areBetween areUsed isUsed
+between-used : (us : List Use) (v : List ℕ) → areBetween (leastFields us) (mostFields us) v ≡ areUsed us v
+unfolding leastFields mostFields areBetween areUsed isUsed
 between-used [] [] = refl
 between-used [] (n ∷ v) = refl
 between-used (none ∷ us) [] = refl
@@ -57,8 +57,8 @@ alone v = eqb (getD v 7 0) 0 || eqb (getD v 2 0) 0
 
 -- by the least and the most of the kind's row, and root or level 0 whatever the kind, fields are tested as the table says
 pub tested : {uses : List (List Use)} {last : ℕ} → Kinds uses last → (v least most : List ℕ) → 1 < length v
-    → (getD v 0 0 ≤ last → least ≡ 0 ∷ leastOf (getD uses (getD v 0 0) [])) → getD most 0 0 ≡ last
-    → (getD v 0 0 ≤ last → most ≡ last ∷ mostOf (getD uses (getD v 0 0) [])) → (areBetween least most v && alone v) ≡ areFields uses v
+    → (getD v 0 0 ≤ last → least ≡ 0 ∷ leastFields (getD uses (getD v 0 0) [])) → getD most 0 0 ≡ last
+    → (getD v 0 0 ≤ last → most ≡ last ∷ mostFields (getD uses (getD v 0 0) [])) → (areBetween least most v && alone v) ≡ areFields uses v
 unfolding areBetween areFields areUsed
 tested ks [] least most h l m n = absurd (let z : 1 < 0 = h in omega arith)
 tested ks (k ∷ []) least most h l m n = absurd (let z : 1 < 1 = h in omega arith)
@@ -122,8 +122,8 @@ kinds16 = record { level = level; ends = ends }
     ends (suc (suc (suc (suc (suc (suc k)))))) f = refl
 
 -- the code's least and most at each kind are those of its row
-pub least-row : (k : ℕ) → k ≤ 2 → let one : ℕ = cond (eqb k 1) 1 0 in 0 ∷ 0 ∷ 0 ∷ 0 ∷ one ∷ one ∷ 0 ∷ 0 ∷ 0 ∷ [] ≡ 0 ∷ leastOf (getD uses12 k [])
-unfolding leastOf uses12
+pub least-row : (k : ℕ) → k ≤ 2 → let one : ℕ = cond (eqb k 1) 1 0 in 0 ∷ 0 ∷ 0 ∷ 0 ∷ one ∷ one ∷ 0 ∷ 0 ∷ 0 ∷ [] ≡ 0 ∷ leastFields (getD uses12 k [])
+unfolding leastFields uses12
 least-row zero f = refl
 least-row (suc zero) f = refl
 least-row (suc (suc zero)) f = refl
@@ -132,8 +132,8 @@ least-row (suc (suc (suc k))) f = absurd (omega arith)
 pub most-row : (k : ℕ) → k ≤ 2
     → let trades = eqb k 1 in
     2 ∷ 86_399_999 ∷ 63 ∷ cond trades 3 0 ∷ cond trades 100_000_000 0 ∷ cond trades 1_000_000 0 ∷ cond (eqb k 0) 3 0 ∷ cond (eqb k 2) 1 0 ∷ 0 ∷ []
-    ≡ 2 ∷ mostOf (getD uses12 k [])
-unfolding mostOf uses12
+    ≡ 2 ∷ mostFields (getD uses12 k [])
+unfolding mostFields uses12
 most-row zero f = refl
 most-row (suc zero) f = refl
 most-row (suc (suc zero)) f = refl
@@ -141,8 +141,8 @@ most-row (suc (suc (suc k))) f = absurd (omega arith)
 
 pub least16-row : (k : ℕ) → k ≤ 5
     → let trades = eqb k 1 || eqb k 3 in
-    0 ∷ 0 ∷ 0 ∷ 0 ∷ cond trades 1 0 ∷ cond (trades || eqb k 4) 1 0 ∷ 0 ∷ 0 ∷ 0 ∷ cond (eqb k 3) 1 0 ∷ 0 ∷ [] ≡ 0 ∷ leastOf (getD uses16 k [])
-unfolding leastOf uses16
+    0 ∷ 0 ∷ 0 ∷ 0 ∷ cond trades 1 0 ∷ cond (trades || eqb k 4) 1 0 ∷ 0 ∷ 0 ∷ 0 ∷ cond (eqb k 3) 1 0 ∷ 0 ∷ [] ≡ 0 ∷ leastFields (getD uses16 k [])
+unfolding leastFields uses16
 least16-row zero f = refl
 least16-row (suc zero) f = refl
 least16-row (suc (suc zero)) f = refl
@@ -155,8 +155,8 @@ pub most16-row : (k : ℕ) → k ≤ 5
     → let trades = eqb k 1 || eqb k 3 in
     5 ∷ 86_399_999_999 ∷ cond (leb k 3) 63 0 ∷ cond trades 3 0 ∷ cond trades 100_000_000 0 ∷ cond (trades || eqb k 4) 1_000_000 0
     ∷ cond (eqb k 0) 6 0 ∷ cond (eqb k 2) 1 0 ∷ cond (leb 3 k) 65_535 0 ∷ cond (eqb k 3) 16 0 ∷ 0 ∷ []
-    ≡ 5 ∷ mostOf (getD uses16 k [])
-unfolding mostOf uses16
+    ≡ 5 ∷ mostFields (getD uses16 k [])
+unfolding mostFields uses16
 most16-row zero f = refl
 most16-row (suc zero) f = refl
 most16-row (suc (suc zero)) f = refl

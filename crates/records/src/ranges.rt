@@ -7,7 +7,7 @@ ghost use Rattle.records.specs.Form.{stands};
 ghost use Rattle.records.specs.Event.{form};
 ghost use Rattle.records.specs.Event16.{form16};
 ghost use Rattle.records.specs.Kinds.{uses16};
-ghost use Rattle.records.specs.Inner.Ranges.{leastOf, mostOf, areBetween, uses12};
+ghost use Rattle.records.specs.Inner.Ranges.{leastFields, mostFields, areBetween, uses12};
 use measures::Contracts;
 use measures::TenThousandths;
 use measures::Time;
@@ -47,7 +47,7 @@ fn are_between(v: &[u64], least: &[u64], most: &[u64]) -> bool
 
 // The least of each field of 12 bytes by the kind.
 fn least(kind: u64) -> [u64; 9]
-    ensures { λ r. ⌜ (kind ≤ 2 → r ≡ 0 ∷ leastOf (getD uses12 kind [])) ⌝ }
+    ensures { λ r. ⌜ (kind ≤ 2 → r ≡ 0 ∷ leastFields (getD uses12 kind [])) ⌝ }
 {
     let premium = numbers::pick(kind == 1, TenThousandths::PREMIUM_LEAST, 0);
     let contracts = numbers::pick(kind == 1, Contracts::OFFER_LEAST, 0);
@@ -57,7 +57,7 @@ fn least(kind: u64) -> [u64; 9]
 // The most of each: the last kind, and 0 where the kind does not use the field.
 fn most(kind: u64) -> [u64; 9]
     ensures { λ r. ⌜ getD r 0 0 ≡ 2 ⌝ }
-    ensures { λ r. ⌜ (kind ≤ 2 → r ≡ 2 ∷ mostOf (getD uses12 kind [])) ⌝ }
+    ensures { λ r. ⌜ (kind ≤ 2 → r ≡ 2 ∷ mostFields (getD uses12 kind [])) ⌝ }
 {
     let trades = kind == 1;
     [
@@ -75,7 +75,7 @@ fn most(kind: u64) -> [u64; 9]
 
 // The same of 16 bytes: offers and sendings trade, and reports tell contracts too.
 fn least16(kind: u64) -> [u64; 11]
-    ensures { λ r. ⌜ (kind ≤ 5 → r ≡ 0 ∷ leastOf (getD uses16 kind [])) ⌝ }
+    ensures { λ r. ⌜ (kind ≤ 5 → r ≡ 0 ∷ leastFields (getD uses16 kind [])) ⌝ }
 {
     let trades = (kind == 1) | (kind == 3);
     let premium = numbers::pick(trades, TenThousandths::PREMIUM_LEAST, 0);
@@ -86,7 +86,7 @@ fn least16(kind: u64) -> [u64; 11]
 
 fn most16(kind: u64) -> [u64; 11]
     ensures { λ r. ⌜ getD r 0 0 ≡ 5 ⌝ }
-    ensures { λ r. ⌜ (kind ≤ 5 → r ≡ 5 ∷ mostOf (getD uses16 kind [])) ⌝ }
+    ensures { λ r. ⌜ (kind ≤ 5 → r ≡ 5 ∷ mostFields (getD uses16 kind [])) ⌝ }
 {
     let trades = (kind == 1) | (kind == 3);
     [

@@ -10,7 +10,7 @@ use native.Mathlib.Decide.{decLt}
 use native.Mathlib.Nat.{add-zero, sub-self, pow-zero, pow-suc, pow-le-pow-right, add-mul, mul-assoc, mul-comm, mul-one, zero-mul}
 use native.Mathlib.Omega.{arith}
 use Rattle.text.specs.Text.{all, numeral}
-use Rattle.text.specs.Inner.Taking.{front, runOf}
+use Rattle.text.specs.Inner.Taking.{front, runRead}
 use Rattle.text.specs.declared.fields.Run.{Run}
 use Rattle.laws.proofs.Lists.{from, ended}
 
@@ -95,15 +95,15 @@ module _ {p : ℕ → Bool} {base naught : ℕ} {s : List ℕ} {last start v i :
       go (no k) = rw (ended s i (omega arith), take-nil)
 
   -- where no byte is left in front, all is read
-  stops : (most : ℕ) → last ≡ start + most → front p (rest s last i) ≡ [] → record { value = v; end = i } ≡ runOf p base naught (take most (drop start s)) start
-  unfolding runOf numeral
+  stops : (most : ℕ) → last ≡ start + most → front p (rest s last i) ≡ [] → record { value = v; end = i } ≡ runRead p base naught (take most (drop start s)) start
+  unfolding runRead numeral
   stops most e none =
       let n : most ≡ last - start = omega arith in
       rw (n, r .place, r .whole, none, pow-zero, mul-one, add-zero v, add-zero i)
 
   pub running-off : (most : ℕ) → last ≡ start + most → i < min (length s) last → p (getD s i 0) ≡ false
-      → record { value = v; end = i } ≡ runOf p base naught (take most (drop start s)) start
+      → record { value = v; end = i } ≡ runRead p base naught (take most (drop start s)) start
   running-off most e h t = stops most e (front-off h t)
 
-  pub running-end : (most : ℕ) → last ≡ start + most → min (length s) last ≤ i → record { value = v; end = i } ≡ runOf p base naught (take most (drop start s)) start
+  pub running-end : (most : ℕ) → last ≡ start + most → min (length s) last ≤ i → record { value = v; end = i } ≡ runRead p base naught (take most (drop start s)) start
   running-end most e h = stops most e (front-end h)

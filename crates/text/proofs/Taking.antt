@@ -10,7 +10,7 @@ use borrow.Author.Tests.{eqb-true, le-leb, lt-leb}
 use native.Mathlib.Decide.{decLt}
 use native.Mathlib.Omega.{arith}
 use Rattle.text.specs.Text.{all, made, numeral, indexOf}
-use Rattle.text.specs.Inner.Taking.{fieldAt, Near, front, runOf, isEnd, takenAs}
+use Rattle.text.specs.Inner.Taking.{fieldAt, Near, front, runRead, isEnd, takenAs}
 use Rattle.text.specs.declared.Number.{Number}
 use Rattle.text.specs.declared.Number.the-variants.{Is, Bad}
 use Rattle.text.specs.declared.fields.Run.{Run}
@@ -118,12 +118,12 @@ module _ (p : ℕ → Bool) (least most base naught : ℕ) (s : List ℕ) where
       rw (le-leb least (length s) h, le-leb (length s) most few, tested)
 
 -- a run from a place of a line on, and the field that begins there
-module _ (p : ℕ → Bool) (no : p 44 ≡ false) (least most base naught : ℕ) (line : List ℕ) (at : ℕ) {run : Run} (is : run ≡ runOf p base naught (take most (drop at line)) at) where
+module _ (p : ℕ → Bool) (no : p 44 ≡ false) (least most base naught : ℕ) (line : List ℕ) (at : ℕ) {run : Run} (is : run ≡ runRead p base naught (take most (drop at line)) at) where
   abbrev lead : List ℕ
   lead = front p (take most (drop at line))
 
   run-end : run .end ≡ at + length lead
-  unfolding runOf
+  unfolding runRead
   run-end = ap (λ (r : Run). r .end) is
 
   pub run-ge : at ≤ run .end
@@ -133,7 +133,7 @@ module _ (p : ℕ → Bool) (no : p 44 ≡ false) (least most base naught : ℕ)
   run-le = omega (arith, run-end, front-le p (take most (drop at line)), length-take most (drop at line))
 
   run-value : run .value ≡ numeral base naught lead
-  unfolding runOf
+  unfolding runRead
   run-value = ap (λ (r : Run). r .value) is
 
   behind : {t : Bool} → isEnd (drop (run .end) line) ≡ t → isEnd (drop (length lead) (drop at line)) ≡ t
@@ -166,13 +166,13 @@ module _ (p : ℕ → Bool) (no : p 44 ≡ false) (least most base naught : ℕ)
     }
 
 -- a run over a whole field: it stops before its end, or it has read it
-module _ (p : ℕ → Bool) (least most base naught : ℕ) (s : List ℕ) {run : Run} (is : run ≡ runOf p base naught (take most s) 0) where
+module _ (p : ℕ → Bool) (least most base naught : ℕ) (s : List ℕ) {run : Run} (is : run ≡ runRead p base naught (take most s) 0) where
   pub field-stops : run .end < length s → Bad ≡ readAs p least most base naught s
-  unfolding runOf
+  unfolding runRead
   field-stops h = read-over p least most base naught s (front-part p most s (omega (arith, ap (λ (r : Run). r .end) is)))
 
   pub field-read : least ≤ length s → length s ≤ run .end → Is (run .value) ≡ readAs p least most base naught s
-  unfolding runOf
+  unfolding runRead
   field-read h k =
       let full = front-full p most s (omega (arith, ap (λ (r : Run). r .end) is)) in
       ap Is (ap (λ (r : Run). r .value) is ∙ ap (numeral base naught) full) ∙ read-front p least most base naught s s (sym full) h

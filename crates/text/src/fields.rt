@@ -5,7 +5,7 @@ ghost use Prim.Native.Nat.{_+_, _≤_, _<_, min};
 ghost use lib.ListN.{length, take, drop};
 ghost use Rattle.laws.specs.Lists.{same};
 ghost use Rattle.text.specs.Text.{all, isNameByte, isDigit, nameOf, fieldNumber};
-ghost use Rattle.text.specs.Inner.Taking.{fieldAt, Near, runOf, isEnd, isNoComma, takenAs};
+ghost use Rattle.text.specs.Inner.Taking.{fieldAt, Near, runRead, isEnd, isNoComma, takenAs};
 use crate::Number;
 use crate::find;
 
@@ -43,7 +43,7 @@ fn within(s: &[u8], from: usize, most: usize) -> usize
 // The name that at most so many capitals and digits from a place on make.
 pub(crate) fn name_run(s: &[u8], from: usize, most: usize) -> Run
     requires { ⌜ (from < 65_600) × (most ≤ 8) ⌝ }
-    ensures { λ r. ⌜ r ≡ runOf isNameByte 256 0 (take most (drop from (now (s .entry)))) from ⌝ }
+    ensures { λ r. ⌜ r ≡ runRead isNameByte 256 0 (take most (drop from (now (s .entry)))) from ⌝ }
 {
     let end = within(s, from, most);
     let mut v: u64 = 0;
@@ -62,7 +62,7 @@ pub(crate) fn name_run(s: &[u8], from: usize, most: usize) -> Run
 // The number that at most 12 digits from a place on make.
 fn digit_run(s: &[u8], from: usize) -> Run
     requires { ⌜ from < 65_600 ⌝ }
-    ensures { λ r. ⌜ r ≡ runOf isDigit 10 48 (take 12 (drop from (now (s .entry)))) from ⌝ }
+    ensures { λ r. ⌜ r ≡ runRead isDigit 10 48 (take 12 (drop from (now (s .entry)))) from ⌝ }
 {
     let end = within(s, from, 12);
     let mut v: u64 = 0;

@@ -4,7 +4,7 @@ use mathlib.Core.Path.{_≡_, ap, ap₂, _∙_}
 use mathlib.Core.List.{List}
 use Rattle.machine.specs.declared.Entry.{Entry}
 use Rattle.machine.specs.Entries.{areOrdered}
-use Rattle.log.specs.Inner.Reading.{readingOf}
+use Rattle.log.specs.Inner.Reading.{windowReading}
 use Rattle.state.proofs.Laid.{laid-held, laid-entries}
 use Rattle.grant.specs.Inner.Grant.{insideOf}
 use borrow.Author.Needs.{needs}
@@ -33,7 +33,7 @@ unfolding insideOf
 returns c =
     let s = c .before .before .before .before in
     let window = c .before .before .longest-window .ensures in
-    let read = c .read-window .ensures ∙ ap₂ (λ (w : ℕ) (l : List Entry). readingOf w (s .args .time) l) window (laid-entries (s .pre .0)) in
+    let read = c .read-window .ensures ∙ ap₂ (λ (w : ℕ) (l : List Entry). windowReading w (s .args .time) l) window (laid-entries (s .pre .0)) in
     λ i. record { window = window i; read = read i }
 
 pub inside-at-spec : {M : Type 1} → statement M

@@ -23,7 +23,7 @@ use Rattle.machine.specs.State.{State, rulesIn}
 use Rattle.machine.specs.Offers.{counted, coversOffer, sameLevel, grantOf, levelTrips, credited, longest}
 use Rattle.state.specs.State.{stored, decode}
 use Rattle.state.specs.Inner.Laid.{Laid, accountIn, withClock, withLocks, withAccounts}
-use Rattle.log.specs.Inner.Reading.{readingOf}
+use Rattle.log.specs.Inner.Reading.{windowReading}
 use Rattle.locks.specs.Inner.Locks.{tripping}
 use Rattle.register.specs.Register.{sentAtPlace}
 use Rattle.machine.specs.declared.Offer.{Offer}
@@ -38,7 +38,7 @@ use Rattle.grant.specs.declared.Trips.{Trips}
 
 -- the longest window of a state's rules, and its reading at a time
 unfoldable pub insideOf : State → ℕ → Inside
-insideOf s time = record { window = longest (rulesIn s); read = readingOf (longest (rulesIn s)) time (s .log) }
+insideOf s time = record { window = longest (rulesIn s); read = windowReading (longest (rulesIn s)) time (s .log) }
 
 -- a rule of this level that covers the offer
 unfoldable pub concerns : Offer → Level → Account → Bool

@@ -1,6 +1,6 @@
 -- `log::read_window` meets its contract: the last entries are all that are inside. Assumes nothing.
 use borrow.Author.Needs.{needs}
-use Rattle.log.specs.Inner.Reading.{readingOf}
+use Rattle.log.specs.Inner.Reading.{windowReading}
 use Rattle.log.proofs.read_window.Statement.{statement}
 use Rattle.log.proofs.read_window.Tie as tie
 
@@ -23,7 +23,7 @@ first-time-requires : tie.Need-first-time-requires
 first-time-requires c κs = search needs
 
 returns : tie.Need-returns
-unfolding readingOf
+unfolding windowReading
 returns c =
     let is = c .first-time .ensures in
     let many = c .before .inside .ensures .count in

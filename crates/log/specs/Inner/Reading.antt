@@ -12,7 +12,7 @@ use Rattle.log.specs.Inner.Log.{entriesOf}
 use Rattle.log.specs.Inner.Sieve.{firstTime}
 
 -- of the first k entries in xs a reading passes the n newest, and goes on with those before them
-pub record Passing (first k : ℕ) (xs : List ℕ) (n : ℕ) : Type 0 where
+pub record PassesOn (first k : ℕ) (xs : List ℕ) (n : ℕ) : Type 0 where
   pub passes : length (newest first (entriesOf k xs)) ≡ n + length (newest first (entriesOf (k - n) xs))
   pub looks : lookedAt first (entriesOf k xs) ≡ n + lookedAt first (entriesOf (k - n) xs)
 
@@ -20,8 +20,8 @@ pub record Passing (first k : ℕ) (xs : List ℕ) (n : ℕ) : Type 0 where
 pub record OfFour (first k : ℕ) (xs : List ℕ) (r : ℕ) : Type 0 where
   pub most : r ≤ 4
   pub stops : r < 4 → length (newest first (entriesOf k xs)) ≡ r
-  pub goes : 4 ≤ r → Passing first k xs 4
+  pub goes : 4 ≤ r → PassesOn first k xs 4
 
 -- the reading of a window at a time: the first time inside it, and how many of these entries are inside
-unfoldable pub readingOf : ℕ → ℕ → List Entry → Reading
-readingOf window time es = record { from = firstTime (Rate window) time; passed = length (recent window time es) }
+unfoldable pub windowReading : ℕ → ℕ → List Entry → Reading
+windowReading window time es = record { from = firstTime (Rate window) time; passed = length (recent window time es) }

@@ -6,15 +6,15 @@ use Rattle.measures.specs.Ranges.{_to_, isIn, times, roots, units, premiums, of
 use Rattle.records.specs.Kinds.{Use, none, within}
 
 -- the least that uses allow at each place, and the most: 0 where a field is not used
-unfoldable pub leastOf : List Use → List ℕ
-leastOf [] = []
-leastOf (none ∷ uses) = 0 ∷ leastOf uses
-leastOf (within r ∷ uses) = r .least ∷ leastOf uses
+unfoldable pub leastFields : List Use → List ℕ
+leastFields [] = []
+leastFields (none ∷ uses) = 0 ∷ leastFields uses
+leastFields (within r ∷ uses) = r .least ∷ leastFields uses
 
-unfoldable pub mostOf : List Use → List ℕ
-mostOf [] = []
-mostOf (none ∷ uses) = 0 ∷ mostOf uses
-mostOf (within r ∷ uses) = r .most ∷ mostOf uses
+unfoldable pub mostFields : List Use → List ℕ
+mostFields [] = []
+mostFields (none ∷ uses) = 0 ∷ mostFields uses
+mostFields (within r ∷ uses) = r .most ∷ mostFields uses
 
 -- numbers are as many as there are least and most, and each lies between its own
 unfoldable pub areBetween : List ℕ → List ℕ → List ℕ → Bool

@@ -29,8 +29,8 @@ front p [] = []
 front p (x ∷ xs) = cond (p x) (x ∷ front p xs) []
 
 -- what the bytes in front with a property stand for in a base, and the place after them
-unfoldable pub runOf : (ℕ → Bool) → ℕ → ℕ → List ℕ → ℕ → Run
-runOf p base naught s at = record { value = numeral base naught (front p s); end = at + length (front p s) }
+unfoldable pub runRead : (ℕ → Bool) → ℕ → ℕ → List ℕ → ℕ → Run
+runRead p base naught s at = record { value = numeral base naught (front p s); end = at + length (front p s) }
 
 -- whether a field ends before these bytes: there are none, or a comma is the first
 unfoldable pub isEnd : List ℕ → Bool

@@ -1,24 +1,24 @@
 -- `log::of_four` meets its contract: each of the four entries is looked at where those after it are passed. Assumes nothing.
 use Prim.Native.Nat.{_+_, _*_, _-_}
 use native.Mathlib.Omega.{arith}
-use Rattle.log.specs.Inner.Reading.{Passing}
+use Rattle.log.specs.Inner.Reading.{PassesOn}
 use Rattle.log.proofs.Readings.{passing-none, passing-more, passing-stop, stopped}
 use borrow.Author.Needs.{needs}
 use Rattle.log.proofs.windows.of_four.Statement.{statement}
 use Rattle.log.proofs.windows.of_four.Tie as tie
 
 -- the entries that were looked at are passed
-one : (c : tie.Else1) → Passing (c .before .before .args .first) (c .before .before .args .k) (c .before .before .args .log .now) 1
+one : (c : tie.Else1) → PassesOn (c .before .before .args .first) (c .before .before .args .k) (c .before .before .args .log .now) 1
 one c =
     let s = c .before .before in
     passing-more (passing-none (s .args .first) (s .args .k) (s .args .log .now)) (s .pre .2 .1) (s .pre .2 .2) (omega (arith, s .pre .0)) {at = (s .args .k - 4) * 2 + 6} (omega (arith, s .pre .0)) (omega (arith, c .if1 .left))
 
-two : (c : tie.Else2) → Passing (c .before .before .before .before .args .first) (c .before .before .before .before .args .k) (c .before .before .before .before .args .log .now) 2
+two : (c : tie.Else2) → PassesOn (c .before .before .before .before .args .first) (c .before .before .before .before .args .k) (c .before .before .before .before .args .log .now) 2
 two c =
     let s = c .before .before .before .before in
     passing-more (one (c .before .before)) (s .pre .2 .1) (s .pre .2 .2) (omega (arith, s .pre .0)) {at = (s .args .k - 4) * 2 + 4} (omega (arith, s .pre .0)) (omega (arith, c .if2 .left))
 
-three : (c : tie.Else3) → Passing (c .before .before .before .before .before .before .args .first) (c .before .before .before .before .before .before .args .k) (c .before .before .before .before .before .before .args .log .now) 3
+three : (c : tie.Else3) → PassesOn (c .before .before .before .before .before .before .args .first) (c .before .before .before .before .before .before .args .k) (c .before .before .before .before .before .before .args .log .now) 3
 three c =
     let s = c .before .before .before .before .before .before in
     passing-more (two (c .before .before)) (s .pre .2 .1) (s .pre .2 .2) (omega (arith, s .pre .0)) {at = (s .args .k - 4) * 2 + 2} (omega (arith, s .pre .0)) (omega (arith, c .if3 .left))
