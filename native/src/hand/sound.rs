@@ -110,85 +110,103 @@ pub fn are_distinct<const SLOTS: usize>(numbers: &[u64]) -> bool {
     })
 }
 
-/// What a rule may hold: its limit, its window's least and most, the totals of its accounts.
-struct Bounds {
-    limit: u64,
-    least: u64,
-    most: u64,
-    total: u64,
+/// The largest limit in dollars, and in contracts or fills.
+const MOST_DOLLARS: u64 = 100_000_000_000;
+const MOST_OTHERS: u64 = 1_000_000_000;
+/// The shortest window of a rate rule.
+const LEAST_WINDOW: u64 = 100;
+
+/// The scope of one unit of a root.
+const ONE: u64 = 2 << 8;
+/// The root and the unit of a rule's second number.
+const ROOT: u64 = 63 << 2;
+const UNIT: u64 = 3;
+
+/// How many rules a root's four units have, a byte each, begins here: the seventh of a unit sets its byte's top bit.
+const NO_RULES: u32 = 0x7979_7979;
+/// The top bits of the four bytes.
+const SEVENTH: u32 = 0x8080_8080;
+/// One more rule of each unit.
+const EACH_UNIT: u32 = 0x0101_0101;
+
+/// Are measure, limit and window of a rule in their ranges?
+fn are_terms(rule: &Rule) -> bool {
+    let most = if rule.measure() == 0 { MOST_DOLLARS } else { MOST_OTHERS };
+    let (least, above) = if rule.is_absolute() { (0, 0) } else { (LEAST_WINDOW, MOST_WINDOW - LEAST_WINDOW) };
+    rule.measure() <= 2 && (rule.first >> 27).wrapping_sub(1) < most && rule.window().wrapping_sub(least) <= above
 }
 
-/// The bounds of a rate rule by the largest limit.
-const fn rate(limit: u64) -> Bounds {
-    Bounds { limit, least: 100, most: MOST_WINDOW, total: 0 }
-}
-
-/// The bounds of an absolute rule by the largest limit.
-const fn absolute(limit: u64) -> Bounds {
-    Bounds { limit, least: 0, most: 0, total: MOST_TOTAL }
-}
-
-const DOLLARS: u64 = 100_000_000_000;
-const OTHERS: u64 = 1_000_000_000;
-/// By measure and kind.
-const BOUNDS: [Bounds; 6] = [rate(DOLLARS), absolute(DOLLARS), rate(OTHERS), absolute(OTHERS), rate(OTHERS), absolute(OTHERS)];
-
-/// Scope and unit clash: this makes the count of each unit too high.
-const CLASH: u32 = 0x8080_8080;
-/// What a rule adds to the counts of its root's four units, a byte each, by scope and unit.
-const COVERS: [u32; 16] = {
-    let mut covers = [CLASH; 16];
-    (covers[0], covers[4]) = (0, 0x0101_0101);
-    (covers[8], covers[9], covers[10], covers[11]) = (1, 1 << 8, 1 << 16, 1 << 24);
-    covers
-};
-
-/// Added to counts of at most 6, this leaves the top bit of each byte 0.
-const OVER_SIX: u32 = 0x7979_7979;
-
-/// What the rules so far come to; a number out of its range leaves the top bit 1 in a difference, and all differences are or-ed together.
+/// What the rules so far come to.
 struct Tally {
-    bad: u64,
     seen: u64,
     firms: u64,
     longest: Longest,
-    over: u32,
-    units: [u32; 64],
+    /// A total out of its range leaves the top bit 1 in a difference, and all differences are or-ed together.
+    bad: u64,
+    /// All counts that roots' units have had, or-ed together.
+    counts: u32,
+    /// The root last added to, which most often is the next rule's too, and the counts of its units.
+    root: u64,
+    own: u32,
+    /// The counts of the other roots' units, and a place for those of no root.
+    units: [u32; MOST_ROOTS + 1],
 }
 
 impl Tally {
-    /// Adds the totals of a rule's accounts, and gives those after them.
-    fn add_totals<'a>(&mut self, second: u64, totals: &'a [u64], bounds: &Bounds) -> Option<&'a [u64]> {
-        let out = |total: &u64| total | bounds.total.wrapping_sub(*total);
-        if second & SCOPE == WHOLE {
-            let (four, others) = totals.split_first_chunk::<{ UNITS as usize }>()?;
-            self.bad |= four.iter().fold(0, |bad, total| bad | out(total));
-            Some(others)
-        } else {
-            let (total, others) = totals.split_first()?;
-            self.bad |= out(total);
-            Some(others)
-        }
+    /// Before the first rule no root has been added to.
+    fn new() -> Tally {
+        let (root, units) = (MOST_ROOTS as u64, [NO_RULES; MOST_ROOTS + 1]);
+        Tally { seen: 0, firms: 0, longest: 0, bad: 0, counts: 0, root, own: NO_RULES, units }
     }
 
-    /// Adds a rule's two numbers.
-    fn add(&mut self, first: u64, second: u64, bounds: &Bounds) {
-        let (limit, window) = (first >> 27, first & WINDOW);
-        self.bad |= limit.wrapping_sub(1) | bounds.limit.wrapping_sub(limit);
-        self.bad |= window.wrapping_sub(bounds.least) | bounds.most.wrapping_sub(window);
-        self.longest = self.longest.max(window);
-        let root = second >> 2 & 63;
-        let covers = COVERS[(second >> 6 & 12 | second & 3) as usize];
-        if second & SCOPE == 0 {
+    /// Goes on to a root, unless it is neither one that has appeared nor the next.
+    fn go_on(&mut self, root: u64) -> Option<()> {
+        if root > self.seen {
+            return None;
+        }
+        self.seen += u64::from(root == self.seen);
+        self.units[self.root as usize] = self.own;
+        self.own = self.units[root as usize];
+        self.root = root;
+        Some(())
+    }
+
+    /// Adds a rule to the counts of its root's units, unless the root is out of turn.
+    fn add_root(&mut self, root: u64, more: u32) -> Option<()> {
+        if root != self.root {
+            self.go_on(root)?;
+        }
+        self.own = self.own.wrapping_add(more);
+        self.counts |= self.own;
+        Some(())
+    }
+
+    /// Adds the totals of a rule's accounts, and gives those after them.
+    fn add_totals<'a, const ACCOUNTS: usize>(&mut self, rule: &Rule, totals: &'a [u64]) -> Option<&'a [u64]> {
+        let most = if rule.is_absolute() { MOST_TOTAL } else { 0 };
+        let (own, others) = totals.split_first_chunk::<ACCOUNTS>()?;
+        self.bad |= own.iter().fold(0, |bad, total| bad | total | most.wrapping_sub(*total));
+        Some(others)
+    }
+
+    /// Adds a rule with its totals and gives the totals after them, unless its numbers are not a rule's or its root is out of turn.
+    fn add<'a>(&mut self, rule: &Rule, totals: &'a [u64]) -> Option<&'a [u64]> {
+        if !are_terms(rule) {
+            return None;
+        }
+        self.longest = self.longest.max(rule.window());
+        let (root, unit) = ((rule.second & ROOT) >> 2, rule.second & UNIT);
+        if rule.second & SCOPE == ONE {
+            self.add_root(root, 1 << (8 * unit))?;
+            self.add_totals::<1>(rule, totals)
+        } else if rule.second & (SCOPE | UNIT) == WHOLE {
+            self.add_root(root, EACH_UNIT)?;
+            self.add_totals::<{ UNITS as usize }>(rule, totals)
+        } else if rule.second & (SCOPE | ROOT | UNIT) == 0 {
             self.firms += 1;
-            self.bad |= 0u64.wrapping_sub(root);
-            self.over |= covers;
+            self.add_totals::<1>(rule, totals)
         } else {
-            let units = &mut self.units[root as usize];
-            *units = units.wrapping_add(covers);
-            self.over |= units.wrapping_add(OVER_SIX);
-            self.bad |= self.seen.wrapping_sub(root);
-            self.seen = self.seen.max(root + 1);
+            None
         }
     }
 }
@@ -196,17 +214,14 @@ impl Tally {
 /// The longest window, if the rules and totals are such as an accepted profile of so many roots gives.
 #[inline(never)]
 fn longest_of_rules(m: &State) -> Option<Longest> {
-    let rules = m[RULE_COUNT] as usize;
-    let (used, unused) = m[RULES..TOTALS].split_at(2 * rules);
+    let (used, unused) = m[RULES..TOTALS].split_at(2 * m[RULE_COUNT] as usize);
     let mut left = &m[TOTALS..FIRM_TRIPPED];
-    let mut tally = Tally { bad: 0, seen: 0, firms: 0, longest: 0, over: 0, units: [0; 64] };
+    let mut tally = Tally::new();
     for rule in used.chunks_exact(2) {
-        let bounds = BOUNDS.get((rule[1] >> 10) as usize)?;
-        tally.add(rule[0], rule[1], bounds);
-        left = tally.add_totals(rule[1], left, bounds)?;
+        left = tally.add(&Rule { first: rule[0], second: rule[1] }, left)?;
     }
     let is_good = tally.bad >> 63 == 0
-        && tally.over & CLASH == 0
+        && tally.counts & SEVENTH == 0
         && tally.firms <= 10
         && tally.seen == m[ROOT_COUNT]
         && is_zero(unused)
