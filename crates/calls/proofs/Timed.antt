@@ -22,10 +22,6 @@ module _ (xs : List ℕ) (time : ℕ) where
   abbrev late : Bool
   late = badTime (decode xs .part) time
 
-  pub timed-memory : (n : ℕ) → n ≡ memoryRefusal xs → (n ≡ 0 → ⊥) → n ≡ timedRefusal xs time
-  unfolding timedRefusal
-  timed-memory n e h = rw (← e, ne-eqb n 0 h)
-
   -- 12, by the clock that was read
   pub timed-is : memoryRefusal xs ≡ 0 → (clock : ℕ) → clock ≡ decode xs .part .clock → (b : Bool) → b ≡ not (isIn times time && leb clock time)
       → (d : Bool) → b ≡ d → cond d 12 0 ≡ timedRefusal xs time

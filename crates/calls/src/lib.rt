@@ -4,14 +4,12 @@ ghost use Rattle.machine.specs.Calls.{Call};
 ghost use Rattle.calls.specs.Calls.{memoryRefusal, callAnswer, callMemory, armAnswer, armMemory, clearAnswer, clearMemory, textAnswer, textMemory};
 
 mod granting;
-mod refusals;
+pub mod refusals;
+pub mod tested;
 mod words;
 
 use machine::Answer;
 use machine::Offer;
-use machine::Sent;
-use measures::Contracts;
-use measures::TenThousandths;
 use profile::Reading;
 
 // How many numbers a unit's memory takes.
@@ -40,7 +38,7 @@ pub fn arm(m: &mut [u64], text: &[u8]) -> Reading
     if m[state::MARK] != 0 {
         return Reading::Refused { number: 3, line: 0 };
     }
-    let scan = profile::read(text);
+    let scan = profile::read(text, 0);
     let reading = scan.reading;
     let names = scan.roots;
     let table = scan.rules;
@@ -89,7 +87,7 @@ pub fn status(m: &[u64]) -> Answer
     if refusal != 0 {
         return Answer::Refused(refusal);
     }
-    Answer::Standing(locks::standing(&m[state::LOCKS..state::REGISTER]))
+    tested::status(m)
 }
 
 // An order: the reset comes first, then the verdict.
@@ -97,18 +95,11 @@ pub fn order(m: &mut [u64], time: u64, root: u64, reset: u64) -> Answer
     ensures { λ r. ⌜ r ≡ callAnswer (now (m .entry)) (Call.order time root reset) ⌝ }
     ensures { λ r. ⌜ now (m .exit) ≡ callMemory (now (m .entry)) (Call.order time root reset) ⌝ }
 {
-    let refusal = refusals::order_refusal(m, time, root, reset);
+    let refusal = memory_refusal(m);
     if refusal != 0 {
         return Answer::Refused(refusal);
     }
-    reset::reset_state(m, time, root, reset);
-    let verdict = locks::verdict(&m[state::LOCKS..state::REGISTER], root);
-    Answer::Judged {
-        verdict,
-        grant: 0,
-        roottrip: false,
-        firmtrip: false,
-    }
+    tested::order(m, time, root, reset)
 }
 
 // A lockout of a root or the firm, which the user asks for.
@@ -116,17 +107,11 @@ pub fn lockout(m: &mut [u64], time: u64, level: u64, root: u64) -> Answer
     ensures { λ r. ⌜ r ≡ callAnswer (now (m .entry)) (Call.lockout time level root) ⌝ }
     ensures { λ r. ⌜ now (m .exit) ≡ callMemory (now (m .entry)) (Call.lockout time level root) ⌝ }
 {
-    let refusal = refusals::lockout_refusal(m, time, level, root);
+    let refusal = memory_refusal(m);
     if refusal != 0 {
         return Answer::Refused(refusal);
     }
-    reset::lock_out(m, time, level, root);
-    Answer::Judged {
-        verdict: 0,
-        grant: 0,
-        roottrip: false,
-        firmtrip: false,
-    }
+    tested::lockout(m, time, level, root)
 }
 
 // An offered fill, cut to what the rules allow.
@@ -134,21 +119,11 @@ pub fn offer(m: &mut [u64], o: Offer) -> Answer
     ensures { λ r. ⌜ r ≡ callAnswer (now (m .entry)) (Call.offer o) ⌝ }
     ensures { λ r. ⌜ now (m .exit) ≡ callMemory (now (m .entry)) (Call.offer o) ⌝ }
 {
-    let refusal = refusals::offer_refusal(m, o);
+    let refusal = memory_refusal(m);
     if refusal != 0 {
         return Answer::Refused(refusal);
     }
-    let verdict = locks::verdict(&m[state::LOCKS..state::REGISTER], o.root);
-    if verdict != 0 {
-        state::put_clock(m, o.time);
-        return Answer::Judged {
-            verdict,
-            grant: 0,
-            roottrip: false,
-            firmtrip: false,
-        };
-    }
-    granting::granted(m, o)
+    tested::offer(m, o)
 }
 
 // An order to be sent away: judged as an order without reset is, and registered at verdict 0.
@@ -156,29 +131,11 @@ pub fn send(m: &mut [u64], o: Offer, identity: u64, reports: u64) -> Answer
     ensures { λ r. ⌜ r ≡ callAnswer (now (m .entry)) (Call.send o identity reports) ⌝ }
     ensures { λ r. ⌜ now (m .exit) ≡ callMemory (now (m .entry)) (Call.send o identity reports) ⌝ }
 {
-    let refusal = refusals::send_refusal(m, o, identity, reports);
+    let refusal = memory_refusal(m);
     if refusal != 0 {
         return Answer::Refused(refusal);
     }
-    let verdict = locks::verdict(&m[state::LOCKS..state::REGISTER], o.root);
-    state::put_clock(m, o.time);
-    if verdict == 0 {
-        let sent = Sent {
-            identity,
-            root: o.root,
-            unit: o.unit,
-            premium: TenThousandths(o.premium),
-            contracts: Contracts(o.contracts),
-            reports,
-        };
-        register::enter(&mut m[state::REGISTER..state::LOG], sent);
-    }
-    Answer::Judged {
-        verdict,
-        grant: 0,
-        roottrip: false,
-        firmtrip: false,
-    }
+    tested::send(m, o, identity, reports)
 }
 
 // A fill that came back from an away market: counted as a grant is, locked or not, and even past a limit.
@@ -186,26 +143,11 @@ pub fn report(m: &mut [u64], time: u64, identity: u64, contracts: u64) -> Answer
     ensures { λ r. ⌜ r ≡ callAnswer (now (m .entry)) (Call.report time identity contracts) ⌝ }
     ensures { λ r. ⌜ now (m .exit) ≡ callMemory (now (m .entry)) (Call.report time identity contracts) ⌝ }
 {
-    let refusal = refusals::report_refusal(m, time, identity, contracts);
+    let refusal = memory_refusal(m);
     if refusal != 0 {
         return Answer::Refused(refusal);
     }
-    let i = register::find(&m[state::REGISTER..state::LOG], identity);
-    let sent = register::sent_in(&m[state::REGISTER..state::LOG], i);
-    let o = Offer {
-        time,
-        root: sent.root,
-        unit: sent.unit,
-        premium: sent.premium.0,
-        contracts,
-    };
-    let trips = grant::come_back(m, o, i);
-    Answer::Judged {
-        verdict: 0,
-        grant: contracts,
-        roottrip: trips.root,
-        firmtrip: trips.firm,
-    }
+    tested::report(m, time, identity, contracts)
 }
 
 // The order of an identity is closed: its unused places are free again, and so is its identity.
@@ -213,31 +155,22 @@ pub fn close(m: &mut [u64], time: u64, identity: u64) -> Answer
     ensures { λ r. ⌜ r ≡ callAnswer (now (m .entry)) (Call.close time identity) ⌝ }
     ensures { λ r. ⌜ now (m .exit) ≡ callMemory (now (m .entry)) (Call.close time identity) ⌝ }
 {
-    let refusal = refusals::close_refusal(m, time, identity);
+    let refusal = memory_refusal(m);
     if refusal != 0 {
         return Answer::Refused(refusal);
     }
-    let i = register::find(&m[state::REGISTER..state::LOG], identity);
-    state::put_clock(m, time);
-    register::close(&mut m[state::REGISTER..state::LOG], i);
-    Answer::Judged {
-        verdict: 0,
-        grant: 0,
-        roottrip: false,
-        firmtrip: false,
-    }
+    tested::close(m, time, identity)
 }
 
 // What remains of a rule's limit for a unit at a time.
 pub fn remaining(m: &[u64], time: u64, rule: u64, unit: u64) -> Answer
     ensures { λ r. ⌜ r ≡ callAnswer (now (m .entry)) (Call.remaining time rule unit) ⌝ }
 {
-    let refusal = refusals::remaining_refusal(m, time, rule, unit);
+    let refusal = memory_refusal(m);
     if refusal != 0 {
         return Answer::Refused(refusal);
     }
-    let left = counting::left(m, time, rule as usize, unit);
-    Answer::Left(left.number())
+    tested::remaining(m, time, rule, unit)
 }
 
 // Writes the text for verdict 1 or 2, and answers how many bytes it has.

@@ -12,9 +12,8 @@ ghost use Rattle.machine.specs.Register.{isOpen};
 ghost use Rattle.register.specs.Register.{sentAtPlace};
 ghost use Rattle.state.specs.State.{decode};
 ghost use Rattle.state.specs.Inner.Laid.{Laid};
-ghost use Rattle.calls.specs.Calls.{timedRefusal, refusalIn, offerRefusal};
+ghost use Rattle.calls.specs.Calls.{memoryRefusal, timedRefusal, refusalIn, offerRefusal};
 use crate::granting;
-use crate::memory_refusal;
 use machine::Offer;
 use measures::Contracts;
 use measures::ContractsRead;
@@ -23,20 +22,17 @@ use measures::TenThousandthsRead;
 use measures::Time;
 
 // Whether a time is out of range, or below the clock.
-fn bad_time(time: u64, clock: u64) -> bool
+pub fn bad_time(time: u64, clock: u64) -> bool
     ensures { λ r. ⌜ r ≡ not (isIn times time && leb clock time) ⌝ }
 {
     !(measures::is_in(time, 0, Time::MOST) & (clock <= time))
 }
 
-// The refusal that every call with a time meets first, by the memory and by its time, 0 for none.
+// The refusal that every call with a time meets first on tested memory, by its time, 0 for none.
 fn timed_refusal(m: &[u64], time: u64) -> u64
+    requires { ⌜ memoryRefusal (now m) ≡ 0 ⌝ }
     ensures { λ r. ⌜ r ≡ timedRefusal (now (m .entry)) time ⌝ }
 {
-    let refusal = memory_refusal(m);
-    if refusal != 0 {
-        return refusal;
-    }
     if bad_time(time, state::clock_in(m)) {
         return 12;
     }
@@ -45,6 +41,7 @@ fn timed_refusal(m: &[u64], time: u64) -> u64
 
 // The refusal that an order meets, 0 for none.
 pub(crate) fn order_refusal(m: &[u64], time: u64, root: u64, reset: u64) -> u64
+    requires { ⌜ memoryRefusal (now m) ≡ 0 ⌝ }
     ensures { λ r. ⌜ r ≡ refusalIn (now (m .entry)) (Call.order time root reset) ⌝ }
 {
     let refusal = timed_refusal(m, time);
@@ -59,6 +56,7 @@ pub(crate) fn order_refusal(m: &[u64], time: u64, root: u64, reset: u64) -> u64
 
 // The refusal that a lockout meets, 0 for none.
 pub(crate) fn lockout_refusal(m: &[u64], time: u64, level: u64, root: u64) -> u64
+    requires { ⌜ memoryRefusal (now m) ≡ 0 ⌝ }
     ensures { λ r. ⌜ r ≡ refusalIn (now (m .entry)) (Call.lockout time level root) ⌝ }
 {
     let refusal = timed_refusal(m, time);
@@ -100,6 +98,7 @@ fn is_priced(o: Offer) -> bool
 
 // The refusal that an offer meets before the log is looked at, 0 for none.
 pub(crate) fn offer_refusal(m: &[u64], o: Offer) -> u64
+    requires { ⌜ memoryRefusal (now m) ≡ 0 ⌝ }
     ensures { λ r. ⌜ r ≡ offerRefusal (now (m .entry)) o ⌝ }
 {
     let refusal = timed_refusal(m, o.time);
@@ -129,6 +128,7 @@ fn is_cell(m: &[u64], rule: u64, unit: u64) -> bool
 
 // The refusal that a question after what remains meets, 0 for none.
 pub(crate) fn remaining_refusal(m: &[u64], time: u64, rule: u64, unit: u64) -> u64
+    requires { ⌜ memoryRefusal (now m) ≡ 0 ⌝ }
     ensures { λ r. ⌜ r ≡ refusalIn (now (m .entry)) (Call.remaining time rule unit) ⌝ }
 {
     let refusal = timed_refusal(m, time);
@@ -150,7 +150,8 @@ fn is_open(m: &[u64], identity: u64) -> bool
 }
 
 // The refusal that a sending meets, 0 for none.
-pub(crate) fn send_refusal(m: &[u64], o: Offer, identity: u64, reports: u64) -> u64
+pub fn send_refusal(m: &[u64], o: Offer, identity: u64, reports: u64) -> u64
+    requires { ⌜ memoryRefusal (now m) ≡ 0 ⌝ }
     ensures { λ r. ⌜ r ≡ refusalIn (now (m .entry)) (Call.send o identity reports) ⌝ }
 {
     let refusal = timed_refusal(m, o.time);
@@ -179,6 +180,7 @@ pub(crate) fn send_refusal(m: &[u64], o: Offer, identity: u64, reports: u64) -> 
 
 // The refusal that the closing of an order meets, 0 for none.
 pub(crate) fn close_refusal(m: &[u64], time: u64, identity: u64) -> u64
+    requires { ⌜ memoryRefusal (now m) ≡ 0 ⌝ }
     ensures { λ r. ⌜ r ≡ refusalIn (now (m .entry)) (Call.close time identity) ⌝ }
 {
     let refusal = timed_refusal(m, time);
@@ -204,7 +206,8 @@ fn is_overdrawn(m: &[u64], i: usize, contracts: u64) -> bool
 }
 
 // The refusal that a report meets, 0 for none.
-pub(crate) fn report_refusal(m: &[u64], time: u64, identity: u64, contracts: u64) -> u64
+pub fn report_refusal(m: &[u64], time: u64, identity: u64, contracts: u64) -> u64
+    requires { ⌜ memoryRefusal (now m) ≡ 0 ⌝ }
     ensures { λ r. ⌜ r ≡ refusalIn (now (m .entry)) (Call.report time identity contracts) ⌝ }
 {
     let refusal = timed_refusal(m, time);

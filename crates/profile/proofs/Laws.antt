@@ -127,7 +127,7 @@ reading-refused o number line h = go (eqb (o .refusal) 0) refl h
     go false e k = (eqb-false (o .refusal) 0 e, (cc), (cc))
 
 -- a reading without a refusal began with a line of the firm
-first-named : (p : Profile) (n : ℕ) (ls : List (List ℕ)) → 0 < length ls → readOn p n ls .refusal ≡ 0 → IsNameNumber 1 4 (p .firm)
+pub first-named : (p : Profile) (n : ℕ) (ls : List (List ℕ)) → 0 < length ls → readOn p n ls .refusal ≡ 0 → IsNameNumber 1 4 (p .firm)
 unfolding readOn afterLine
 first-named p n [] h e = absurd (omega arith)
 first-named p n (l ∷ ls) h e = go (lineOf (p .firm) l) refl e

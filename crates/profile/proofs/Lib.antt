@@ -5,4 +5,5 @@ mod Said
 mod Admission
 mod Walk
 pub mod Laws
+pub mod Beside
 mod Vectors

@@ -1,7 +1,8 @@
 -- The walk over the lines of a text: what is left decides the outcome of the whole, after each line and at the end. Assumes nothing.
 use Prim.Native.Nat.{ℕ, _+_, _-_, _≤_, _<_}
 use mathlib.Core.Path.{_≡_, refl, sym, ap, _∙_}
-use mathlib.Core.Bool.{true, false}
+use mathlib.Core.Bool.{true, false, cond}
+use lib.Dec.{eqb}
 use mathlib.Core.List.{List, []}
 use lib.ListN.{length, getD, drop, replicate}
 use borrow.Author.Tests.{ne-eqb}
@@ -18,7 +19,7 @@ use Rattle.tables.specs.Inner.Tables.{zeros, flat, tableNumbers}
 use Rattle.line.specs.declared.Line.the-variants.{Is, Refused as Faulty}
 use Rattle.line.proofs.Laws.{line-refused}
 use Rattle.admission.specs.Admission.{howMany}
-use Rattle.profile.specs.Profile.{joined, Outcome, afterLine, readOn, startOf, outcomeOf, readingOf, rootsTable, scanOf}
+use Rattle.profile.specs.Profile.{joined, Outcome, afterLine, readOn, startOf, firmBeside, outcomeBeside, readingOf, rootsTable, scanBeside}
 use Rattle.machine.specs.State.{Profile}
 use Rattle.admission.specs.Inner.Counting.{noRules}
 use Rattle.profile.specs.Inner.Held.{Stored, Held, Joins, ReadingTold}
@@ -52,18 +53,18 @@ start-held firm = record {
 }
 
 -- a text whose size is none for a profile, and one that was read by its lines
-module _ (text : List ℕ) where
-  pub scan-unsized : isIn (1 to 65_536) (length text) ≡ false → record { reading = Refused 5 0; roots = replicate 64 0; rules = replicate 512 0 } ≡ scanOf text
-  unfolding scanOf outcomeOf readingOf rootsTable tableNumbers flat zeros
+module _ (other : ℕ) (text : List ℕ) where
+  pub scan-unsized : isIn (1 to 65_536) (length text) ≡ false → record { reading = Refused 5 0; roots = replicate 64 0; rules = replicate 512 0 } ≡ scanBeside other text
+  unfolding scanBeside outcomeBeside readingOf rootsTable tableNumbers flat zeros
   scan-unsized e = rw e
 
-  pub first-firm : {line : List ℕ} → line ≡ lineFrom text 0 → firmIn line ≡ firmIn (getD (lines text) 0 [])
-  unfolding lineFrom
-  first-firm is = ap firmIn is
+  pub first-firm : {line : List ℕ} → line ≡ lineFrom text 0 → {named firm : ℕ} → named ≡ firmIn line → firm ≡ cond (eqb named other) 0 named → firm ≡ firmBeside other text
+  unfolding lineFrom firmBeside
+  first-firm is {named} {firm} n f = let at : named ≡ firmIn (getD (lines text) 0 []) = n ∙ ap firmIn is in f ∙ ap (λ (k : ℕ). cond (eqb k other) 0 k) at
 
-  pub scan-told : {firm : ℕ} {reading : Reading} {roots rules : List ℕ} → isIn (1 to 65_536) (length text) ≡ true → firm ≡ firmIn (getD (lines text) 0 [])
-      → ReadingTold (readOn (startOf firm) 0 (lines text)) reading roots rules → record { reading = reading; roots = roots; rules = rules } ≡ scanOf text
-  unfolding scanOf outcomeOf
+  pub scan-told : {firm : ℕ} {reading : Reading} {roots rules : List ℕ} → isIn (1 to 65_536) (length text) ≡ true → firm ≡ firmBeside other text
+      → ReadingTold (readOn (startOf firm) 0 (lines text)) reading roots rules → record { reading = reading; roots = roots; rules = rules } ≡ scanBeside other text
+  unfolding scanBeside outcomeBeside
   scan-told e f told = rw (e, ← f) (λ i. record { reading = told .reading-is i; roots = told .stored .roots-in i; rules = told .stored .rules-in i })
 
 -- a fault tells of itself and its line

@@ -92,3 +92,22 @@ scanOf text = record {
   roots = rootsTable (outcomeOf text .profile .roots);
   rules = rulesTable (outcomeOf text .profile .rules);
 }
+
+-- ---- beside a firm that has a name already
+
+-- the firm that the lines have to name: that of line 1, and none if the other has its name
+unfoldable pub firmBeside : ℕ → List ℕ → ℕ
+firmBeside other text = cond (eqb (firmIn (getD (lines text) 0 [])) other) 0 (firmIn (getD (lines text) 0 []))
+
+-- a whole text, as `outcomeOf` has it, for that firm; other is 0 where no other has a name
+unfoldable pub outcomeBeside : ℕ → List ℕ → Outcome
+outcomeBeside other text =
+    cond (isIn (1 to 65_536) (length text)) (readOn (startOf (firmBeside other text)) 0 (lines text))
+    (record { profile = startOf 0; refusal = 5; line = 0 })
+
+unfoldable pub scanBeside : ℕ → List ℕ → Scan
+scanBeside other text = record {
+  reading = readingOf (outcomeBeside other text);
+  roots = rootsTable (outcomeBeside other text .profile .roots);
+  rules = rulesTable (outcomeBeside other text .profile .rules);
+}

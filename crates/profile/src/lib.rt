@@ -1,15 +1,16 @@
 // A whole profile: from its text to the firm, the roots and the rules, or the first fault and its line.
 ghost use mathlib.Core.Path.{_≡_};
-ghost use mathlib.Core.Bool.{true};
+ghost use mathlib.Core.Bool.{true, cond};
 ghost use Prim.Native.Nat.{_+_, _*_, _≤_, _<_};
 ghost use lib.ListN.{length};
 ghost use lib.Seq.{sets};
+ghost use lib.Dec.{eqb};
 ghost use Rattle.text.specs.Text.{lines, indexOf};
 ghost use Rattle.packing.specs.RulePlace.{ruleNumbers};
 ghost use Rattle.rules.specs.Valid.{isRule};
 ghost use Rattle.machine.specs.State.{Profile};
 ghost use Rattle.admission.specs.Inner.Counting.{noRules};
-ghost use Rattle.profile.specs.Profile.{numbered, readOn, startOf, scanOf};
+ghost use Rattle.profile.specs.Profile.{numbered, readOn, startOf, scanBeside};
 ghost use Rattle.profile.specs.Inner.Lawful.{Said, NewestOnce};
 ghost use Rattle.profile.specs.Inner.Held.{Held, HoldsSome, Joins, ReadingTold};
 use admission::Admitted;
@@ -159,9 +160,19 @@ fn read_lines(
     }
 }
 
-// Reads a whole profile.
-pub fn read(text: &[u8]) -> Scan
-    ensures { λ r. ⌜ r ≡ scanOf (now (text .entry)) ⌝ }
+// The firm that the lines have to name: that of line 1, and none if the other has its name.
+fn firm_beside(named: u64, other: u64) -> u64
+    ensures { λ r. ⌜ r ≡ cond (eqb named other) 0 named ⌝ }
+{
+    if named == other {
+        return 0;
+    }
+    named
+}
+
+// Reads a whole profile, beside a firm of another name; 0 for none.
+pub fn read(text: &[u8], other: u64) -> Scan
+    ensures { λ r. ⌜ r ≡ scanBeside other (now (text .entry)) ⌝ }
 {
     let mut roots = [0u64; 64];
     let mut rules = [0u64; 512];
@@ -173,7 +184,7 @@ pub fn read(text: &[u8]) -> Scan
             rules,
         };
     }
-    let firm = line::firm_of(reader::line_from(text, 0));
+    let firm = firm_beside(line::firm_of(reader::line_from(text, 0)), other);
     let reading = read_lines(text, firm, &mut roots, &mut rules, &mut counts);
     Scan {
         reading,

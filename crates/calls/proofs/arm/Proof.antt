@@ -1,5 +1,6 @@
 -- `calls::arm` meets its contract: nothing is written before the whole text is accepted. Assumes nothing.
 use mathlib.Core.Path.{_∙_}
+use Rattle.profile.proofs.Beside.{scan-none}
 use Rattle.calls.proofs.Cases.{arm-short, arm-marked, arm-refused, arm-accepted}
 use borrow.Author.Needs.{needs}
 use Rattle.calls.proofs.arm.Statement.{statement}
@@ -33,14 +34,14 @@ write-armed-requires : tie.Need-write-armed-requires
 write-armed-requires c κs = search needs
 
 returns-3 : tie.Need-returns-3
-returns-3 c = arm-refused _ _ (c .before .before .before .before .before .before .before .before .if1 .left) (c .before .before .before .before .before .before .if2 .left) _ (c .before .before .before .before .before .read .ensures) _ _ (c .before .reading .given .1)
+returns-3 c = arm-refused _ _ (c .before .before .before .before .before .before .before .before .if1 .left) (c .before .before .before .before .before .before .if2 .left) _ (c .before .before .before .before .before .read .ensures ∙ scan-none _) _ _ (c .before .reading .given .1)
 
 same-length : tie.Need-same-length
 same-length c = search needs
 
 returns-4 : tie.Need-returns-4
 returns-4 c =
-    let d = arm-accepted _ _ (c .before .before .before .before .before .before .before .before .before .before .before .before .before .before .if1 .left) (c .before .before .before .before .before .before .before .before .before .before .before .before .if2 .left) _ (c .before .before .before .before .before .before .before .before .before .before .before .read .ensures) _ _ _ (c .before .before .before .before .before .before .before .reading2 .given .1) in
+    let d = arm-accepted _ _ (c .before .before .before .before .before .before .before .before .before .before .before .before .before .before .if1 .left) (c .before .before .before .before .before .before .before .before .before .before .before .before .if2 .left) _ (c .before .before .before .before .before .before .before .before .before .before .before .read .ensures ∙ scan-none _) _ _ _ (c .before .before .before .before .before .before .before .reading2 .given .1) in
     (d .0, c .before .before .write-armed .ensures ∙ d .1)
 
 pub arm-spec : {M : Type 1} → statement M

@@ -11,17 +11,20 @@ use Rattle.profile.proofs.read.Statement.{statement}
 use Rattle.profile.proofs.read.Tie as tie
 
 -- the way back from the firm to where its line was read
-abbrev found : tie.After-firm-of → tie.After-line-from
-found c = c .before
+abbrev found : tie.After-firm-beside → tie.After-line-from
+found c = c .before .before
 
 returns : tie.Need-returns
-returns c = scan-unsized _ (not-true (isIn (1 to 65_536) (length (c .before .before .args .text .now))) (c .if1 .taken))
+returns c = scan-unsized _ _ (not-true (isIn (1 to 65_536) (length (c .before .before .args .text .now))) (c .if1 .taken))
 
 line-from-requires : tie.Need-line-from-requires
 line-from-requires c κs = search needs
 
 firm-of-requires : tie.Need-firm-of-requires
 firm-of-requires c κs = search needs
+
+firm-beside-requires : tie.Need-firm-beside-requires
+firm-beside-requires c κs = search needs
 
 slice-aggregate-read-lines : tie.Need-slice-aggregate-read-lines
 slice-aggregate-read-lines c = search needs
@@ -43,7 +46,9 @@ returns-2 c =
     let o = c .before .before .before .before .before .before .before in
     let f = found o in
     let text = f .before .before .before .args .text .now in
-    scan-told text (not-false (isIn (1 to 65_536) (length text)) (f .before .if1 .left)) (o .firm-of .ensures ∙ first-firm text (f .line-from .ensures))
+    let other = f .before .before .before .args .other in
+    scan-told other text (not-false (isIn (1 to 65_536) (length text)) (f .before .if1 .left))
+    (first-firm other text (f .line-from .ensures) (o .before .firm-of .ensures) (o .firm-beside .ensures))
     (c .before .before .before .read-lines .ensures)
 
 pub read-spec : {M : Type 1} → statement M
@@ -53,6 +58,7 @@ read-spec =
     returns
     line-from-requires
     firm-of-requires
+    firm-beside-requires
     slice-aggregate-read-lines
     slice-aggregate-read-lines-2
     slice-aggregate-read-lines-3
