@@ -1,0 +1,13 @@
+pub mod Laws
+pub mod Exactly
+pub mod Tested
+pub mod Calls
+pub mod Granting
+pub mod Leaving
+pub mod Both
+pub mod Sending
+pub mod Kept
+pub mod Uses
+pub mod Clearing
+pub mod Armable
+pub mod ArmKept
