@@ -4,15 +4,15 @@ mod common;
 mod days;
 use common::{event, profile, Dice};
 use days::{day, sitting};
-use desk::answer;
-use desk::asked::Names;
-use desk::command;
-use desk::counts::Count;
-use desk::ledger::Used;
-use desk::profile::{Profile, Rule, Scope};
-use desk::scale::Curve;
-use desk::sitting::Sitting;
-use desk::source::Source;
+use desk::answers::answer;
+use desk::profile::{Count, Profile, Rule, Scope};
+use desk::records::source::Source;
+use desk::replay::scale::Curve;
+use desk::session::ledger::Used;
+use desk::session::sitting::Sitting;
+use desk::typed::command;
+use desk::typed::names::Names;
+use desk::typed::spoken::typed;
 use mbrumzheg::{Event, Offer, Refusal, Reset, Time, UnitOfRoot, Verdict};
 
 #[test]
@@ -106,7 +106,7 @@ fn an_event_typed_as_it_is_shown_is_the_same_event() {
         if asked.root().is_some_and(|root| root.number() > 3) {
             continue;
         }
-        let shown = answer::typed(&profile, &asked);
+        let shown = typed(&profile, &asked);
         let names = Names { profile: &profile, clock: Time::START };
         let typed = names.event(&command::read(&shown).expect("a command")).expect("an event");
         assert_eq!(typed, Ok(asked), "{shown}");

@@ -4,12 +4,12 @@ mod common;
 mod days;
 use common::{event, profile, Dice};
 use days::{day, sitting};
-use desk::answer;
-use desk::asked::Names;
-use desk::command;
-use desk::figures;
-use desk::marks::Kind;
-use desk::sitting::Sitting;
+use desk::answers::answer;
+use desk::replay::marks::Kind;
+use desk::report::figures;
+use desk::session::sitting::Sitting;
+use desk::typed::command;
+use desk::typed::names::Names;
 use mbrumzheg::{Event, Refusal, Time};
 
 /// What a line is answered.
@@ -117,7 +117,7 @@ fn a_log_without_room_says_what_keeps_it() {
     assert_eq!(said(&mut sitting, "away 1ms XYZ call front 1 1 99 1"), format!("{full}, allow fewer reports{kept}  [49 15 0 0 0 0]"));
     assert_eq!(said(&mut sitting, "close 1ms 3"), "order 3 closed, 0 of 16 had come back, 16 log places free again  [50 0 0 0 0 0]");
     assert!(said(&mut sitting, "offer 1ms XYZ call front 1 1").starts_with("granted all 1"));
-    assert!(desk::table::status(&sitting).expect("a status").contains("\n30 orders sent away and open, 480 log places kept\n  order 0: 0 of 16 came back on XYZ call front at $1.00, 16 contracts open and 16 reports left\n"));
+    assert!(desk::answers::table::status(&sitting).expect("a status").contains("\n30 orders sent away and open, 480 log places kept\n  order 0: 0 of 16 came back on XYZ call front at $1.00, 16 contracts open and 16 reports left\n"));
 }
 
 #[test]
@@ -133,7 +133,7 @@ fn a_share_past_all_measure_fits_its_table() {
     }
     let used = sitting.reckoned(sitting.unit.clock(), &sitting.profile.counts[0]);
     assert_eq!((used.all, used.away), (2_000_000_000_000_000, 2_000_000_000_000_000));
-    let table = desk::table::rules(&sitting, sitting.unit.clock(), desk::shown::Shown::All).expect("a table");
+    let table = desk::answers::table::rules(&sitting, sitting.unit.clock(), desk::typed::shown::Shown::All).expect("a table");
     assert!(table.lines().all(|line| line.chars().count() <= 80) && table.contains(">999%"), "{table}");
 }
 
@@ -156,7 +156,7 @@ fn a_total_is_held_where_the_library_holds_it() {
     assert_eq!(sitting.differences(), []);
     // the page's numbers are as large
     let day = day(&sitting, None);
-    let json = desk::export::json(&sitting.profile, &day, &desk::report::Made::at_the_desk(&sitting));
+    let json = desk::report::export::json(&sitting.profile, &day, &desk::report::Made::at_the_desk(&sitting));
     assert!(json.contains("\"most_used\":1000000000000000000,") && json.contains("\"most_past_limit\":999000000000000000"), "{json}");
 }
 

@@ -3,13 +3,12 @@ mod browser;
 mod common;
 use browser::{Browser, Looks};
 use common::{event, profile, Dice};
-use desk::counts::Count;
-use desk::day::Day;
-use desk::figures::face;
-use desk::profile::Rule;
-use desk::progress::Progress;
+use desk::files::progress::Progress;
+use desk::profile::{Count, Rule};
+use desk::replay::day::Day;
+use desk::report::figures::face;
 use desk::report::{self, Made};
-use desk::sitting::Sitting;
+use desk::session::sitting::Sitting;
 use mbrumzheg::Unit;
 use std::fs;
 

@@ -4,8 +4,8 @@ mod common;
 #[path = "browser/json.rs"]
 mod json;
 use common::{event, profile, Dice};
-use desk::answer;
 use desk::serve::{state, Bench};
+use desk::typed::spoken;
 use json::Json;
 use mbrumzheg::Time;
 
@@ -28,7 +28,7 @@ fn a_gauge_shows_what_the_library_answers_for_its_rule_and_unit() {
             if next.root().is_some_and(|root| root.number() >= sitting.unit.root_count()) {
                 continue;
             }
-            let typed = answer::typed(&sitting.profile, &next);
+            let typed = spoken::typed(&sitting.profile, &next);
             bench.line(&typed).expect("an event");
         }
         let sitting = bench.sitting.as_ref().expect("armed");

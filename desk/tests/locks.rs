@@ -4,8 +4,8 @@ mod common;
 mod days;
 use common::{event, profile, Dice};
 use days::{day, sitting};
-use desk::marks::Kind;
-use desk::piece::Piece;
+use desk::library::piece::Piece;
+use desk::replay::marks::Kind;
 use mbrumzheg::{Event, Level, Reset, Time, Verdict};
 
 #[test]

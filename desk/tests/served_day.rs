@@ -1,10 +1,11 @@
 //! The day on the served page is the desk's own, and undoing is a replay.
 mod common;
 use common::{event, profile, Dice};
-use desk::answer;
-use desk::form::Form;
+use desk::answers::answer;
+use desk::library::form::Form;
 use desk::serve::{Bench, Said};
-use desk::sitting::Sitting;
+use desk::session::sitting::Sitting;
+use desk::typed::spoken::typed;
 use mbrumzheg::Unit;
 
 const PROFILE: &str = "ABCD,rate_vol,XYZ,500,1000\nABCD,abs_vol,QQQ,5\n";
@@ -26,7 +27,7 @@ fn the_pages_day_is_the_desks_own() {
                 continue;
             }
             let passed = plain.pass(next);
-            let Ok(Said::Event(entry)) = bench.line(&answer::typed(&plain.profile, &next)) else { panic!("an event") };
+            let Ok(Said::Event(entry)) = bench.line(&typed(&plain.profile, &next)) else { panic!("an event") };
             assert_eq!(format!("{}  [{}]", entry.words, entry.numbers), answer::answer(&plain, &passed));
             memories.push(plain.unit.memory().to_vec());
             lines.push(entry);

@@ -3,13 +3,13 @@ mod common;
 #[path = "common/terminal.rs"]
 mod terminal;
 use common::{event, profile, Dice};
-use desk::help;
-use desk::paint::{paint, Painter};
+use desk::answers::table;
+use desk::console::paint::{paint, Painter};
 use desk::program::USAGE;
-use desk::shown::Shown;
-use desk::sitting::Sitting;
-use desk::table;
-use desk::topics;
+use desk::session::sitting::Sitting;
+use desk::typed::help;
+use desk::typed::shown::Shown;
+use desk::typed::topics;
 use mbrumzheg::{Refusal, Time, Unit};
 use std::io::Write;
 
@@ -65,7 +65,7 @@ fn help_fits_80_columns_and_is_there_for_every_command() {
     for topic in &topics::COMMANDS {
         assert!(help::list().contains(topic.form) && topic.form.starts_with(topic.name), "{}", topic.name);
         for example in topic.examples {
-            assert!(example.starts_with(topic.name) && desk::command::read(example).is_ok(), "{example}");
+            assert!(example.starts_with(topic.name) && desk::typed::command::read(example).is_ok(), "{example}");
         }
     }
     let refusals = help::on("refusals").expect("help").replace("\n     ", " ");

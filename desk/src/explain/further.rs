@@ -1,6 +1,8 @@
 //! Further lines that are refused, each by the library's own answer to the text without the lines that it has refused before.
 
-use super::{lines, of_refusal, shown};
+use crate::explain::fault::lines;
+use crate::explain::refused::of_refusal;
+use crate::explain::show::shown;
 use mbrumzheg::{ArmRefusal, Refusal, Unit};
 
 /// So many are looked for.

@@ -1,21 +1,22 @@
 //! What stands on the page's desk: a profile, the day on the unit that it armed, and what was undone of it.
 
-use super::log::Entry;
-use crate::asked::Names;
-use crate::check;
-use crate::command::{self, Command};
-use crate::evening;
-use crate::help;
-use crate::piece::Piece;
-use crate::sitting::Sitting;
-use crate::table::{self, counted};
+use crate::answers::evening;
+use crate::answers::table;
+use crate::explain::check;
+use crate::library::piece::Piece;
+use crate::serve::log::Entry;
+use crate::session::sitting::Sitting;
+use crate::typed::command::{self, Command};
+use crate::typed::help;
+use crate::typed::names::Names;
+use crate::words::counted;
 use mbrumzheg::{Event, Unit};
 
 /// More events than this are for `desk report`.
 const MOST_EVENTS: usize = 100_000;
 
 /// A piece of the day, and whether it was typed or came from a file.
-pub(super) type Typed = (Piece, bool);
+pub(crate) type Typed = (Piece, bool);
 
 /// The page's desk.
 #[derive(Default)]
@@ -28,10 +29,10 @@ pub struct Bench {
     pub log: Vec<Entry>,
     /// Pieces that were undone, in the order in which they came.
     pub undone: Vec<Typed>,
-    pub(super) typed: Vec<bool>,
+    pub(crate) typed: Vec<bool>,
     /// The names of files that were replayed, and the place of each one's first record.
-    pub(super) files: Vec<(usize, String)>,
-    pub(super) saved: Option<String>,
+    pub(crate) files: Vec<(usize, String)>,
+    pub(crate) saved: Option<String>,
     /// The day that was cleared last.
     before: Option<Box<Bench>>,
 }
@@ -123,13 +124,13 @@ impl Bench {
     }
 
     /// What was undone cannot be done again once another event stands in its place.
-    pub(super) fn give_up_undone(&mut self) {
+    pub(crate) fn give_up_undone(&mut self) {
         let place = self.place();
         self.undone.clear();
         self.files.retain(|(first, _)| *first <= place);
     }
 
-    pub(super) fn has_room(&self, more: usize) -> Result<(), String> {
+    pub(crate) fn has_room(&self, more: usize) -> Result<(), String> {
         if self.place() + more <= MOST_EVENTS {
             return Ok(());
         }
@@ -137,7 +138,7 @@ impl Bench {
     }
 
     /// Passes a piece on an armed unit.
-    pub(super) fn pass(&mut self, piece: &Piece, typed: bool) -> Entry {
+    pub(crate) fn pass(&mut self, piece: &Piece, typed: bool) -> Entry {
         let Some(sitting) = self.sitting.as_mut() else { unreachable!("only an armed desk passes events") };
         sitting.sources.typed += usize::from(typed);
         let passed = sitting.pass_piece(piece);
@@ -162,7 +163,7 @@ impl Bench {
         self.sitting.as_ref().map_or(0, |sitting| sitting.place)
     }
 
-    pub(super) fn armed(&self) -> Result<&Sitting, String> {
+    pub(crate) fn armed(&self) -> Result<&Sitting, String> {
         self.sitting.as_ref().ok_or_else(|| ARM_FIRST.to_string())
     }
 }

@@ -1,14 +1,16 @@
 //! What the page's desk keeps of a day: it can be replayed from a file, gone back and forth in, saved and reported.
 
-use super::bench::{Bench, Typed};
-use crate::day::Day;
-use crate::form::Form;
-use crate::piece::Piece;
-use crate::progress::Progress;
+use crate::files::in_words;
+use crate::files::opened::{self, Opened};
+use crate::files::progress::Progress;
+use crate::library::form::Form;
+use crate::library::piece::Piece;
+use crate::records::source::Source;
+use crate::replay::day::Day;
 use crate::report::{self, Made};
-use crate::sitting::Sitting;
-use crate::source::{self, Opened, Source};
-use crate::table::counted;
+use crate::serve::bench::{Bench, Typed};
+use crate::session::sitting::Sitting;
+use crate::words::counted;
 use mbrumzheg::{Adopted, Time, Unit};
 use std::io::Read;
 
@@ -75,7 +77,7 @@ impl Bench {
     /// The day in words, which then counts as saved.
     pub fn save_words(&mut self) -> Result<Vec<u8>, String> {
         let sitting = self.armed()?;
-        let words = sitting.words()?;
+        let words = in_words::of_day(&sitting.profile, &sitting.day)?;
         self.saved = Some(sitting.day.sum());
         Ok(words)
     }
@@ -98,7 +100,7 @@ impl Bench {
 
 /// The pieces of a file, each read at the clock that those before it leave, on a copy of the unit; and what its length says of the last.
 fn read(sitting: &Sitting, bytes: &[u8], form: Form) -> Result<(Vec<Piece>, Option<String>), String> {
-    let Opened { pieces: mut from, remark, .. } = source::of_file(bytes, Some(bytes.len() as u64), form, &sitting.profile)?;
+    let Opened { pieces: mut from, remark, .. } = opened::of_file(bytes, Some(bytes.len() as u64), form, &sitting.profile)?;
     let copied = Unit::adopt(sitting.unit.memory().to_vec().into_boxed_slice());
     let Ok(Adopted::Armed(mut unit)) = copied else { return Err("the unit cannot be copied".to_string()) };
     let mut pieces = Vec::new();

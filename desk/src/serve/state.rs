@@ -1,21 +1,20 @@
 //! The desk as JSON, for the page to draw.
 
-use super::bench::Bench;
-use crate::answer::why_locked;
-use crate::asked::Names;
-use crate::away;
-use crate::check::meaning;
-use crate::counts::Count;
-use crate::evening;
-use crate::json::{list, maybe, object, text};
-use crate::ledger::Used;
-use crate::profile::Rule;
-use crate::register::Away;
-use crate::resets;
-use crate::sitting::Sitting;
-use crate::standing::level_name;
-use crate::table::share;
+use crate::answers::away;
+use crate::answers::columns::share;
+use crate::answers::evening;
+use crate::answers::locked::why_locked;
+use crate::explain::check::meaning;
+use crate::profile::{level_name, Count, Rule};
+use crate::serve::bench::Bench;
+use crate::serve::log::Entry;
+use crate::session::ledger::Used;
+use crate::session::register::Away;
+use crate::session::resets;
+use crate::session::sitting::Sitting;
+use crate::typed::names::Names;
 use crate::words;
+use crate::words::json::{list, maybe, object, text};
 use mbrumzheg::Time;
 
 /// So many lines of the log come with a state; older ones are asked for.
@@ -43,7 +42,7 @@ pub fn of(bench: &Bench, at: &str) -> Result<String, String> {
 /// The lines of the log up to a place.
 pub fn log(bench: &Bench, to: usize) -> String {
     let to = to.min(bench.log.len());
-    list(bench.log[to.saturating_sub(MOST_LINES)..to].iter().map(super::log::Entry::json))
+    list(bench.log[to.saturating_sub(MOST_LINES)..to].iter().map(Entry::json))
 }
 
 fn armed(sitting: &Sitting, at: &str) -> Result<String, String> {

@@ -1,8 +1,8 @@
 //! Days on fresh units for the desk's tests.
 #![allow(dead_code)]
-use desk::day::Day;
-use desk::progress::Progress;
-use desk::sitting::Sitting;
+use desk::files::progress::Progress;
+use desk::replay::day::Day;
+use desk::session::sitting::Sitting;
 use mbrumzheg::Unit;
 
 /// A day that has not begun, on a unit armed from this text.
