@@ -6,11 +6,12 @@ mod json;
 use common::{event, profile, Dice};
 use desk::files::progress::Progress;
 use desk::library::piece::Piece;
+use desk::library::state::State;
 use desk::profile::Count;
 use desk::replay::day::Day;
 use desk::report::{self, Made};
 use desk::session::sitting::Sitting;
-use mbrumzheg::{Event, Level, Time, Unit};
+use mbrumzheg::{Event, Level, Time};
 
 /// A report of a sitting's day or a stretch of it, of the kind that a name asks for.
 fn written(sitting: &Sitting, name: &str, stretch: Option<(u64, u64)>) -> String {
@@ -20,7 +21,7 @@ fn written(sitting: &Sitting, name: &str, stretch: Option<(u64, u64)>) -> String
 }
 
 fn armed(text: &str) -> Sitting {
-    Sitting::new(Unit::new().arm(text).expect("accepted"), "profile", text.as_bytes())
+    Sitting::new(State::armed(text.as_bytes()).expect("accepted"), "profile", text.as_bytes())
 }
 
 /// A sitting with a random day behind it.
@@ -28,7 +29,7 @@ fn sitting(seed: u64) -> Sitting {
     let mut dice = Dice::new(seed);
     let mut sitting = armed(&profile(&mut dice));
     for _ in 0..40 {
-        let next = event(&mut dice, sitting.unit.clock().ms(), sitting.unit.root_count());
+        let next = event(&mut dice, sitting.state.clock().ms(), sitting.state.root_count());
         sitting.pass(next);
     }
     sitting

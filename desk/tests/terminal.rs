@@ -5,17 +5,18 @@ mod terminal;
 use common::{event, profile, Dice};
 use desk::answers::table;
 use desk::console::paint::{paint, Painter};
+use desk::library::state::State;
 use desk::program::USAGE;
 use desk::session::sitting::Sitting;
 use desk::typed::help;
 use desk::typed::shown::Shown;
 use desk::typed::topics;
-use mbrumzheg::{Refusal, Time, Unit};
+use mbrumzheg::{Refusal, Time};
 use std::io::Write;
 
 fn sitting(text: &str) -> Sitting {
-    let unit = Unit::new().arm(text).unwrap_or_else(|refused| panic!("{refused}\n{text}"));
-    Sitting::new(unit, "profile", text.as_bytes())
+    let state = State::armed(text.as_bytes()).unwrap_or_else(|refused| panic!("{refused}\n{text}"));
+    Sitting::new(state, "profile", text.as_bytes())
 }
 
 fn widest(text: &str) -> usize {
@@ -28,10 +29,10 @@ fn tables_fit_80_columns() {
         let mut dice = Dice::new(seed);
         let mut sitting = sitting(&profile(&mut dice));
         for _ in 0..20 {
-            let next = event(&mut dice, sitting.unit.clock().ms(), sitting.unit.root_count());
+            let next = event(&mut dice, sitting.state.clock().ms(), sitting.state.root_count());
             sitting.pass(next);
         }
-        let text = table::rules(&sitting, sitting.unit.clock(), Shown::All).expect("a table");
+        let text = table::rules(&sitting, sitting.state.clock(), Shown::All).expect("a table");
         assert!(widest(&text) <= 80, "{text}");
         assert_eq!(text.lines().filter(|line| line.ends_with('%')).count(), sitting.profile.counts.len(), "{text}");
     }

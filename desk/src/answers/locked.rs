@@ -7,8 +7,8 @@ use mbrumzheg::{Marks, Root, Verdict};
 pub fn rejected(sitting: &Sitting, verdict: Verdict, root: Root) -> String {
     let text = verdict.text().map_or_else(String::new, |text| text.to_string());
     let (what, marks) = match verdict {
-        Verdict::FirmLocked => (format!("firm {}", sitting.profile.firm), sitting.unit.firm_marks()),
-        _ => (format!("root {}", sitting.profile.root_name(root.number())), sitting.unit.root_marks(root)),
+        Verdict::FirmLocked => (format!("firm {}", sitting.profile.firm), sitting.state.firm_marks()),
+        _ => (format!("root {}", sitting.profile.root_name(root.number())), sitting.state.root_marks(root)),
     };
     format!("rejected, {what} is {} ({text})", why_locked(marks))
 }

@@ -1,4 +1,4 @@
-//! The desk: takes lines, works on the unit, answers in words.
+//! The desk: takes lines, works on the state, answers in words.
 
 use crate::answers::answer;
 use crate::answers::evening;
@@ -8,24 +8,24 @@ use crate::console::keeping;
 use crate::explain::check;
 use crate::files::disk;
 use crate::files::moving;
+use crate::library::state::Cleared;
 use crate::session::sitting::Sitting;
 use crate::typed::command::{self, Command};
 use crate::typed::complete::Known;
 use crate::typed::help;
 use crate::typed::names::Names;
 use crate::words::shortened;
-use mbrumzheg::Unit;
 use std::io::{self, Write};
 
-/// What stands on the desk: a unit without rules, or one with a day behind it.
+/// What stands on the desk: a state without rules, or one with a day behind it.
 enum Bench {
-    Unarmed(Unit),
+    Unarmed(Cleared),
     Armed(Box<Sitting>),
 }
 
 impl Default for Bench {
     fn default() -> Bench {
-        Bench::Unarmed(Unit::new())
+        Bench::Unarmed(Cleared::default())
     }
 }
 
@@ -117,8 +117,8 @@ impl Desk {
     }
 
     fn arm(&mut self, file: &str) -> Result<String, String> {
-        let unit = match std::mem::take(&mut self.bench) {
-            Bench::Unarmed(unit) => unit,
+        let cleared = match std::mem::take(&mut self.bench) {
+            Bench::Unarmed(cleared) => cleared,
             Bench::Armed(sitting) => {
                 let advice = format!("armed already for {} (refusal 3); type clear first", sitting.profile.firm);
                 self.bench = Bench::Armed(sitting);
@@ -126,7 +126,7 @@ impl Desk {
             }
         };
         let text = disk::profile(file)?;
-        let armed = unit.arm(&text).map_err(|refused| check::not_armed(file, &text, refused.why))?;
+        let armed = cleared.arm(&text).map_err(|why| check::not_armed(file, &text, why))?;
         let sitting = Sitting::new(armed, file, &text);
         let words = check::armed(&sitting.profile, RULES_SHOWN);
         self.bench = Bench::Armed(Box::new(sitting));
@@ -136,7 +136,7 @@ impl Desk {
     /// Passes the event that a command asks for.
     fn pass(&mut self, command: &Command) -> Result<String, String> {
         let sitting = self.sitting()?;
-        let names = Names { profile: &sitting.profile, clock: sitting.unit.clock() };
+        let names = Names { profile: &sitting.profile, clock: sitting.state.clock() };
         let Some(event) = names.event(command) else { return Ok(String::new()) };
         let passed = sitting.pass(event?);
         Ok(answer::answer(sitting, &passed))
@@ -144,7 +144,7 @@ impl Desk {
 
     fn remaining(&mut self, words: &[String]) -> Result<String, String> {
         let sitting = self.sitting()?;
-        let (time, shown) = Names { profile: &sitting.profile, clock: sitting.unit.clock() }.table(words)?;
+        let (time, shown) = Names { profile: &sitting.profile, clock: sitting.state.clock() }.table(words)?;
         table::rules(sitting, time, shown)
     }
 
@@ -154,7 +154,7 @@ impl Desk {
         }
         if let Bench::Armed(sitting) = std::mem::take(&mut self.bench) {
             self.caution.lose(sitting.unsaved);
-            self.bench = Bench::Unarmed(sitting.unit.clear());
+            self.bench = Bench::Unarmed(sitting.state.clear());
         }
         Ok("cleared: the unit holds no rules, and nothing may pass until it is armed  [0]".to_string())
     }

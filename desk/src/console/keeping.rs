@@ -55,7 +55,7 @@ pub fn save_account(sitting: &Sitting, Kept { file, over }: &Kept) -> Result<Str
 
 /// Writes a page on the day, or on a stretch of it, to a file.
 pub fn report(sitting: &Sitting, file: &str, stretch: Option<(String, String)>) -> Result<String, String> {
-    let names = Names { profile: &sitting.profile, clock: sitting.unit.clock() };
+    let names = Names { profile: &sitting.profile, clock: sitting.state.clock() };
     let stretch = stretch.map(|(from, to)| names.stretch(&from, &to)).transpose()?;
     if sitting.place == 0 {
         return Err("there is nothing to report yet; type offer, order, lock or replay first".to_string());
@@ -91,11 +91,11 @@ fn pass_all(
     quiet: bool,
     out: &mut dyn Write,
 ) -> io::Result<Result<String, String>> {
-    let clock = sitting.unit.clock();
+    let clock = sitting.state.clock();
     let (mut sums, mut late) = (Sums::default(), false);
     sitting.sources.replayed.push(file.to_string());
     loop {
-        let piece = match pieces.next(sitting.unit.clock()) {
+        let piece = match pieces.next(sitting.state.clock()) {
             Ok(Some(piece)) => piece,
             Ok(None) => break,
             Err(why) => {

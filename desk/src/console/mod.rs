@@ -1,6 +1,6 @@
 //! The desk at a terminal, in a script or a pipe: takes lines, carries each out, answers in words.
 //!
-//! May use: words, library, explain, profile, session, typed, answers, files, replay, report.
+//! May use: words, library, explain, session, typed, answers, files, replay, report.
 
 mod caution;
 pub mod desk;

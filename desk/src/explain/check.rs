@@ -1,25 +1,26 @@
 //! A profile looked at before or after it arms a unit: its rules in words and warnings, or what is wrong and where.
 
 use crate::explain;
+use crate::library::state::State;
 use crate::profile::{Measure, Profile, Rule, Scope};
 use crate::words::{self, counted, listed};
-use mbrumzheg::{ArmRefusal, Unit};
+use mbrumzheg::ArmRefusal;
 
 /// How many warnings are said.
 const MOST_WARNINGS: usize = 8;
 
 /// What a profile comes to: all its rules in words, or an error with what is wrong.
 pub fn check(name: &str, text: &[u8]) -> Result<String, String> {
-    match Unit::new().arm(text) {
+    match State::armed(text) {
         Ok(_) => {
             let profile = Profile::of_accepted(text);
             let said = said(&profile, profile.rules.len());
             Ok(format!("{name} is good: firm {}, {}\n{said}", profile.firm, sizes(&profile)))
         }
-        Err(refused) => {
-            let first = explain::refused(text, refused.why);
-            let all: Vec<String> = std::iter::once(first).chain(explain::further(text, refused.why)).collect();
-            Err(format!("{}\n{name} arms no unit  {}", all.join("\n"), numbers(refused.why)))
+        Err(why) => {
+            let first = explain::refused(text, why);
+            let all: Vec<String> = std::iter::once(first).chain(explain::further(text, why)).collect();
+            Err(format!("{}\n{name} arms no unit  {}", all.join("\n"), numbers(why)))
         }
     }
 }

@@ -2,31 +2,13 @@
 
 use crate::files::disk;
 use crate::files::given;
-use crate::library::form::Form;
+use crate::library::piece::Piece;
 use crate::records::source::Records;
 use crate::typed::command::{Kept, Move};
 use crate::words::{self, counted};
-use mbrumzheg::{narrow, widen, Event, Refusal, Reset};
+use mbrumzheg::{Event, Refusal, Reset};
 use std::cell::Cell;
 use std::io::{self, Read, Write};
-
-impl Move {
-    /// The form that a file is moved from.
-    fn from(self) -> Form {
-        match self {
-            Move::Widen => Form::Old,
-            Move::Narrow => Form::New,
-        }
-    }
-
-    /// A record in the other form.
-    fn record(self, bytes: &[u8]) -> Result<Vec<u8>, Refusal> {
-        match self {
-            Move::Widen => widen(bytes).map(|wide| wide.to_vec()),
-            Move::Narrow => narrow(bytes).map(|old| old.to_vec()),
-        }
-    }
-}
 
 /// Moves the records of a file to another one; answers what to say of it.
 pub fn file(which: Move, from: &str, Kept { file: to, over }: &Kept) -> Result<String, String> {
@@ -50,7 +32,7 @@ fn records(which: Move, from: impl Read, to: &mut dyn Write) -> io::Result<usize
     let (mut from, mut place) = (Records::new(from, which.from()), 0);
     while let Some(bytes) = from.record()? {
         place += 1;
-        let moved = which.record(bytes).map_err(|refusal| io::Error::other(unmoved(place, bytes, refusal)))?;
+        let moved = which.from().moved(bytes).map_err(|refusal| io::Error::other(unmoved(place, bytes, refusal)))?;
         to.write_all(&moved)?;
     }
     Ok(place)
@@ -59,8 +41,8 @@ fn records(which: Move, from: impl Read, to: &mut dyn Write) -> io::Result<usize
 /// Which record does not move, and why.
 fn unmoved(place: usize, bytes: &[u8], refusal: Refusal) -> String {
     let numbered = format!("refused with {}", refusal.number());
-    match Event::from_record16(bytes) {
-        Ok(event) if refusal == Refusal::Unfit => {
+    match Piece::of_bytes(bytes).event() {
+        Some(event) if refusal == Refusal::Unfit => {
             format!("record {place}, {}, does not fit the old form ({numbered}): {}", named(&event), reasons(&event).join(", and "))
         }
         _ => format!("record {place} is faulty ({numbered}): {}", refusal.sentence()),

@@ -2,7 +2,7 @@
 
 use crate::library::piece::Piece;
 use crate::words::counted;
-use mbrumzheg::{widen, RECORD16_SIZE, RECORD_SIZE};
+use mbrumzheg::{narrow, widen, Refusal, RECORD16_SIZE, RECORD_SIZE};
 
 /// A form of records.
 #[derive(Clone, Copy, Debug, Default, PartialEq, Eq)]
@@ -32,7 +32,8 @@ impl Form {
         }
     }
 
-    const fn other(self) -> Form {
+    /// The other form.
+    pub const fn other(self) -> Form {
         match self {
             Form::New => Form::Old,
             Form::Old => Form::New,
@@ -44,6 +45,14 @@ impl Form {
         match self {
             Form::New => Piece::of_bytes(bytes),
             Form::Old => widen(bytes).map_or_else(|_| Piece::of_bytes(bytes), |wide| Piece::of_bytes(&wide)),
+        }
+    }
+
+    /// A record of this form in the other.
+    pub fn moved(self, bytes: &[u8]) -> Result<Vec<u8>, Refusal> {
+        match self {
+            Form::New => narrow(bytes).map(|old| old.to_vec()),
+            Form::Old => widen(bytes).map(|wide| wide.to_vec()),
         }
     }
 

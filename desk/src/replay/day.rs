@@ -1,8 +1,9 @@
-//! A day replayed on a fresh unit, record by record, in memory that does not grow with it: the use of every limit over time, the locks, the
+//! A day replayed on a fresh state, record by record, in memory that does not grow with it: the use of every limit over time, the locks, the
 //! figures, and the first lines of what did not simply pass.
 
 use crate::answers::answer;
 use crate::files::progress::Progress;
+use crate::library::state::State;
 use crate::profile::{level, Count, Profile};
 use crate::records::source::Source;
 use crate::replay::entries::{Entries, Group};
@@ -14,7 +15,7 @@ use crate::session::register::Away;
 use crate::session::resets::{lifts, zeroes};
 use crate::session::sitting::Sitting;
 use crate::session::sums::Sums;
-use mbrumzheg::{Account, Answer, Event, Level, Offer, Root, Unit, Verdict};
+use mbrumzheg::{Account, Answer, Event, Level, Offer, Root, Verdict};
 
 /// So many orders sent away are told one by one.
 pub const MOST_ORDERS: usize = 200;
@@ -44,12 +45,12 @@ pub struct Day {
 }
 
 impl Day {
-    /// Replays a day on a unit armed with the profile.
+    /// Replays a day on a state armed with the profile.
     pub fn replayed(profile: &Profile, from: &mut dyn Source, stretch: Option<(u64, u64)>, progress: &mut Progress) -> Result<Day, String> {
-        let unit = Unit::new().arm(&profile.text).map_err(|refused| refused.to_string())?;
-        let mut sitting = Sitting::new(unit, "", &profile.text);
+        let state = State::armed(&profile.text).map_err(|refused| refused.to_string())?;
+        let mut sitting = Sitting::new(state, "", &profile.text);
         let mut day = Day::of_counts(profile, stretch);
-        while let Some(piece) = from.next(sitting.unit.clock())? {
+        while let Some(piece) = from.next(sitting.state.clock())? {
             let passed = sitting.answer_piece(&piece, &mut day.curves);
             day.take(&sitting, &passed);
             progress.step();

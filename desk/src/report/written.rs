@@ -5,6 +5,7 @@ use crate::files::given;
 use crate::files::opened;
 use crate::files::progress::Progress;
 use crate::library::form::Form;
+use crate::library::state::State;
 use crate::profile::Profile;
 use crate::records::sha256::{self, Sha256};
 use crate::replay::day::Day;
@@ -12,7 +13,6 @@ use crate::report::export;
 use crate::report::made::{Made, KIT, VERSION};
 use crate::report::page;
 use crate::words::counted;
-use mbrumzheg::Unit;
 use std::io::{self, Read};
 
 /// What a file of this name gets: its end decides.
@@ -36,8 +36,8 @@ pub fn of_name(file: &str, profile: &Profile, day: &Day, made: &Made) -> String 
 /// Reports a day of files, reading each record once; answers what to say of it.
 pub fn of_files(profile_file: &str, (records_file, form): (&str, Form), to: &str, stretch: Option<(u64, u64)>) -> Result<String, String> {
     let text = given::profile(profile_file)?;
-    let unit = Unit::new().arm(&text);
-    unit.map_err(|refused| format!("'{profile_file}' is refused: {}; desk check {profile_file} says more", refused.why))?;
+    let armed = State::armed(&text);
+    armed.map_err(|refused| format!("'{profile_file}' is refused: {}; desk check {profile_file} says more", refused))?;
     disk::may_report(to)?;
     let (from, bytes) = given::records(records_file)?;
     let mut summed = Summed { from, sum: Sha256::default() };

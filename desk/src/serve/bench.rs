@@ -4,13 +4,14 @@ use crate::answers::evening;
 use crate::answers::table;
 use crate::explain::check;
 use crate::library::piece::Piece;
+use crate::library::state::State;
 use crate::serve::log::Entry;
 use crate::session::sitting::Sitting;
 use crate::typed::command::{self, Command};
 use crate::typed::help;
 use crate::typed::names::Names;
 use crate::words::counted;
-use mbrumzheg::{Event, Unit};
+use mbrumzheg::Event;
 
 /// More events than this are for `desk report`.
 const MOST_EVENTS: usize = 100_000;
@@ -62,8 +63,8 @@ impl Bench {
             return Err(format!("armed already for {} (refusal 3); clear it first", sitting.profile.firm));
         }
         self.profile = (name.to_string(), text.to_vec());
-        let unit = Unit::new().arm(text).map_err(|refused| check::refused(text, refused.why))?;
-        let sitting = Sitting::new(unit, name, text);
+        let state = State::armed(text).map_err(|why| check::refused(text, why))?;
+        let sitting = Sitting::new(state, name, text);
         let words = check::armed(&sitting.profile, sitting.profile.rules.len());
         self.sitting = Some(sitting);
         Ok(words)
@@ -96,7 +97,7 @@ impl Bench {
     /// Carries out a line as it would be typed at the desk: an event, or a question.
     pub fn line(&mut self, line: &str) -> Result<Said, String> {
         let sitting = self.armed()?;
-        let names = Names { profile: &sitting.profile, clock: sitting.unit.clock() };
+        let names = Names { profile: &sitting.profile, clock: sitting.state.clock() };
         let command = command::read(line)?;
         if let Some(event) = names.event(&command) {
             return self.event(event?).map(Said::Event);

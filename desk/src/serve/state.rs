@@ -46,7 +46,7 @@ pub fn log(bench: &Bench, to: usize) -> String {
 }
 
 fn armed(sitting: &Sitting, at: &str) -> Result<String, String> {
-    let clock = sitting.unit.clock();
+    let clock = sitting.state.clock();
     let names = Names { profile: &sitting.profile, clock };
     let typed: Vec<String> = if at.is_empty() { Vec::new() } else { vec![at.to_string()] };
     let (time, _) = names.table(&typed)?;
@@ -56,7 +56,7 @@ fn armed(sitting: &Sitting, at: &str) -> Result<String, String> {
         rules.push(of_count(sitting, rule, count, sitting.used(time, rule, count, left), left));
     }
     let levels = (0..=sitting.profile.roots.len()).map(|level| of_level(sitting, level));
-    let status = sitting.unit.status().map_err(|refusal| refusal.to_string())?;
+    let status = sitting.state.status().map_err(|refusal| refusal.to_string())?;
     let lowest = status.lowest_locked.map_or(64, |root| root.number());
     Ok(object(&[
         ("firm", text(&sitting.profile.firm)),

@@ -1,6 +1,7 @@
-//! An armed unit with the profile that it was armed from and the day that it was passed.
+//! An armed state with the profile that it was armed from and the day that it was passed.
 
 use crate::library::piece::Piece;
+use crate::library::state::State;
 use crate::profile::{level, Count, Profile, Rule};
 use crate::records::spool::Spool;
 use crate::session::ledger::{Ledger, Used, Watch};
@@ -8,15 +9,12 @@ use crate::session::passed::Passed;
 use crate::session::register::Register;
 use crate::session::resets;
 use crate::session::standing::Standing;
-use mbrumzheg::{Account, Answer, Armed, Event, Level, Marks, Offer, Refusal, Report, Root, Time, Unit, Verdict};
+use mbrumzheg::{Account, Answer, Event, Level, Marks, Offer, Refusal, Report, Root, Time, Verdict};
 
-/// The unit that the desk works with.
-pub type ArmedUnit = Unit<Box<[u64]>, Armed>;
-
-/// An armed unit and what the desk remembers of its day.
+/// An armed state and what the desk remembers of its day.
 pub struct Sitting {
-    /// The unit.
-    pub unit: ArmedUnit,
+    /// The state.
+    pub state: State,
     /// What it was armed from.
     pub profile: Profile,
     /// Every piece passed, refused and faulty ones too, so that a replay gives the same lines.
@@ -48,18 +46,18 @@ pub struct Sources {
 }
 
 impl Sitting {
-    /// A day that begins on a unit just armed from the text of a file.
-    pub fn new(unit: ArmedUnit, file: &str, text: &[u8]) -> Sitting {
+    /// A day that begins on a state just armed from the text of a file.
+    pub fn new(state: State, file: &str, text: &[u8]) -> Sitting {
         let profile = Profile::of_accepted(text);
         let (standing, ledger) = (Standing::of(&profile), Ledger::of(&profile));
         let sources = Sources { profile: file.to_string(), ..Sources::default() };
         let (day, away, account) = Default::default();
-        Sitting { unit, profile, day, place: 0, unsaved: 0, sources, standing, away, account, ledger }
+        Sitting { state, profile, day, place: 0, unsaved: 0, sources, standing, away, account, ledger }
     }
 
-    /// The rules that the unit runs as a profile's text, as the library writes it.
+    /// The active rules as a profile's text, as the library writes it.
     pub fn active(&self) -> Result<String, String> {
-        self.unit.profile().map_err(|refusal| refusal.to_string())
+        self.state.profile().map_err(|refusal| refusal.to_string())
     }
 
     /// Passes an event that was typed.
@@ -79,7 +77,7 @@ impl Sitting {
     pub fn answer_piece(&mut self, piece: &Piece, watch: &mut dyn Watch) -> Passed {
         self.place += 1;
         let event = piece.event();
-        let answer = event.map_or(Err(Refusal::FaultyRecord), |event| self.unit.accounted_answer(&mut self.account, event));
+        let answer = event.map_or(Err(Refusal::FaultyRecord), |event| self.state.answer(&mut self.account, event));
         let mut passed = Passed::new(self.place, event, answer);
         if let (Some(event), Ok(answer)) = (event, answer) {
             self.ledger.advance(event.time().ms(), watch);
@@ -167,8 +165,8 @@ impl Sitting {
     /// The library's marks of a level.
     pub fn marks(&self, level: usize) -> Marks {
         match level.checked_sub(1) {
-            None => self.unit.firm_marks(),
-            Some(root) => Root::new(root as u64).map(|root| self.unit.root_marks(root)).unwrap_or_default(),
+            None => self.state.firm_marks(),
+            Some(root) => Root::new(root as u64).map(|root| self.state.root_marks(root)).unwrap_or_default(),
         }
     }
 
@@ -195,7 +193,7 @@ impl Sitting {
 
     /// The places of the counts in which the desk reckons another amount left at the clock than the library answers.
     pub fn differences(&self) -> Vec<usize> {
-        let clock = self.unit.clock();
+        let clock = self.state.clock();
         let reckoned = |rule: &Rule, count: &Count| rule.limit.saturating_sub(self.reckoned(clock, count).all);
         let differs = |(rule, count): &(&Rule, &Count)| self.left(clock, count) != Ok(reckoned(rule, count));
         self.profile.each_count().filter(differs).map(|(_, count)| count.place).collect()
@@ -203,7 +201,7 @@ impl Sitting {
 
     /// What is left of a rule at a time, in one of its counts.
     pub fn left(&self, time: Time, count: &Count) -> Result<u64, Refusal> {
-        self.unit.remaining(time, count.rule as u64, count.asked_unit())
+        self.state.remaining(time, count.rule as u64, count.asked_unit())
     }
 
     /// The least allowance, by the library's own numbers, of the rules that cover an offer: what it should grant.

@@ -31,12 +31,17 @@ impl Move {
         }
     }
 
+    /// The form that a file is moved from.
+    pub const fn from(self) -> Form {
+        match self {
+            Move::Widen => Form::Old,
+            Move::Narrow => Form::New,
+        }
+    }
+
     /// The form that a file is moved to.
     pub const fn to(self) -> Form {
-        match self {
-            Move::Widen => Form::New,
-            Move::Narrow => Form::Old,
-        }
+        self.from().other()
     }
 }
 
