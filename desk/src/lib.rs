@@ -1,6 +1,6 @@
 //! The bench desk over the proved risk library: load a profile, offer fills, watch the cut, reset, lock a root by hand.
 //!
-//! Each folder is a room, and its `mod.rs` says which rooms it may use.
+//! Each folder is a room, and its `mod.rs` says which rooms it may use; `tests/rooms.rs` holds them to it.
 
 pub mod answers;
 pub mod console;
