@@ -40,7 +40,7 @@ fn the_crosshair_says_what_the_desk_knows() {
         let text = profile(&mut dice);
         let mut sitting = Sitting::new(State::armed(text.as_bytes()).expect("accepted"), "profile", text.as_bytes());
         for _ in 0..200 {
-            let next = event(&mut dice, sitting.state.clock().ms(), sitting.state.root_count());
+            let next = event(&mut dice, sitting.clock().ms(), sitting.state().root_count());
             sitting.pass(next);
         }
         let mut pieces = sitting.day.pieces().expect("a reader");

@@ -20,7 +20,7 @@ fn passed(seed: u64) -> Sitting {
     let mut dice = Dice::new(seed);
     let mut sitting = sitting(&profile(&mut dice));
     for _ in 0..80 {
-        let next = event(&mut dice, sitting.state.clock().ms(), sitting.state.root_count());
+        let next = event(&mut dice, sitting.clock().ms(), sitting.state().root_count());
         sitting.pass(next);
     }
     sitting
@@ -55,7 +55,7 @@ fn orders(sitting: &Sitting) -> u64 {
     let mut again = self::sitting(std::str::from_utf8(&sitting.profile.text).expect("text"));
     let mut pieces = sitting.day.pieces().expect("a reader");
     let mut count = 0;
-    while let Some(piece) = desk::records::source::Source::next(&mut pieces, again.state.clock()).expect("read") {
+    while let Some(piece) = desk::records::source::Source::next(&mut pieces, again.clock()).expect("read") {
         let passed = again.answer_piece(&piece, &mut ());
         count += u64::from(passed.answer.is_ok() && matches!(passed.event, Some(Event::Order { .. } | Event::Send(_))));
     }

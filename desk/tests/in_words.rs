@@ -34,7 +34,7 @@ fn a_day_in_words_is_the_day_again() {
         for _ in 0..60 {
             let next = match dice.below(12) {
                 0 => Piece::of_bytes(&(0..16).map(|_| dice.below(256) as u8).collect::<Vec<u8>>()),
-                _ => Piece::of(event(&mut dice, first.state.clock().ms(), first.state.root_count())),
+                _ => Piece::of(event(&mut dice, first.clock().ms(), first.state().root_count())),
             };
             faulty += usize::from(next.event().is_none());
             sent += usize::from(matches!(next.event(), Some(Event::Send(_))));
@@ -46,7 +46,7 @@ fn a_day_in_words_is_the_day_again() {
         let mut kept = first.day.pieces().expect("a reader");
         assert_eq!(pieces, std::iter::from_fn(|| kept.next(Time::START).expect("read")).collect::<Vec<_>>(), "seed {seed}");
         pieces.iter().for_each(|piece| drop(second.pass_piece(piece)));
-        assert_eq!((first.state.memory(), first.day.sum()), (second.state.memory(), second.day.sum()));
+        assert_eq!((first.state().memory(), first.day.sum()), (second.state().memory(), second.day.sum()));
         assert_eq!(in_words::of_day(&second.profile, &second.day), Ok(words.clone()), "written again they are the same bytes");
     }
     assert!(sent > 500 && faulty > 500, "{sent} orders sent away, {faulty} faulty records");

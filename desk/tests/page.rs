@@ -29,7 +29,7 @@ fn sitting(seed: u64) -> Sitting {
     let mut dice = Dice::new(seed);
     let mut sitting = armed(&profile(&mut dice));
     for _ in 0..40 {
-        let next = event(&mut dice, sitting.state.clock().ms(), sitting.state.root_count());
+        let next = event(&mut dice, sitting.clock().ms(), sitting.state().root_count());
         sitting.pass(next);
     }
     sitting

@@ -24,10 +24,10 @@ fn the_library_zeroes_and_lifts_what_the_desk_says() {
         let mut dice = Dice::new(seed);
         let mut sitting = sitting(&profile(&mut dice));
         for _ in 0..60 {
-            let next = event(&mut dice, sitting.state.clock().ms(), sitting.state.root_count());
+            let next = event(&mut dice, sitting.clock().ms(), sitting.state().root_count());
             let (before, is_at_stake) = match next {
-                Event::Order { time, .. } if time >= sitting.state.clock() => (standing(&sitting, time), true),
-                _ => (standing(&sitting, sitting.state.clock()), false),
+                Event::Order { time, .. } if time >= sitting.clock() => (standing(&sitting, time), true),
+                _ => (standing(&sitting, sitting.clock()), false),
             };
             let passed = sitting.pass(next);
             let (Event::Order { time, root, reset }, Ok(_), true) = (next, passed.answer, is_at_stake) else { continue };
@@ -57,7 +57,7 @@ fn the_library_zeroes_and_lifts_what_the_desk_says() {
 fn what_was_only_unlocked_trips_again() {
     let mut sitting = sitting("ABCD,abs_vol,XYZ,100\nABCD,abs_vol,,150,,T");
     let mut line = |line: &str| {
-        let names = desk::typed::names::Names { profile: &sitting.profile, clock: sitting.state.clock() };
+        let names = desk::typed::names::Names { profile: &sitting.profile, clock: sitting.clock() };
         let event = names.event(&desk::typed::command::read(line).expect("a command")).expect("an event").expect("its words");
         let passed = sitting.pass(event);
         desk::answers::answer::answer(&sitting, &passed)

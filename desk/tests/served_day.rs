@@ -20,17 +20,17 @@ fn the_pages_day_is_the_desks_own() {
         let mut plain = Sitting::new(State::armed(text.as_bytes()).expect("accepted"), "profile", text.as_bytes());
         let mut bench = Bench::default();
         bench.arm("profile", text.as_bytes()).expect("armed");
-        let mut memories = vec![plain.state.memory().to_vec()];
+        let mut memories = vec![plain.state().memory().to_vec()];
         let mut lines = Vec::new();
         for _ in 0..40 {
-            let next = event(&mut dice, plain.state.clock().ms(), plain.state.root_count());
-            if next.root().is_some_and(|root| root.number() >= plain.state.root_count()) {
+            let next = event(&mut dice, plain.clock().ms(), plain.state().root_count());
+            if next.root().is_some_and(|root| root.number() >= plain.state().root_count()) {
                 continue;
             }
             let passed = plain.pass(next);
             let Ok(Said::Event(entry)) = bench.line(&typed(&plain.profile, &next)) else { panic!("an event") };
             assert_eq!(format!("{}  [{}]", entry.words, entry.numbers), answer::answer(&plain, &passed));
-            memories.push(plain.state.memory().to_vec());
+            memories.push(plain.state().memory().to_vec());
             lines.push(entry);
         }
         if lines.is_empty() {
@@ -42,7 +42,7 @@ fn the_pages_day_is_the_desks_own() {
             let place = dice.below(last as u64 + 1) as usize;
             bench.go(place).expect("there is such a place");
             let sitting = bench.sitting.as_ref().expect("armed");
-            assert_eq!(sitting.state.memory(), &memories[place][..], "seed {seed}, place {place}");
+            assert_eq!(sitting.state().memory(), &memories[place][..], "seed {seed}, place {place}");
             assert_eq!((bench.log.as_slice(), bench.undone.len(), sitting.sources.typed), (&lines[..place], last - place, place));
             assert_eq!(bench.is_unsaved(), place > 0 && place < last);
         }
@@ -50,7 +50,7 @@ fn the_pages_day_is_the_desks_own() {
         assert_eq!(bench.save().expect("saved"), saved);
         bench.clear().expect("cleared");
         bench.bring_back().expect("brought back");
-        assert_eq!(bench.sitting.as_ref().expect("armed").state.memory(), &memories[last][..]);
+        assert_eq!(bench.sitting.as_ref().expect("armed").state().memory(), &memories[last][..]);
         // a file's records give the same day
         let mut again = Bench::default();
         again.arm("profile", text.as_bytes()).expect("armed");

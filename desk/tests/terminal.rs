@@ -29,10 +29,10 @@ fn tables_fit_80_columns() {
         let mut dice = Dice::new(seed);
         let mut sitting = sitting(&profile(&mut dice));
         for _ in 0..20 {
-            let next = event(&mut dice, sitting.state.clock().ms(), sitting.state.root_count());
+            let next = event(&mut dice, sitting.clock().ms(), sitting.state().root_count());
             sitting.pass(next);
         }
-        let text = table::rules(&sitting, sitting.state.clock(), Shown::All).expect("a table");
+        let text = table::rules(&sitting, sitting.clock(), Shown::All).expect("a table");
         assert!(widest(&text) <= 80, "{text}");
         assert_eq!(text.lines().filter(|line| line.ends_with('%')).count(), sitting.profile.counts.len(), "{text}");
     }

@@ -103,7 +103,7 @@ fn ordered(sitting: &Sitting, root: Root, reset: Reset, verdict: Verdict) -> Str
 /// What to type after a refusal.
 fn advice(sitting: &Sitting, passed: &Passed, refusal: Refusal) -> String {
     match (refusal, &passed.event) {
-        (Refusal::BadTime, _) => format!("; type {} or a later time", words::time(sitting.state.clock())),
+        (Refusal::BadTime, _) => format!("; type {} or a later time", words::time(sitting.clock())),
         (_, Some(event)) => away::advice(&sitting.away, event, refusal),
         (_, None) => String::new(),
     }

@@ -1,5 +1,6 @@
 //! Why something is locked, in words.
 
+use crate::profile::level;
 use crate::session::sitting::Sitting;
 use mbrumzheg::{Marks, Root, Verdict};
 
@@ -7,8 +8,8 @@ use mbrumzheg::{Marks, Root, Verdict};
 pub fn rejected(sitting: &Sitting, verdict: Verdict, root: Root) -> String {
     let text = verdict.text().map_or_else(String::new, |text| text.to_string());
     let (what, marks) = match verdict {
-        Verdict::FirmLocked => (format!("firm {}", sitting.profile.firm), sitting.state.firm_marks()),
-        _ => (format!("root {}", sitting.profile.root_name(root.number())), sitting.state.root_marks(root)),
+        Verdict::FirmLocked => (format!("firm {}", sitting.profile.firm), sitting.marks(0)),
+        _ => (format!("root {}", sitting.profile.root_name(root.number())), sitting.marks(level(root, false))),
     };
     format!("rejected, {what} is {} ({text})", why_locked(marks))
 }

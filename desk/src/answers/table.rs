@@ -25,7 +25,7 @@ pub fn rules(sitting: &Sitting, time: Time, shown: Shown) -> Result<String, Stri
 
 /// What the library says of a rule and a unit.
 fn row(sitting: &Sitting, time: Time, rule: u64, unit: UnitOfRoot) -> Result<Row, Refusal> {
-    let left = sitting.state.remaining(time, rule, unit)?;
+    let left = sitting.remaining(time, rule, unit)?;
     let known = sitting.profile.rules.get(rule as usize);
     let (rule, count) = known.and_then(|rule| sitting.profile.count(rule.place_of(unit))).ok_or(Refusal::Unknown)?;
     let used = sitting.used(time, rule, count, left).all;
@@ -45,7 +45,7 @@ fn row(sitting: &Sitting, time: Time, rule: u64, unit: UnitOfRoot) -> Result<Row
 fn advice(sitting: &Sitting, refusal: Refusal, shown: Shown) -> String {
     let profile = &sitting.profile;
     match (refusal, shown) {
-        (Refusal::BadTime, _) => format!("; type remaining, or a time from {} on", words::time(sitting.state.clock())),
+        (Refusal::BadTime, _) => format!("; type remaining, or a time from {} on", words::time(sitting.clock())),
         (Refusal::Unknown, Shown::Rule(number, _)) => match profile.rules.get(number as usize) {
             Some(rule) => {
                 let units = if rule.scope == Scope::Firm { ", all units together" } else { " alone" };
@@ -70,10 +70,9 @@ fn locks(sitting: &Sitting, shown: Shown) -> Vec<String> {
 
 /// The clock, the firm and the roots, with Status's numbers.
 pub fn status(sitting: &Sitting) -> Result<String, Refusal> {
-    let status = sitting.state.status()?;
+    let status = sitting.status()?;
     let named = |wanted: fn(Marks) -> bool| {
-        let names: Vec<String> =
-            sitting.state.roots().filter(|(root, _)| wanted(sitting.state.root_marks(*root))).map(|(_, name)| name.to_string()).collect();
+        let names = sitting.roots_with(wanted);
         if names.is_empty() {
             "none".to_string()
         } else {
@@ -83,10 +82,10 @@ pub fn status(sitting: &Sitting) -> Result<String, Refusal> {
     let lowest = status.lowest_locked.map_or(64, |root| root.number());
     let text = format!(
         "clock {}, {} passed\nfirm {}: {}\nroots tripped: {}; locked by hand: {}; locked at all: {}  [{} {} {} {lowest}]",
-        words::time(sitting.state.clock()),
+        words::time(sitting.clock()),
         counted(sitting.place, "event"),
         sitting.profile.firm,
-        why_locked(sitting.state.firm_marks()),
+        why_locked(sitting.marks(0)),
         named(|marks| marks.tripped),
         named(|marks| marks.locked_by_user),
         named(Marks::locked),

@@ -136,7 +136,7 @@ impl Desk {
     /// Passes the event that a command asks for.
     fn pass(&mut self, command: &Command) -> Result<String, String> {
         let sitting = self.sitting()?;
-        let names = Names { profile: &sitting.profile, clock: sitting.state.clock() };
+        let names = Names::of(sitting);
         let Some(event) = names.event(command) else { return Ok(String::new()) };
         let passed = sitting.pass(event?);
         Ok(answer::answer(sitting, &passed))
@@ -144,7 +144,7 @@ impl Desk {
 
     fn remaining(&mut self, words: &[String]) -> Result<String, String> {
         let sitting = self.sitting()?;
-        let (time, shown) = Names { profile: &sitting.profile, clock: sitting.state.clock() }.table(words)?;
+        let (time, shown) = Names::of(sitting).table(words)?;
         table::rules(sitting, time, shown)
     }
 
@@ -154,7 +154,7 @@ impl Desk {
         }
         if let Bench::Armed(sitting) = std::mem::take(&mut self.bench) {
             self.caution.lose(sitting.unsaved);
-            self.bench = Bench::Unarmed(sitting.state.clear());
+            self.bench = Bench::Unarmed(sitting.clear());
         }
         Ok("cleared: the unit holds no rules, and nothing may pass until it is armed  [0]".to_string())
     }

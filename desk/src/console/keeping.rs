@@ -34,13 +34,13 @@ pub fn save(sitting: &mut Sitting, Kept { file, over }: &Kept, in_words: bool) -
     Ok(text)
 }
 
-/// The rules that the unit runs, as a profile has them.
+/// The active rules as a profile has them.
 pub fn profile(sitting: &Sitting) -> Result<String, String> {
     let text = sitting.active()?;
     Ok(text.trim_end().to_string())
 }
 
-/// Writes them to a file, which arms a unit with the same rules.
+/// Writes them to a file, which arms a state with the same rules.
 pub fn save_profile(sitting: &Sitting, Kept { file, over }: &Kept) -> Result<String, String> {
     let text = sitting.active()?;
     disk::write_text(file, "profile", &text, *over)?;
@@ -55,7 +55,7 @@ pub fn save_account(sitting: &Sitting, Kept { file, over }: &Kept) -> Result<Str
 
 /// Writes a page on the day, or on a stretch of it, to a file.
 pub fn report(sitting: &Sitting, file: &str, stretch: Option<(String, String)>) -> Result<String, String> {
-    let names = Names { profile: &sitting.profile, clock: sitting.state.clock() };
+    let names = Names::of(sitting);
     let stretch = stretch.map(|(from, to)| names.stretch(&from, &to)).transpose()?;
     if sitting.place == 0 {
         return Err("there is nothing to report yet; type offer, order, lock or replay first".to_string());
@@ -91,11 +91,11 @@ fn pass_all(
     quiet: bool,
     out: &mut dyn Write,
 ) -> io::Result<Result<String, String>> {
-    let clock = sitting.state.clock();
+    let clock = sitting.clock();
     let (mut sums, mut late) = (Sums::default(), false);
     sitting.sources.replayed.push(file.to_string());
     loop {
-        let piece = match pieces.next(sitting.state.clock()) {
+        let piece = match pieces.next(sitting.clock()) {
             Ok(Some(piece)) => piece,
             Ok(None) => break,
             Err(why) => {

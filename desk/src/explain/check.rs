@@ -1,4 +1,4 @@
-//! A profile looked at before or after it arms a unit: its rules in words and warnings, or what is wrong and where.
+//! A profile looked at before or after it arms a state: its rules in words and warnings, or what is wrong and where.
 
 use crate::explain;
 use crate::library::state::State;
@@ -25,19 +25,19 @@ pub fn check(name: &str, text: &[u8]) -> Result<String, String> {
     }
 }
 
-/// Why a profile arms no unit, with the library's numbers.
+/// Why a profile arms no state, with the library's numbers.
 pub fn refused(text: &[u8], why: ArmRefusal) -> String {
     format!("{}\nnot armed  {}", explain::refused(text, why), numbers(why))
 }
 
-/// What a unit was armed with, with at most so many rules in words.
+/// What a state was armed with, with at most so many rules in words.
 pub fn armed(profile: &Profile, most: usize) -> String {
     let (firm, rules, roots) = (&profile.firm, profile.rules.len(), profile.roots.len());
     let head = format!("armed for firm {firm}, {}  [armed {firm} {rules} {roots}]", sizes(profile));
     format!("{head}\n{}", said(profile, most))
 }
 
-/// Why a unit was not armed, and what to do.
+/// Why a state was not armed, and what to do.
 pub fn not_armed(file: &str, text: &[u8], why: ArmRefusal) -> String {
     let mend = match why.line {
         Some(line) => format!("mend line {line} of {file}"),

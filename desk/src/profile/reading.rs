@@ -11,7 +11,7 @@ use mbrumzheg::Offer;
 /// A profile that was accepted.
 #[derive(Clone, Debug, Default, PartialEq, Eq)]
 pub struct Profile {
-    /// The text that the unit was armed from.
+    /// The text that a state was armed from.
     pub text: Vec<u8>,
     /// The firm's name.
     pub firm: String,

@@ -7,7 +7,7 @@ use std::io::{self, Read};
 
 /// What gives pieces.
 pub trait Source {
-    /// The next piece, where the unit's clock stands at a time; nothing at the end, or why it cannot be had.
+    /// The next piece, where the state's clock stands at a time; nothing at the end, or why it cannot be had.
     fn next(&mut self, clock: Time) -> Result<Option<Piece>, String>;
 }
 

@@ -50,7 +50,7 @@ impl Day {
         let state = State::armed(&profile.text).map_err(|refused| refused.to_string())?;
         let mut sitting = Sitting::new(state, "", &profile.text);
         let mut day = Day::of_counts(profile, stretch);
-        while let Some(piece) = from.next(sitting.state.clock())? {
+        while let Some(piece) = from.next(sitting.clock())? {
             let passed = sitting.answer_piece(&piece, &mut day.curves);
             day.take(&sitting, &passed);
             progress.step();

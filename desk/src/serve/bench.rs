@@ -24,7 +24,7 @@ pub(crate) type Typed = (Piece, bool);
 pub struct Bench {
     /// The profile's name and text, whether or not it is armed.
     pub profile: (String, Vec<u8>),
-    /// The day, if the unit is armed.
+    /// The day, if the state is armed.
     pub sitting: Option<Sitting>,
     /// A line for each of its records.
     pub log: Vec<Entry>,
@@ -57,7 +57,7 @@ impl Bench {
         Bench { profile: (name.to_string(), text), ..Bench::default() }
     }
 
-    /// Arms the unit from a profile.
+    /// Arms a state from a profile.
     pub fn arm(&mut self, name: &str, text: &[u8]) -> Result<String, String> {
         if let Some(sitting) = &self.sitting {
             return Err(format!("armed already for {} (refusal 3); clear it first", sitting.profile.firm));
@@ -70,7 +70,7 @@ impl Bench {
         Ok(words)
     }
 
-    /// Sets the unit to zeros; the day can be brought back.
+    /// Gives the state up; the day can be brought back.
     pub fn clear(&mut self) -> Result<String, String> {
         self.armed()?;
         let profile = self.profile.clone();
@@ -97,7 +97,7 @@ impl Bench {
     /// Carries out a line as it would be typed at the desk: an event, or a question.
     pub fn line(&mut self, line: &str) -> Result<Said, String> {
         let sitting = self.armed()?;
-        let names = Names { profile: &sitting.profile, clock: sitting.state.clock() };
+        let names = Names::of(sitting);
         let command = command::read(line)?;
         if let Some(event) = names.event(&command) {
             return self.event(event?).map(Said::Event);
@@ -138,7 +138,7 @@ impl Bench {
         Err(format!("the page takes at most {}; for a longer day use desk report", counted(MOST_EVENTS, "event")))
     }
 
-    /// Passes a piece on an armed unit.
+    /// Passes a piece on the armed state.
     pub(crate) fn pass(&mut self, piece: &Piece, typed: bool) -> Entry {
         let Some(sitting) = self.sitting.as_mut() else { unreachable!("only an armed desk passes events") };
         sitting.sources.typed += usize::from(typed);
@@ -154,7 +154,7 @@ impl Bench {
         self.armed().map(|sitting| evening::csv(&sitting.profile, &sitting.account))
     }
 
-    /// The rules that the unit runs, as a profile's text.
+    /// The active rules as a profile's text.
     pub fn active(&self) -> Result<String, String> {
         self.armed()?.active()
     }

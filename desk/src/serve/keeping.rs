@@ -102,7 +102,7 @@ impl Bench {
 /// The pieces of a file, each read at the clock that those before it leave, on a copy of the state; and what its length says of the last.
 fn read(sitting: &Sitting, bytes: &[u8], form: Form) -> Result<(Vec<Piece>, Option<String>), String> {
     let Opened { pieces: mut from, remark, .. } = opened::of_file(bytes, Some(bytes.len() as u64), form, &sitting.profile)?;
-    let (mut state, mut account) = (sitting.state.copied().ok_or("the unit cannot be copied")?, sitting.account.clone());
+    let (mut state, mut account) = (sitting.state().copied().ok_or("the unit cannot be copied")?, sitting.account.clone());
     let mut pieces = Vec::new();
     while let Some(piece) = from.next(state.clock())? {
         // what is refused leaves the clock as it is

@@ -46,8 +46,7 @@ pub fn log(bench: &Bench, to: usize) -> String {
 }
 
 fn armed(sitting: &Sitting, at: &str) -> Result<String, String> {
-    let clock = sitting.state.clock();
-    let names = Names { profile: &sitting.profile, clock };
+    let names = Names::of(sitting);
     let typed: Vec<String> = if at.is_empty() { Vec::new() } else { vec![at.to_string()] };
     let (time, _) = names.table(&typed)?;
     let mut rules = Vec::new();
@@ -56,12 +55,12 @@ fn armed(sitting: &Sitting, at: &str) -> Result<String, String> {
         rules.push(of_count(sitting, rule, count, sitting.used(time, rule, count, left), left));
     }
     let levels = (0..=sitting.profile.roots.len()).map(|level| of_level(sitting, level));
-    let status = sitting.state.status().map_err(|refusal| refusal.to_string())?;
+    let status = sitting.status().map_err(|refusal| refusal.to_string())?;
     let lowest = status.lowest_locked.map_or(64, |root| root.number());
     Ok(object(&[
         ("firm", text(&sitting.profile.firm)),
         ("roots", list(sitting.profile.roots.iter().map(|name| text(name)))),
-        ("clock", text(&words::time(clock))),
+        ("clock", text(&words::time(names.clock))),
         ("at", text(&words::time(time))),
         ("status", list([status.tripped, status.locked_by_user, status.locked, lowest].map(|number| number.to_string()))),
         ("levels", list(levels)),

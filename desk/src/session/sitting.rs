@@ -1,7 +1,7 @@
 //! An armed state with the profile that it was armed from and the day that it was passed.
 
 use crate::library::piece::Piece;
-use crate::library::state::State;
+use crate::library::state::{Cleared, State};
 use crate::profile::{level, Count, Profile, Rule};
 use crate::records::spool::Spool;
 use crate::session::ledger::{Ledger, Used, Watch};
@@ -9,12 +9,11 @@ use crate::session::passed::Passed;
 use crate::session::register::Register;
 use crate::session::resets;
 use crate::session::standing::Standing;
-use mbrumzheg::{Account, Answer, Event, Level, Marks, Offer, Refusal, Report, Root, Time, Verdict};
+use mbrumzheg::{Account, Answer, Event, Level, Marks, Offer, Refusal, Report, Root, Status, Time, UnitOfRoot, Verdict};
 
 /// An armed state and what the desk remembers of its day.
 pub struct Sitting {
-    /// The state.
-    pub state: State,
+    state: State,
     /// What it was armed from.
     pub profile: Profile,
     /// Every piece passed, refused and faulty ones too, so that a replay gives the same lines.
@@ -53,6 +52,31 @@ impl Sitting {
         let sources = Sources { profile: file.to_string(), ..Sources::default() };
         let (day, away, account) = Default::default();
         Sitting { state, profile, day, place: 0, unsaved: 0, sources, standing, away, account, ledger }
+    }
+
+    /// The state, to be looked at.
+    pub fn state(&self) -> &State {
+        &self.state
+    }
+
+    /// The time of the last event that was not refused.
+    pub fn clock(&self) -> Time {
+        self.state.clock()
+    }
+
+    /// How many roots are tripped, locked by hand and locked at all, and the lowest that is locked.
+    pub fn status(&self) -> Result<Status, Refusal> {
+        self.state.status()
+    }
+
+    /// The names of the roots whose marks are such.
+    pub fn roots_with(&self, wanted: fn(Marks) -> bool) -> Vec<String> {
+        self.state.roots().filter(|(root, _)| wanted(self.state.root_marks(*root))).map(|(_, name)| name.to_string()).collect()
+    }
+
+    /// Ends the day: the state without its rules.
+    pub fn clear(self) -> Cleared {
+        self.state.clear()
     }
 
     /// The active rules as a profile's text, as the library writes it.
@@ -199,9 +223,14 @@ impl Sitting {
         self.profile.each_count().filter(differs).map(|(_, count)| count.place).collect()
     }
 
+    /// What the library says is left of a rule, by its number, at a time for one of a root's units.
+    pub fn remaining(&self, time: Time, rule: u64, unit: UnitOfRoot) -> Result<u64, Refusal> {
+        self.state.remaining(time, rule, unit)
+    }
+
     /// What is left of a rule at a time, in one of its counts.
     pub fn left(&self, time: Time, count: &Count) -> Result<u64, Refusal> {
-        self.state.remaining(time, count.rule as u64, count.asked_unit())
+        self.remaining(time, count.rule as u64, count.asked_unit())
     }
 
     /// The least allowance, by the library's own numbers, of the rules that cover an offer: what it should grant.

@@ -1,4 +1,4 @@
-//! The words after offer, order and lock, made into events with the profile's names and the unit's clock.
+//! The words after offer, order and lock, made into events with the profile's names and the state's clock.
 
 use crate::typed::command::Command;
 use crate::typed::names::{unit, Names};

@@ -1,19 +1,25 @@
 //! What typed words are read against: the names of a profile and the time of a clock.
 
 use crate::profile::Profile;
+use crate::session::sitting::Sitting;
 use crate::words::{self, listed, shortened};
 use mbrumzheg::{Root, Time, UnitOfRoot};
 
 /// What words are read against: the names of the profile and the time of the clock.
 #[derive(Clone, Copy)]
 pub struct Names<'a> {
-    /// The profile that the unit was armed from.
+    /// The profile that the state was armed from.
     pub profile: &'a Profile,
-    /// The unit's clock.
+    /// The state's clock.
     pub clock: Time,
 }
 
 impl Names<'_> {
+    /// The names and the clock of a sitting.
+    pub fn of(sitting: &Sitting) -> Names<'_> {
+        Names { profile: &sitting.profile, clock: sitting.clock() }
+    }
+
     /// The first and last time of a stretch, in milliseconds.
     pub fn stretch(&self, from: &str, to: &str) -> Result<(u64, u64), String> {
         let (from, to) = (self.time(from)?.ms(), self.time(to)?.ms());

@@ -26,7 +26,7 @@ pub fn time(time: Time) -> String {
 /// How a time may be typed, for error messages.
 pub const TIME_FORMS: &str = "a time like 10ms, 250us, 2.5s, 09:30, 09:30:00.250, now, or +10ms for 10 ms after the clock";
 
-/// Reads a time: from midnight, of the clock's face, or from the unit's clock.
+/// Reads a time: from midnight, of the clock's face, or from a state's clock.
 pub fn read_time(word: &str, clock: Time) -> Result<Time, String> {
     let wrong = || format!("'{word}' is no time; type {TIME_FORMS}");
     let us = match word.strip_prefix('+') {

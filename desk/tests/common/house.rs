@@ -5,7 +5,7 @@ use std::collections::{BTreeMap, BTreeSet};
 use std::path::Path;
 
 /// What every room may name of the library's crate: values, which call nothing on a state or a record.
-const VALUES: [&str; 22] = [
+const VALUES: [&str; 23] = [
     "Account",
     "Answer",
     "ArmRefusal",
@@ -25,6 +25,7 @@ const VALUES: [&str; 22] = [
     "Reset",
     "Root",
     "Sending",
+    "Status",
     "Time",
     "UnitOfRoot",
     "Verdict",
