@@ -3,5 +3,5 @@
 use std::process::ExitCode;
 
 fn main() -> ExitCode {
-    desk::program::main(desk::lines::by_the_terminal)
+    desk::program::main(desk::console::lines::by_the_terminal)
 }

@@ -1,18 +1,18 @@
 //! The program: its arguments, and what it ends with.
 
-use crate::asked::Names;
-use crate::check;
-use crate::command::{Kept, Move};
-use crate::form::Form;
-use crate::given;
-use crate::help;
-use crate::lines::{run, Ended, Manner};
-use crate::moving;
-use crate::paint;
+use crate::console::lines::{run, Ended, Manner};
+use crate::console::paint;
+use crate::explain::check;
+use crate::files::given;
+use crate::files::moving;
+use crate::library::form::Form;
 use crate::profile::Profile;
 use crate::report;
 use crate::serve;
-use crate::table::counted;
+use crate::typed::command::{Kept, Move};
+use crate::typed::help;
+use crate::typed::names::Names;
+use crate::words::counted;
 use mbrumzheg::Time;
 use std::io::{self, BufReader, IsTerminal, Write};
 use std::process::ExitCode;

@@ -4,15 +4,15 @@ mod common;
 mod days;
 use common::{event, profile, Dice};
 use days::{day, sitting};
-use desk::answer;
-use desk::asked::Names;
-use desk::command;
-use desk::counts::Count;
-use desk::ledger::Used;
-use desk::profile::{Profile, Rule, Scope};
-use desk::scale::Curve;
-use desk::sitting::Sitting;
-use desk::source::Source;
+use desk::answers::answer;
+use desk::profile::{Count, Profile, Rule, Scope};
+use desk::records::source::Source;
+use desk::replay::scale::Curve;
+use desk::session::ledger::Used;
+use desk::session::sitting::Sitting;
+use desk::typed::command;
+use desk::typed::names::Names;
+use desk::typed::spoken::typed;
 use mbrumzheg::{Event, Offer, Refusal, Reset, Time, UnitOfRoot, Verdict};
 
 #[test]
@@ -20,9 +20,9 @@ fn the_reading_of_an_accepted_profile_is_the_librarys() {
     for seed in 0..2_000 {
         let text = profile(&mut Dice::new(seed));
         let sitting = sitting(&text);
-        assert_eq!(sitting.unit.firm().as_str(), sitting.profile.firm);
-        assert_eq!(sitting.unit.rule_count(), sitting.profile.rules.len() as u64);
-        let names: Vec<String> = sitting.unit.roots().map(|(_, name)| name.to_string()).collect();
+        assert_eq!(sitting.state().firm().as_str(), sitting.profile.firm);
+        assert_eq!(sitting.state().rule_count(), sitting.profile.rules.len() as u64);
+        let names: Vec<String> = sitting.state().roots().map(|(_, name)| name.to_string()).collect();
         assert_eq!(names, sitting.profile.roots, "{text}");
         for (rule, count) in sitting.profile.each_count() {
             assert_eq!(sitting.left(Time::START, count), Ok(rule.limit), "{text}");
@@ -32,7 +32,7 @@ fn the_reading_of_an_accepted_profile_is_the_librarys() {
         let known: Vec<(u64, UnitOfRoot)> = sitting.profile.counts.iter().map(|count| (count.rule as u64, count.asked_unit())).collect();
         for (rule, unit) in (0..=rules).flat_map(|rule| UnitOfRoot::ALL.map(|unit| (rule, unit))) {
             let wanted = if known.contains(&(rule, unit)) { None } else { Some(Refusal::Unknown) };
-            assert_eq!(sitting.unit.remaining(Time::START, rule, unit).err(), wanted, "rule {rule}, {unit}\n{text}");
+            assert_eq!(sitting.remaining(Time::START, rule, unit).err(), wanted, "rule {rule}, {unit}\n{text}");
         }
     }
 }
@@ -44,7 +44,7 @@ fn the_rules_that_cut_are_those_that_the_grant_shows() {
         let mut dice = Dice::new(seed);
         let mut sitting = sitting(&profile(&mut dice));
         for _ in 0..60 {
-            let next = event(&mut dice, sitting.unit.clock().ms(), sitting.unit.root_count());
+            let next = event(&mut dice, sitting.clock().ms(), sitting.state().root_count());
             let Event::Offer(offer) = next else {
                 sitting.pass(next);
                 assert_eq!(sitting.differences(), [], "what the desk reckons is what the library answers");
@@ -81,7 +81,7 @@ fn a_replayed_day_has_the_same_answers() {
         let (mut first, mut second) = (sitting(&text), sitting(&text));
         let mut lines = Vec::new();
         for _ in 0..60 {
-            let next = event(&mut dice, first.unit.clock().ms(), first.unit.root_count());
+            let next = event(&mut dice, first.clock().ms(), first.state().root_count());
             let passed = first.pass(next);
             lines.push(answer::replayed(&first, &passed));
         }
@@ -92,7 +92,7 @@ fn a_replayed_day_has_the_same_answers() {
             again.push(answer::replayed(&second, &passed));
         }
         assert_eq!(lines, again);
-        assert_eq!(first.unit.memory(), second.unit.memory());
+        assert_eq!(first.state().memory(), second.state().memory());
     }
 }
 
@@ -106,7 +106,7 @@ fn an_event_typed_as_it_is_shown_is_the_same_event() {
         if asked.root().is_some_and(|root| root.number() > 3) {
             continue;
         }
-        let shown = answer::typed(&profile, &asked);
+        let shown = typed(&profile, &asked);
         let names = Names { profile: &profile, clock: Time::START };
         let typed = names.event(&command::read(&shown).expect("a command")).expect("an event");
         assert_eq!(typed, Ok(asked), "{shown}");
@@ -147,8 +147,8 @@ fn the_page_draws_the_use_that_the_grants_make() {
         // what each count had used just after each moment of the day
         let mut seen: Vec<(u64, Vec<Used>)> = Vec::new();
         for _ in 0..50 {
-            let before = sitting.unit.clock().ms();
-            let next = event(&mut dice, before, sitting.unit.root_count());
+            let before = sitting.clock().ms();
+            let next = event(&mut dice, before, sitting.state().root_count());
             let passed = sitting.pass(next);
             let Ok(answer) = passed.answer else { continue };
             let now = next.time().ms();
@@ -173,7 +173,7 @@ fn the_page_draws_the_use_that_the_grants_make() {
             seen.push((now, all_used(&sitting, &fills, now)));
         }
         // a stretch short enough has a bucket for each millisecond, so what is drawn there is exact
-        let last = sitting.unit.clock().ms();
+        let last = sitting.clock().ms();
         for from in (0..=last).step_by(2_048) {
             let part = day(&sitting, Some((from, from + 2_047)));
             assert_eq!(part.curves.scale.map(|scale| scale.width), Some(1));

@@ -4,17 +4,17 @@ mod common;
 mod days;
 use common::{event, profile, Dice};
 use days::{day, sitting};
-use desk::answer;
-use desk::asked::Names;
-use desk::command;
-use desk::figures;
-use desk::marks::Kind;
-use desk::sitting::Sitting;
+use desk::answers::answer;
+use desk::replay::marks::Kind;
+use desk::report::figures;
+use desk::session::sitting::Sitting;
+use desk::typed::command;
+use desk::typed::names::Names;
 use mbrumzheg::{Event, Refusal, Time};
 
 /// What a line is answered.
 fn said(sitting: &mut Sitting, line: &str) -> String {
-    let names = Names { profile: &sitting.profile, clock: sitting.unit.clock() };
+    let names = Names { profile: &sitting.profile, clock: sitting.clock() };
     let event = names.event(&command::read(line).expect("a command")).expect("an event").unwrap_or_else(|why| panic!("{line}: {why}"));
     let passed = sitting.pass(event);
     assert_eq!(sitting.differences(), [], "{line}");
@@ -61,7 +61,7 @@ fn what_comes_back_is_counted_past_a_limit_and_under_a_lock() {
     assert_eq!((day.marks[0].count(Kind::Back), day.lanes[1].marks.count(Kind::Back), day.marks[4].count(Kind::Back)), (3, 3, 3));
     assert_eq!(day.orders.iter().map(|(order, closed)| (order.back(), *closed)).collect::<Vec<_>>(), [(250, Some(40))]);
     // once its window has passed, the firm's rule counts nothing of it
-    let (clock, later) = (sitting.unit.clock(), Time::from_ms(1_030).expect("a time"));
+    let (clock, later) = (sitting.clock(), Time::from_ms(1_030).expect("a time"));
     let used = |time| sitting.reckoned(time, &sitting.profile.counts[4]);
     assert_eq!((used(clock).all, used(clock).away, used(later).all), (5_000_000, 5_000_000, 0));
 }
@@ -117,7 +117,7 @@ fn a_log_without_room_says_what_keeps_it() {
     assert_eq!(said(&mut sitting, "away 1ms XYZ call front 1 1 99 1"), format!("{full}, allow fewer reports{kept}  [49 15 0 0 0 0]"));
     assert_eq!(said(&mut sitting, "close 1ms 3"), "order 3 closed, 0 of 16 had come back, 16 log places free again  [50 0 0 0 0 0]");
     assert!(said(&mut sitting, "offer 1ms XYZ call front 1 1").starts_with("granted all 1"));
-    assert!(desk::table::status(&sitting).expect("a status").contains("\n30 orders sent away and open, 480 log places kept\n  order 0: 0 of 16 came back on XYZ call front at $1.00, 16 contracts open and 16 reports left\n"));
+    assert!(desk::answers::table::status(&sitting).expect("a status").contains("\n30 orders sent away and open, 480 log places kept\n  order 0: 0 of 16 came back on XYZ call front at $1.00, 16 contracts open and 16 reports left\n"));
 }
 
 #[test]
@@ -131,9 +131,9 @@ fn a_share_past_all_measure_fits_its_table() {
         assert!(said(&mut sitting, &format!("close {turn}ms 1")).starts_with("order 1 closed, 1,000,000 of 1,000,000"));
         assert!(said(&mut sitting, &format!("order {turn}ms XYZ reset t")).starts_with("root XYZ unlocked"));
     }
-    let used = sitting.reckoned(sitting.unit.clock(), &sitting.profile.counts[0]);
+    let used = sitting.reckoned(sitting.clock(), &sitting.profile.counts[0]);
     assert_eq!((used.all, used.away), (2_000_000_000_000_000, 2_000_000_000_000_000));
-    let table = desk::table::rules(&sitting, sitting.unit.clock(), desk::shown::Shown::All).expect("a table");
+    let table = desk::answers::table::rules(&sitting, sitting.clock(), desk::typed::shown::Shown::All).expect("a table");
     assert!(table.lines().all(|line| line.chars().count() <= 80) && table.contains(">999%"), "{table}");
 }
 
@@ -141,7 +141,7 @@ fn a_share_past_all_measure_fits_its_table() {
 fn a_total_is_held_where_the_library_holds_it() {
     let mut sitting = sitting("ABCD,abs_ntnl,XYZ,100000000000");
     let event = |line: &str, sitting: &Sitting| {
-        let names = Names { profile: &sitting.profile, clock: sitting.unit.clock() };
+        let names = Names { profile: &sitting.profile, clock: sitting.clock() };
         names.event(&command::read(line).expect("a command")).expect("an event").expect("its words")
     };
     let lines = ["away 0ms XYZ call front 10000 1000000 1 1", "back 0ms 1 1000000", "close 0ms 1", "order 0ms XYZ reset t"];
@@ -150,13 +150,13 @@ fn a_total_is_held_where_the_library_holds_it() {
     for turn in 1..=10_003u64 {
         let trips: Vec<bool> = events.iter().map(|event| sitting.pass(*event).answer.expect("not refused").root_trip).collect();
         assert_eq!(trips, [false, turn >= 10, false, false], "turn {turn}");
-        let used = sitting.reckoned(sitting.unit.clock(), &sitting.profile.counts[0]);
+        let used = sitting.reckoned(sitting.clock(), &sitting.profile.counts[0]);
         assert_eq!((used.all, used.away), ((turn * 100_000_000_000_000).min(1_000_000_000_000_000_000), used.all), "turn {turn}");
     }
     assert_eq!(sitting.differences(), []);
     // the page's numbers are as large
     let day = day(&sitting, None);
-    let json = desk::export::json(&sitting.profile, &day, &desk::report::Made::at_the_desk(&sitting));
+    let json = desk::report::export::json(&sitting.profile, &day, &desk::report::Made::at_the_desk(&sitting));
     assert!(json.contains("\"most_used\":1000000000000000000,") && json.contains("\"most_past_limit\":999000000000000000"), "{json}");
 }
 
@@ -167,8 +167,8 @@ fn the_register_is_the_librarys() {
         let mut dice = Dice::new(seed);
         let mut sitting = sitting(&profile(&mut dice));
         for _ in 0..80 {
-            let next = event(&mut dice, sitting.unit.clock().ms(), sitting.unit.root_count());
-            let is_late = next.time() < sitting.unit.clock();
+            let next = event(&mut dice, sitting.clock().ms(), sitting.state().root_count());
+            let is_late = next.time() < sitting.clock();
             let order = |identity| sitting.away.order(identity);
             // what the desk's register says will happen to it
             let wanted = match next {
@@ -179,7 +179,7 @@ fn the_register_is_the_librarys() {
                     Some(_) => None,
                 },
                 Event::Close(closing) => order(closing.identity).is_none().then_some(Refusal::IdentityClash),
-                Event::Send(sending) if !is_late && sending.root.number() < sitting.unit.root_count() => {
+                Event::Send(sending) if !is_late && sending.root.number() < sitting.state().root_count() => {
                     order(sending.identity).is_some().then_some(Refusal::IdentityClash)
                 }
                 _ => {

@@ -1,8 +1,8 @@
 //! What is said of a profile beside the library's answer belongs to that answer, and says the cause.
 mod common;
 use common::{profile, Dice};
-use desk::check::check;
 use desk::explain;
+use desk::explain::check::check;
 use mbrumzheg::{ArmRefusal, Unit};
 
 fn refusal(text: &[u8]) -> Option<ArmRefusal> {

@@ -3,14 +3,13 @@ mod browser;
 mod common;
 use browser::{Browser, Looks};
 use common::{event, profile, Dice};
-use desk::counts::Count;
-use desk::day::Day;
-use desk::figures::face;
-use desk::profile::Rule;
-use desk::progress::Progress;
+use desk::files::progress::Progress;
+use desk::library::state::State;
+use desk::profile::{Count, Rule};
+use desk::replay::day::Day;
+use desk::report::figures::face;
 use desk::report::{self, Made};
-use desk::sitting::Sitting;
-use mbrumzheg::Unit;
+use desk::session::sitting::Sitting;
 use std::fs;
 
 /// What the crosshair should say of a bucket, by the desk's own numbers.
@@ -39,9 +38,9 @@ fn the_crosshair_says_what_the_desk_knows() {
     for seed in 0..3 {
         let mut dice = Dice::new(seed);
         let text = profile(&mut dice);
-        let mut sitting = Sitting::new(Unit::new().arm(&text).expect("accepted"), "profile", text.as_bytes());
+        let mut sitting = Sitting::new(State::armed(text.as_bytes()).expect("accepted"), "profile", text.as_bytes());
         for _ in 0..200 {
-            let next = event(&mut dice, sitting.unit.clock().ms(), sitting.unit.root_count());
+            let next = event(&mut dice, sitting.clock().ms(), sitting.state().root_count());
             sitting.pass(next);
         }
         let mut pieces = sitting.day.pieces().expect("a reader");

@@ -5,10 +5,10 @@ mod common;
 mod days;
 use common::{event, profile, Dice};
 use days::{day, sitting};
-use desk::evening;
+use desk::answers::evening;
 use desk::report::{self, Made};
 use desk::serve::{state, Bench, Said};
-use desk::sitting::Sitting;
+use desk::session::sitting::Sitting;
 use mbrumzheg::{Column, Event, Figures, RECORD16_SIZE};
 use std::fs;
 use std::io::{Read, Write};
@@ -20,7 +20,7 @@ fn passed(seed: u64) -> Sitting {
     let mut dice = Dice::new(seed);
     let mut sitting = sitting(&profile(&mut dice));
     for _ in 0..80 {
-        let next = event(&mut dice, sitting.unit.clock().ms(), sitting.unit.root_count());
+        let next = event(&mut dice, sitting.clock().ms(), sitting.state().root_count());
         sitting.pass(next);
     }
     sitting
@@ -55,7 +55,7 @@ fn orders(sitting: &Sitting) -> u64 {
     let mut again = self::sitting(std::str::from_utf8(&sitting.profile.text).expect("text"));
     let mut pieces = sitting.day.pieces().expect("a reader");
     let mut count = 0;
-    while let Some(piece) = desk::source::Source::next(&mut pieces, again.unit.clock()).expect("read") {
+    while let Some(piece) = desk::records::source::Source::next(&mut pieces, again.clock()).expect("read") {
         let passed = again.answer_piece(&piece, &mut ());
         count += u64::from(passed.answer.is_ok() && matches!(passed.event, Some(Event::Order { .. } | Event::Send(_))));
     }
@@ -106,7 +106,7 @@ fn the_desk_shows_and_saves_it_and_so_does_its_page() {
     assert_eq!(fs::read_to_string(place.join("evening.csv")).expect("saved"), csv);
     let mut bench = Bench::default();
     bench.arm("profile", &fs::read(place.join("profile")).expect("a profile")).expect("armed");
-    bench.replay("day", &fs::read(place.join("day")).expect("saved"), desk::form::Form::New).expect("replayed");
+    bench.replay("day", &fs::read(place.join("day")).expect("saved"), desk::library::form::Form::New).expect("replayed");
     assert_eq!((bench.account(), bench.line("account")), (Ok(csv.to_string()), Ok(Said::Words(table.trim_end().to_string()))));
     assert!(state(&bench, "").expect("a state").contains("[\"firm ABCD\",\"1\",\"1\",\"2\",\"100\",\"$700\",\"1\",\"1\",\"1\"]"));
     // going back takes out what was counted

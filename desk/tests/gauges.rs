@@ -4,8 +4,8 @@ mod common;
 #[path = "browser/json.rs"]
 mod json;
 use common::{event, profile, Dice};
-use desk::answer;
 use desk::serve::{state, Bench};
+use desk::typed::spoken;
 use json::Json;
 use mbrumzheg::Time;
 
@@ -24,20 +24,20 @@ fn a_gauge_shows_what_the_library_answers_for_its_rule_and_unit() {
         bench.arm("profile", text.as_bytes()).expect("armed");
         for _ in 0..40 {
             let sitting = bench.sitting.as_ref().expect("armed");
-            let next = event(&mut dice, sitting.unit.clock().ms(), sitting.unit.root_count());
-            if next.root().is_some_and(|root| root.number() >= sitting.unit.root_count()) {
+            let next = event(&mut dice, sitting.clock().ms(), sitting.state().root_count());
+            if next.root().is_some_and(|root| root.number() >= sitting.state().root_count()) {
                 continue;
             }
-            let typed = answer::typed(&sitting.profile, &next);
+            let typed = spoken::typed(&sitting.profile, &next);
             bench.line(&typed).expect("an event");
         }
         let sitting = bench.sitting.as_ref().expect("armed");
-        let clock = sitting.unit.clock();
+        let clock = sitting.clock();
         for (at, time) in [("", clock), ("+250ms", Time::from_ms(clock.ms() + 250).expect("a time"))] {
             let drawn = gauges(&bench, at);
             assert_eq!(drawn.len(), sitting.profile.counts.len());
             for ((rule, count), gauge) in sitting.profile.each_count().zip(&drawn) {
-                let left = sitting.unit.remaining(time, rule.number as u64, count.asked_unit()).expect("a rule and its unit");
+                let left = sitting.remaining(time, rule.number as u64, count.asked_unit()).expect("a rule and its unit");
                 assert_eq!((gauge.get("number").number(), gauge.get("remaining").number()), (rule.number as i64, left as i64));
                 assert_eq!(gauge.get("of").text(), sitting.profile.scope_words(count.of));
                 let used = sitting.reckoned(time, count);

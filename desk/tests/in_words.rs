@@ -4,18 +4,19 @@ mod common;
 mod days;
 use common::{event, profile, Dice};
 use days::sitting;
-use desk::form::Form;
-use desk::in_words::{self, HEAD};
-use desk::lines::{run, Manner};
-use desk::piece::Piece;
+use desk::console::lines::{run, Manner};
+use desk::files::in_words::{self, HEAD};
+use desk::files::opened::{self, Opened};
+use desk::library::form::Form;
+use desk::library::piece::Piece;
 use desk::profile::Profile;
-use desk::source::{self, Opened, Source};
+use desk::records::source::Source;
 use mbrumzheg::{Event, Time};
 use std::fs;
 
 /// The pieces of some bytes, or why they cannot be read to their end.
 fn read(bytes: &[u8], profile: &Profile) -> Result<(Vec<Piece>, bool), String> {
-    let Opened { pieces: mut from, are_words, .. } = source::of_file(bytes, None, Form::New, profile)?;
+    let Opened { pieces: mut from, are_words, .. } = opened::of_file(bytes, None, Form::New, profile)?;
     let mut pieces = Vec::new();
     while let Some(piece) = from.next(Time::from_ms(7).expect("a time"))? {
         pieces.push(piece);
@@ -33,20 +34,20 @@ fn a_day_in_words_is_the_day_again() {
         for _ in 0..60 {
             let next = match dice.below(12) {
                 0 => Piece::of_bytes(&(0..16).map(|_| dice.below(256) as u8).collect::<Vec<u8>>()),
-                _ => Piece::of(event(&mut dice, first.unit.clock().ms(), first.unit.root_count())),
+                _ => Piece::of(event(&mut dice, first.clock().ms(), first.state().root_count())),
             };
             faulty += usize::from(next.event().is_none());
             sent += usize::from(matches!(next.event(), Some(Event::Send(_))));
             first.pass_piece(&next);
         }
-        let words = first.words().expect("words");
+        let words = in_words::of_day(&first.profile, &first.day).expect("words");
         let (pieces, are_words) = read(&words, &first.profile).expect("every line is an event");
         assert!(are_words, "seed {seed}");
         let mut kept = first.day.pieces().expect("a reader");
         assert_eq!(pieces, std::iter::from_fn(|| kept.next(Time::START).expect("read")).collect::<Vec<_>>(), "seed {seed}");
         pieces.iter().for_each(|piece| drop(second.pass_piece(piece)));
-        assert_eq!((first.unit.memory(), first.day.sum()), (second.unit.memory(), second.day.sum()));
-        assert_eq!(second.words(), Ok(words.clone()), "written again they are the same bytes");
+        assert_eq!((first.state().memory(), first.day.sum()), (second.state().memory(), second.day.sum()));
+        assert_eq!(in_words::of_day(&second.profile, &second.day), Ok(words.clone()), "written again they are the same bytes");
     }
     assert!(sent > 500 && faulty > 500, "{sent} orders sent away, {faulty} faulty records");
 }
@@ -108,7 +109,7 @@ fn the_desk_keeps_and_takes_a_day_in_words() {
     // the figures are the same, and so is the sum, which is that of the day's records
     let figures = |name: &str| fs::read_to_string(place.join(name)).expect("figures");
     spoken("arm @profile\nreplay @day quiet\nsave @records\n");
-    let sum = format!("\"sha256\":\"{}\"", desk::sha256::hex(&fs::read(place.join("records")).expect("saved")));
+    let sum = format!("\"sha256\":\"{}\"", desk::records::sha256::hex(&fs::read(place.join("records")).expect("saved")));
     assert!(figures("typed.json").contains(&sum) && figures("replayed.json").contains(&sum));
     let rest = |name: &str| figures(name).split_once("\"times\"").expect("times").1.to_string();
     assert_eq!(rest("typed.json"), rest("replayed.json"));
@@ -128,7 +129,7 @@ fn what_is_written_is_what_is_typed() {
     let profile = Profile::of_accepted(b"ABCD,abs_vol,XYZ,5");
     let mut out = Vec::new();
     let bytes = [[0xFF; 16].as_slice(), &[1, 2]].concat();
-    let mut opened = source::of_file(&bytes[..], None, Form::New, &profile).expect("memory is read");
+    let mut opened = opened::of_file(&bytes[..], None, Form::New, &profile).expect("memory is read");
     in_words::write(&profile, &mut *opened.pieces, &mut out).expect("memory takes every byte");
     assert_eq!(String::from_utf8_lossy(&out), format!("{HEAD}record {}\nrecord 0102\n", "ff".repeat(16)));
 }

@@ -1,8 +1,8 @@
 //! What the desk keeps: a saved day is never written over by a slip, every record keeps its bytes and its place, and nothing typed is lost without a word.
 mod common;
 use common::{profile, recorded, Dice};
-use desk::form::Form;
-use desk::lines::{run, Ended, Manner};
+use desk::console::lines::{run, Ended, Manner};
+use desk::library::form::Form;
 use mbrumzheg::Event;
 use std::fs;
 use std::path::PathBuf;

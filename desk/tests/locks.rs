@@ -4,8 +4,8 @@ mod common;
 mod days;
 use common::{event, profile, Dice};
 use days::{day, sitting};
-use desk::marks::Kind;
-use desk::piece::Piece;
+use desk::library::piece::Piece;
+use desk::replay::marks::Kind;
 use mbrumzheg::{Event, Level, Reset, Time, Verdict};
 
 #[test]
@@ -13,7 +13,7 @@ fn the_page_marks_what_happened() {
     let mut made = sitting("ABCD,abs_vol,XYZ,1000\nABCD,abs_vol,QQQ,5");
     let mut dice = Dice::new(1);
     for _ in 0..200 {
-        let next = event(&mut dice, made.unit.clock().ms(), 2);
+        let next = event(&mut dice, made.clock().ms(), 2);
         made.pass(next);
     }
     let day = day(&made, None);
@@ -37,7 +37,7 @@ fn locks_have_their_begin_their_cause_and_their_rejections() {
         let mut since = vec![None; sitting.profile.roots.len() + 1];
         let mut rejected = 0;
         for _ in 0..60 {
-            let next = event(&mut dice, sitting.unit.clock().ms(), sitting.unit.root_count());
+            let next = event(&mut dice, sitting.clock().ms(), sitting.state().root_count());
             let passed = sitting.pass(next);
             let Ok(answer) = passed.answer else { continue };
             rejected += u64::from(answer.verdict != Verdict::Free);

@@ -1,6 +1,6 @@
 //! The manual page is well formed, and says what the program has.
 use desk::program::USAGE;
-use desk::topics::COMMANDS;
+use desk::typed::topics::COMMANDS;
 use std::process::{Command, Stdio};
 
 const PAGE: &str = include_str!("../desk.1");

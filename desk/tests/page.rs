@@ -4,13 +4,14 @@ mod common;
 #[path = "browser/json.rs"]
 mod json;
 use common::{event, profile, Dice};
-use desk::counts::Count;
-use desk::day::Day;
-use desk::piece::Piece;
-use desk::progress::Progress;
+use desk::files::progress::Progress;
+use desk::library::piece::Piece;
+use desk::library::state::State;
+use desk::profile::Count;
+use desk::replay::day::Day;
 use desk::report::{self, Made};
-use desk::sitting::Sitting;
-use mbrumzheg::{Event, Level, Time, Unit};
+use desk::session::sitting::Sitting;
+use mbrumzheg::{Event, Level, Time};
 
 /// A report of a sitting's day or a stretch of it, of the kind that a name asks for.
 fn written(sitting: &Sitting, name: &str, stretch: Option<(u64, u64)>) -> String {
@@ -20,7 +21,7 @@ fn written(sitting: &Sitting, name: &str, stretch: Option<(u64, u64)>) -> String
 }
 
 fn armed(text: &str) -> Sitting {
-    Sitting::new(Unit::new().arm(text).expect("accepted"), "profile", text.as_bytes())
+    Sitting::new(State::armed(text.as_bytes()).expect("accepted"), "profile", text.as_bytes())
 }
 
 /// A sitting with a random day behind it.
@@ -28,7 +29,7 @@ fn sitting(seed: u64) -> Sitting {
     let mut dice = Dice::new(seed);
     let mut sitting = armed(&profile(&mut dice));
     for _ in 0..40 {
-        let next = event(&mut dice, sitting.unit.clock().ms(), sitting.unit.root_count());
+        let next = event(&mut dice, sitting.clock().ms(), sitting.state().root_count());
         sitting.pass(next);
     }
     sitting
@@ -113,7 +114,7 @@ fn a_page_names_what_it_was_made_from() {
     sitting.pass_piece(&Piece::of_bytes(&[0xFF; 5]));
     let page = written(&sitting, "page.html", None);
     let record = Event::Lockout { time: Time::START, level: Level::Firm }.to_record16().expect("a record");
-    let sums = [desk::sha256::hex(b"ABCD,abs_vol,XYZ,1000"), desk::sha256::hex(&[&record[..], &[0xFF; 5]].concat())];
+    let sums = [desk::records::sha256::hex(b"ABCD,abs_vol,XYZ,1000"), desk::records::sha256::hex(&[&record[..], &[0xFF; 5]].concat())];
     let footer = between(&page, "<footer>", "</footer>");
     for wanted in [sums[0].as_str(), sums[1].as_str(), report::VERSION, report::KIT, "profile", "1 typed at the desk"] {
         assert!(footer.contains(wanted), "{wanted} is in the footer");

@@ -1,7 +1,7 @@
 //! No input makes the desk panic, and what it prints stays text: random bytes, random words, random files.
 mod common;
 use common::{profile, Dice};
-use desk::lines::{run, Manner};
+use desk::console::lines::{run, Manner};
 use std::fs;
 use std::path::PathBuf;
 

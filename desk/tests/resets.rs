@@ -4,9 +4,9 @@ mod common;
 mod days;
 use common::{event, profile, Dice};
 use days::{day, sitting};
-use desk::marks::Kind;
-use desk::resets::{lifts, zeroes};
-use desk::sitting::Sitting;
+use desk::replay::marks::Kind;
+use desk::session::resets::{lifts, zeroes};
+use desk::session::sitting::Sitting;
 use mbrumzheg::{Event, Reset, Time};
 
 /// What is left in each count at a time, and each level's marks.
@@ -24,10 +24,10 @@ fn the_library_zeroes_and_lifts_what_the_desk_says() {
         let mut dice = Dice::new(seed);
         let mut sitting = sitting(&profile(&mut dice));
         for _ in 0..60 {
-            let next = event(&mut dice, sitting.unit.clock().ms(), sitting.unit.root_count());
+            let next = event(&mut dice, sitting.clock().ms(), sitting.state().root_count());
             let (before, is_at_stake) = match next {
-                Event::Order { time, .. } if time >= sitting.unit.clock() => (standing(&sitting, time), true),
-                _ => (standing(&sitting, sitting.unit.clock()), false),
+                Event::Order { time, .. } if time >= sitting.clock() => (standing(&sitting, time), true),
+                _ => (standing(&sitting, sitting.clock()), false),
             };
             let passed = sitting.pass(next);
             let (Event::Order { time, root, reset }, Ok(_), true) = (next, passed.answer, is_at_stake) else { continue };
@@ -57,10 +57,10 @@ fn the_library_zeroes_and_lifts_what_the_desk_says() {
 fn what_was_only_unlocked_trips_again() {
     let mut sitting = sitting("ABCD,abs_vol,XYZ,100\nABCD,abs_vol,,150,,T");
     let mut line = |line: &str| {
-        let names = desk::asked::Names { profile: &sitting.profile, clock: sitting.unit.clock() };
-        let event = names.event(&desk::command::read(line).expect("a command")).expect("an event").expect("its words");
+        let names = desk::typed::names::Names { profile: &sitting.profile, clock: sitting.clock() };
+        let event = names.event(&desk::typed::command::read(line).expect("a command")).expect("an event").expect("its words");
         let passed = sitting.pass(event);
-        desk::answer::answer(&sitting, &passed)
+        desk::answers::answer::answer(&sitting, &passed)
     };
     assert!(line("offer 0ms XYZ call front 1.00 120").ends_with("[1 0 0 100 1 0]"));
     assert_eq!(line("order 1ms XYZ reset t"), "root XYZ unlocked, its counts stay; the order on XYZ may pass  [2 0 0 0 0 0]");

@@ -178,7 +178,7 @@ fn is_readable(browser: &Browser) {
 fn pixels(browser: &Browser, place: &Path, points: &[(f64, f64)]) -> Vec<String> {
     let file = place.join("seen.png");
     browser.picture(&file);
-    let letters = desk::page::base64(&fs::read(&file).expect("a picture"));
+    let letters = desk::report::page::base64(&fs::read(&file).expect("a picture"));
     let points: Vec<String> = points.iter().map(|(x, y)| format!("[{x},{y}]")).collect();
     let colours = browser.script(&format!(
         "return new Promise((done) => {{ const image = new Image(); image.onload = () => {{ const canvas = document.createElement('canvas'); canvas.width = image.width; \

@@ -1,10 +1,12 @@
 //! The day on the served page is the desk's own, and undoing is a replay.
 mod common;
 use common::{event, profile, Dice};
-use desk::answer;
-use desk::form::Form;
+use desk::answers::answer;
+use desk::library::form::Form;
+use desk::library::state::State;
 use desk::serve::{Bench, Said};
-use desk::sitting::Sitting;
+use desk::session::sitting::Sitting;
+use desk::typed::spoken::typed;
 use mbrumzheg::Unit;
 
 const PROFILE: &str = "ABCD,rate_vol,XYZ,500,1000\nABCD,abs_vol,QQQ,5\n";
@@ -15,20 +17,20 @@ fn the_pages_day_is_the_desks_own() {
     for seed in 0..60 {
         let mut dice = Dice::new(seed);
         let text = profile(&mut dice);
-        let mut plain = Sitting::new(Unit::new().arm(&text).expect("accepted"), "profile", text.as_bytes());
+        let mut plain = Sitting::new(State::armed(text.as_bytes()).expect("accepted"), "profile", text.as_bytes());
         let mut bench = Bench::default();
         bench.arm("profile", text.as_bytes()).expect("armed");
-        let mut memories = vec![plain.unit.memory().to_vec()];
+        let mut memories = vec![plain.state().memory().to_vec()];
         let mut lines = Vec::new();
         for _ in 0..40 {
-            let next = event(&mut dice, plain.unit.clock().ms(), plain.unit.root_count());
-            if next.root().is_some_and(|root| root.number() >= plain.unit.root_count()) {
+            let next = event(&mut dice, plain.clock().ms(), plain.state().root_count());
+            if next.root().is_some_and(|root| root.number() >= plain.state().root_count()) {
                 continue;
             }
             let passed = plain.pass(next);
-            let Ok(Said::Event(entry)) = bench.line(&answer::typed(&plain.profile, &next)) else { panic!("an event") };
+            let Ok(Said::Event(entry)) = bench.line(&typed(&plain.profile, &next)) else { panic!("an event") };
             assert_eq!(format!("{}  [{}]", entry.words, entry.numbers), answer::answer(&plain, &passed));
-            memories.push(plain.unit.memory().to_vec());
+            memories.push(plain.state().memory().to_vec());
             lines.push(entry);
         }
         if lines.is_empty() {
@@ -40,7 +42,7 @@ fn the_pages_day_is_the_desks_own() {
             let place = dice.below(last as u64 + 1) as usize;
             bench.go(place).expect("there is such a place");
             let sitting = bench.sitting.as_ref().expect("armed");
-            assert_eq!(sitting.unit.memory(), &memories[place][..], "seed {seed}, place {place}");
+            assert_eq!(sitting.state().memory(), &memories[place][..], "seed {seed}, place {place}");
             assert_eq!((bench.log.as_slice(), bench.undone.len(), sitting.sources.typed), (&lines[..place], last - place, place));
             assert_eq!(bench.is_unsaved(), place > 0 && place < last);
         }
@@ -48,7 +50,7 @@ fn the_pages_day_is_the_desks_own() {
         assert_eq!(bench.save().expect("saved"), saved);
         bench.clear().expect("cleared");
         bench.bring_back().expect("brought back");
-        assert_eq!(bench.sitting.as_ref().expect("armed").unit.memory(), &memories[last][..]);
+        assert_eq!(bench.sitting.as_ref().expect("armed").state().memory(), &memories[last][..]);
         // a file's records give the same day
         let mut again = Bench::default();
         again.arm("profile", text.as_bytes()).expect("armed");

@@ -39,7 +39,7 @@ fn a_day_is_saved_as_records_or_in_words() {
     let page = String::from_utf8(get(&serving, "report.html").1).expect("text");
     for wanted in [
         "<title>1 unlock, record 2</title>",
-        &desk::sha256::hex(&records),
+        &desk::records::sha256::hex(&records),
         "<td>te</td><td>unlock</td><td>nothing</td><td>the root and the firm</td>",
     ] {
         assert!(page.contains(wanted), "{wanted} is in the page");

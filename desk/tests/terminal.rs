@@ -3,19 +3,20 @@ mod common;
 #[path = "common/terminal.rs"]
 mod terminal;
 use common::{event, profile, Dice};
-use desk::help;
-use desk::paint::{paint, Painter};
+use desk::answers::table;
+use desk::console::paint::{paint, Painter};
+use desk::library::state::State;
 use desk::program::USAGE;
-use desk::shown::Shown;
-use desk::sitting::Sitting;
-use desk::table;
-use desk::topics;
-use mbrumzheg::{Refusal, Time, Unit};
+use desk::session::sitting::Sitting;
+use desk::typed::help;
+use desk::typed::shown::Shown;
+use desk::typed::topics;
+use mbrumzheg::{Refusal, Time};
 use std::io::Write;
 
 fn sitting(text: &str) -> Sitting {
-    let unit = Unit::new().arm(text).unwrap_or_else(|refused| panic!("{refused}\n{text}"));
-    Sitting::new(unit, "profile", text.as_bytes())
+    let state = State::armed(text.as_bytes()).unwrap_or_else(|refused| panic!("{refused}\n{text}"));
+    Sitting::new(state, "profile", text.as_bytes())
 }
 
 fn widest(text: &str) -> usize {
@@ -28,10 +29,10 @@ fn tables_fit_80_columns() {
         let mut dice = Dice::new(seed);
         let mut sitting = sitting(&profile(&mut dice));
         for _ in 0..20 {
-            let next = event(&mut dice, sitting.unit.clock().ms(), sitting.unit.root_count());
+            let next = event(&mut dice, sitting.clock().ms(), sitting.state().root_count());
             sitting.pass(next);
         }
-        let text = table::rules(&sitting, sitting.unit.clock(), Shown::All).expect("a table");
+        let text = table::rules(&sitting, sitting.clock(), Shown::All).expect("a table");
         assert!(widest(&text) <= 80, "{text}");
         assert_eq!(text.lines().filter(|line| line.ends_with('%')).count(), sitting.profile.counts.len(), "{text}");
     }
@@ -65,7 +66,7 @@ fn help_fits_80_columns_and_is_there_for_every_command() {
     for topic in &topics::COMMANDS {
         assert!(help::list().contains(topic.form) && topic.form.starts_with(topic.name), "{}", topic.name);
         for example in topic.examples {
-            assert!(example.starts_with(topic.name) && desk::command::read(example).is_ok(), "{example}");
+            assert!(example.starts_with(topic.name) && desk::typed::command::read(example).is_ok(), "{example}");
         }
     }
     let refusals = help::on("refusals").expect("help").replace("\n     ", " ");

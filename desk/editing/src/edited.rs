@@ -1,8 +1,8 @@
 //! Lines that rustyline edits: arrows and history, Tab for commands, roots, open orders and files.
 
-use desk::complete::{self, Known};
-use desk::desk::Desk;
-use desk::lines::{talk, Ended, Lines};
+use desk::console::desk::Desk;
+use desk::console::lines::{talk, Ended, Lines};
+use desk::typed::complete::{self, Known};
 use rustyline::completion::{Completer, Pair};
 use rustyline::error::ReadlineError;
 use rustyline::highlight::Highlighter;

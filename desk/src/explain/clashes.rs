@@ -1,7 +1,7 @@
 //! Lines that are well formed and clash with the first line, a range, or themselves.
 
-use super::fields::{Fields, CALL_PUT, FIRM, LEVEL, LIMIT, MONTH, NAMES, ROOT, TIME};
-use super::Fault;
+use crate::explain::fault::Fault;
+use crate::explain::fields::{Fields, CALL_PUT, FIRM, LEVEL, LIMIT, MONTH, NAMES, ROOT, TIME};
 use crate::words::grouped;
 use mbrumzheg::Refusal::{LevelClash, OtherFirm, OutOfRange, UnitClash};
 

@@ -1,7 +1,7 @@
 //! A line that is one rule or one root more than a profile may have.
 
-use super::fields::{Fields, CALL_PUT, MONTH, ROOT};
-use super::Fault;
+use crate::explain::fault::Fault;
+use crate::explain::fields::{Fields, CALL_PUT, MONTH, ROOT};
 use crate::profile::{unit_of, Profile, Rule, Scope};
 use crate::words;
 use mbrumzheg::Refusal::TooMany;

@@ -1,9 +1,9 @@
 //! Lines that are malformed: the number of fields, a field's length or characters, or an unknown type.
 
-use super::characters::{stranger, Alphabet};
-use super::fields::{Fields, CALL_PUT, FIRM, KIND, KINDS, LIMIT, MONTH, NAMES, ROOT, TIME};
-use super::nearest::nearest;
-use super::Fault;
+use crate::explain::characters::{stranger, Alphabet};
+use crate::explain::fault::Fault;
+use crate::explain::fields::{Fields, CALL_PUT, FIRM, KIND, KINDS, LIMIT, MONTH, NAMES, ROOT, TIME};
+use crate::words::nearest;
 use mbrumzheg::Refusal::Malformed;
 use std::ops::Range;
 

@@ -1,94 +1,22 @@
-//! What is wrong with a line of a profile, where, and how to mend it.
+//! What is wrong with a line of a profile, where, and how to mend it; and what an accepted profile means. Whether a profile is good, the library alone decides,
+//! by a number and a line: what stands here goes beside its answer.
 //!
-//! Whether a profile is good, the library alone decides, by a number and a line. What stands here goes beside its answer: the
-//! faults that this reading finds in that line, of which those with the library's number are shown.
+//! May use: words, library, profile.
 
 mod characters;
+pub mod check;
 mod clashes;
 mod counts;
+mod fault;
 mod fields;
 mod further;
 mod malformed;
-mod nearest;
+mod refused;
 mod show;
 mod warn;
 
+pub use fault::{lines, Fault};
 pub use further::further;
-pub use nearest::nearest;
-pub use show::{shown, wrapped};
+pub use refused::{faults, of_refusal, refused};
+pub use show::shown;
 pub use warn::{warnings, Warning};
-
-use crate::profile::Profile;
-use fields::Fields;
-use mbrumzheg::{ArmRefusal, Refusal};
-use std::ops::Range;
-
-/// Something wrong in a line.
-#[derive(Clone, Debug, PartialEq, Eq)]
-pub struct Fault {
-    /// The refusal that it belongs to.
-    pub refusal: Refusal,
-    /// Which bytes of the line it is about; an empty range is the place where something is missing.
-    pub span: Range<usize>,
-    /// What is wrong and how to mend it.
-    pub words: String,
-}
-
-impl Fault {
-    fn new(refusal: Refusal, span: Range<usize>, words: impl Into<String>) -> Fault {
-        Fault { refusal, span, words: words.into() }
-    }
-}
-
-/// The lines of a text: each ends with LF, and the last may lack it.
-pub fn lines(text: &[u8]) -> Vec<&[u8]> {
-    match text.strip_suffix(b"\n").unwrap_or(text) {
-        [] if text.is_empty() => Vec::new(),
-        whole => whole.split(|byte| *byte == b'\n').collect(),
-    }
-}
-
-/// Every fault that a line, from 1, has after the lines before it, which must be good.
-pub fn faults(text: &[u8], line: usize) -> Vec<Fault> {
-    let all = lines(text);
-    let Some(content) = line.checked_sub(1).and_then(|place| all.get(place)) else { return Vec::new() };
-    let fields = Fields::of(content);
-    let malformed = malformed::faults(&fields);
-    if !malformed.is_empty() {
-        return malformed;
-    }
-    let first = all.first().map(|first| Fields::of(first).text(fields::FIRM)).unwrap_or_default();
-    let mut found = clashes::faults(&fields, &first);
-    if found.is_empty() {
-        found.extend(counts::fault(&fields, &before(&all, line)));
-    }
-    found
-}
-
-/// The profile that the lines before a line make.
-fn before(all: &[&[u8]], line: usize) -> Profile {
-    match all[..line - 1].join(&b'\n') {
-        text if text.is_empty() => Profile::default(),
-        text => Profile::of_accepted(&text),
-    }
-}
-
-/// The faults that stand behind the library's refusal of a text.
-pub fn of_refusal(text: &[u8], why: ArmRefusal) -> Vec<Fault> {
-    let line = why.line.map_or(0, |line| line as usize);
-    faults(text, line).into_iter().filter(|fault| fault.refusal == why.refusal).collect()
-}
-
-/// Why a profile is refused: the library's sentence, then the line with a mark under each fault.
-pub fn refused(text: &[u8], why: ArmRefusal) -> String {
-    let mut said = vec![why.to_string()];
-    match why.line {
-        Some(line) => {
-            let content = lines(text).get(line as usize - 1).copied().unwrap_or_default();
-            said.extend(shown(line as usize, content, &of_refusal(text, why)));
-        }
-        None if text.is_empty() => said.push("  there is nothing in it: write one rule a line, like ABCD,abs_vol,XYZ,1000".to_string()),
-        None => said.push("  it is too long: a profile has at most 256 rules, one a line".to_string()),
-    }
-    said.join("\n")
-}

@@ -1,6 +1,7 @@
 //! A line of a profile with marks under its faults, in 80 columns.
 
-use super::Fault;
+use crate::explain::fault::Fault;
+use crate::words::wrapped;
 use std::ops::Range;
 
 const WIDTH: usize = 80;
@@ -103,19 +104,4 @@ fn marks(columns: &Range<usize>, window: &Range<usize>) -> String {
     let start = columns.start.clamp(window.start, window.end - 1);
     let end = columns.end.clamp(start + 1, window.end);
     format!("{}{}", " ".repeat(start - window.start), "^".repeat(end - start))
-}
-
-/// A text in lines of at most so many columns, parted at blanks.
-pub fn wrapped(text: &str, width: usize) -> Vec<String> {
-    let mut lines: Vec<String> = Vec::new();
-    for word in text.split(' ') {
-        match lines.last_mut() {
-            Some(line) if line.chars().count() + 1 + word.chars().count() <= width => {
-                line.push(' ');
-                line.push_str(word);
-            }
-            _ => lines.push(word.to_string()),
-        }
-    }
-    lines
 }

@@ -1,8 +1,8 @@
 //! What an accepted profile says that its writer may not have meant.
 
-use super::fields::{Fields, LEVEL, TIME};
-use super::show::shown;
-use super::{lines, Fault};
+use crate::explain::fault::{lines, Fault};
+use crate::explain::fields::{Fields, LEVEL, LIMIT, TIME};
+use crate::explain::show::shown;
 use crate::words::grouped;
 use mbrumzheg::Refusal::Malformed;
 use std::ops::Range;
@@ -44,7 +44,7 @@ impl Warning {
 fn time_limit(fields: &Fields) -> Option<(Range<usize>, String)> {
     let typed = fields.text(TIME);
     let value = typed.parse::<u64>().unwrap_or(0);
-    let limit = fields.text(super::fields::LIMIT);
+    let limit = fields.text(LIMIT);
     let comma = fields.number_with_comma().map(|(span, number)| (span, format!("; a comma inside a number? then write {number}")));
     let (span, advice) = comma.unwrap_or((fields.span(TIME), String::new()));
     if fields.is_absolute() {

@@ -1,37 +1,39 @@
 //! What stands on the page's desk: a profile, the day on the unit that it armed, and what was undone of it.
 
-use super::log::Entry;
-use crate::asked::Names;
-use crate::check;
-use crate::command::{self, Command};
-use crate::evening;
-use crate::help;
-use crate::piece::Piece;
-use crate::sitting::Sitting;
-use crate::table::{self, counted};
-use mbrumzheg::{Event, Unit};
+use crate::answers::evening;
+use crate::answers::table;
+use crate::explain::check;
+use crate::library::piece::Piece;
+use crate::library::state::State;
+use crate::serve::log::Entry;
+use crate::session::sitting::Sitting;
+use crate::typed::command::{self, Command};
+use crate::typed::help;
+use crate::typed::names::Names;
+use crate::words::counted;
+use mbrumzheg::Event;
 
 /// More events than this are for `desk report`.
 const MOST_EVENTS: usize = 100_000;
 
 /// A piece of the day, and whether it was typed or came from a file.
-pub(super) type Typed = (Piece, bool);
+pub(crate) type Typed = (Piece, bool);
 
 /// The page's desk.
 #[derive(Default)]
 pub struct Bench {
     /// The profile's name and text, whether or not it is armed.
     pub profile: (String, Vec<u8>),
-    /// The day, if the unit is armed.
+    /// The day, if the state is armed.
     pub sitting: Option<Sitting>,
     /// A line for each of its records.
     pub log: Vec<Entry>,
     /// Pieces that were undone, in the order in which they came.
     pub undone: Vec<Typed>,
-    pub(super) typed: Vec<bool>,
+    pub(crate) typed: Vec<bool>,
     /// The names of files that were replayed, and the place of each one's first record.
-    pub(super) files: Vec<(usize, String)>,
-    pub(super) saved: Option<String>,
+    pub(crate) files: Vec<(usize, String)>,
+    pub(crate) saved: Option<String>,
     /// The day that was cleared last.
     before: Option<Box<Bench>>,
 }
@@ -55,20 +57,20 @@ impl Bench {
         Bench { profile: (name.to_string(), text), ..Bench::default() }
     }
 
-    /// Arms the unit from a profile.
+    /// Arms a state from a profile.
     pub fn arm(&mut self, name: &str, text: &[u8]) -> Result<String, String> {
         if let Some(sitting) = &self.sitting {
             return Err(format!("armed already for {} (refusal 3); clear it first", sitting.profile.firm));
         }
         self.profile = (name.to_string(), text.to_vec());
-        let unit = Unit::new().arm(text).map_err(|refused| check::refused(text, refused.why))?;
-        let sitting = Sitting::new(unit, name, text);
+        let state = State::armed(text).map_err(|why| check::refused(text, why))?;
+        let sitting = Sitting::new(state, name, text);
         let words = check::armed(&sitting.profile, sitting.profile.rules.len());
         self.sitting = Some(sitting);
         Ok(words)
     }
 
-    /// Sets the unit to zeros; the day can be brought back.
+    /// Gives the state up; the day can be brought back.
     pub fn clear(&mut self) -> Result<String, String> {
         self.armed()?;
         let profile = self.profile.clone();
@@ -95,7 +97,7 @@ impl Bench {
     /// Carries out a line as it would be typed at the desk: an event, or a question.
     pub fn line(&mut self, line: &str) -> Result<Said, String> {
         let sitting = self.armed()?;
-        let names = Names { profile: &sitting.profile, clock: sitting.unit.clock() };
+        let names = Names::of(sitting);
         let command = command::read(line)?;
         if let Some(event) = names.event(&command) {
             return self.event(event?).map(Said::Event);
@@ -123,21 +125,21 @@ impl Bench {
     }
 
     /// What was undone cannot be done again once another event stands in its place.
-    pub(super) fn give_up_undone(&mut self) {
+    pub(crate) fn give_up_undone(&mut self) {
         let place = self.place();
         self.undone.clear();
         self.files.retain(|(first, _)| *first <= place);
     }
 
-    pub(super) fn has_room(&self, more: usize) -> Result<(), String> {
+    pub(crate) fn has_room(&self, more: usize) -> Result<(), String> {
         if self.place() + more <= MOST_EVENTS {
             return Ok(());
         }
         Err(format!("the page takes at most {}; for a longer day use desk report", counted(MOST_EVENTS, "event")))
     }
 
-    /// Passes a piece on an armed unit.
-    pub(super) fn pass(&mut self, piece: &Piece, typed: bool) -> Entry {
+    /// Passes a piece on the armed state.
+    pub(crate) fn pass(&mut self, piece: &Piece, typed: bool) -> Entry {
         let Some(sitting) = self.sitting.as_mut() else { unreachable!("only an armed desk passes events") };
         sitting.sources.typed += usize::from(typed);
         let passed = sitting.pass_piece(piece);
@@ -152,7 +154,7 @@ impl Bench {
         self.armed().map(|sitting| evening::csv(&sitting.profile, &sitting.account))
     }
 
-    /// The rules that the unit runs, as a profile's text.
+    /// The active rules as a profile's text.
     pub fn active(&self) -> Result<String, String> {
         self.armed()?.active()
     }
@@ -162,7 +164,7 @@ impl Bench {
         self.sitting.as_ref().map_or(0, |sitting| sitting.place)
     }
 
-    pub(super) fn armed(&self) -> Result<&Sitting, String> {
+    pub(crate) fn armed(&self) -> Result<&Sitting, String> {
         self.sitting.as_ref().ok_or_else(|| ARM_FIRST.to_string())
     }
 }

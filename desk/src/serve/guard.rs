@@ -1,6 +1,6 @@
 //! Who may ask: this machine, from the page itself, with the token of the address.
 
-use super::http::{Head, Reply};
+use crate::serve::message::{Head, Reply};
 use std::fs::File;
 use std::io::{self, Read};
 

@@ -1,6 +1,7 @@
 //! As much of HTTP as a page needs, bounded in every size and time.
 
-use super::guard::Guard;
+use crate::serve::guard::Guard;
+use crate::serve::message::{Head, Reply, Request};
 use std::io::{self, Read, Write};
 use std::net::{Shutdown, TcpStream};
 use std::time::{Duration, Instant};
@@ -13,58 +14,6 @@ pub const MOST_OF_BODY: usize = 100_000 * mbrumzheg::RECORD16_SIZE;
 const PATIENCE: Duration = Duration::from_secs(10);
 /// For what comes after an answer.
 const MOMENT: Duration = Duration::from_millis(500);
-
-/// The first lines of a request.
-pub struct Head {
-    /// GET or POST, or a method that is refused.
-    pub method: String,
-    /// What is asked for.
-    pub target: String,
-    headers: Vec<(String, String)>,
-}
-
-impl Head {
-    /// A header that stands there once.
-    pub fn header(&self, name: &str) -> Option<&str> {
-        self.headers.iter().find(|(own, _)| own == name).map(|(_, value)| value.as_str())
-    }
-}
-
-/// A request that was admitted.
-pub struct Request {
-    /// Whether something is to be done, not only shown.
-    pub is_post: bool,
-    /// What is asked for, after the token.
-    pub path: String,
-    /// What stands after the question mark.
-    pub query: String,
-    /// What was sent along.
-    pub body: Vec<u8>,
-}
-
-/// An answer.
-pub struct Reply {
-    /// Its number.
-    pub status: u16,
-    /// What the body is.
-    pub kind: &'static str,
-    /// Further headers.
-    pub headers: Vec<String>,
-    /// The body.
-    pub body: Vec<u8>,
-}
-
-impl Reply {
-    /// An answer of plain text.
-    pub fn text(status: u16, words: &str) -> Reply {
-        Reply { status, kind: "text/plain; charset=utf-8", headers: Vec::new(), body: words.as_bytes().to_vec() }
-    }
-
-    /// An answer of a kind.
-    pub fn of(kind: &'static str, body: impl Into<Vec<u8>>) -> Reply {
-        Reply { status: 200, kind, headers: Vec::new(), body: body.into() }
-    }
-}
 
 /// Why there is no request.
 pub enum Trouble {

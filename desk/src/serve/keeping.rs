@@ -1,15 +1,18 @@
 //! What the page's desk keeps of a day: it can be replayed from a file, gone back and forth in, saved and reported.
 
-use super::bench::{Bench, Typed};
-use crate::day::Day;
-use crate::form::Form;
-use crate::piece::Piece;
-use crate::progress::Progress;
+use crate::files::in_words;
+use crate::files::opened::{self, Opened};
+use crate::files::progress::Progress;
+use crate::library::form::Form;
+use crate::library::piece::Piece;
+use crate::library::state::State;
+use crate::records::source::Source;
+use crate::replay::day::Day;
 use crate::report::{self, Made};
-use crate::sitting::Sitting;
-use crate::source::{self, Opened, Source};
-use crate::table::counted;
-use mbrumzheg::{Adopted, Time, Unit};
+use crate::serve::bench::{Bench, Typed};
+use crate::session::sitting::Sitting;
+use crate::words::counted;
+use mbrumzheg::Time;
 use std::io::Read;
 
 impl Bench {
@@ -25,15 +28,15 @@ impl Bench {
         Ok(format!("replayed {} of {name}{remark}", counted(pieces.len(), "record")))
     }
 
-    /// Goes to the day as it was after so many events, back or forth, by a replay on a fresh unit.
+    /// Goes to the day as it was after so many events, back or forth, by a replay on a fresh state.
     pub fn go(&mut self, place: usize) -> Result<String, String> {
         let all = self.pieces()?;
         if place > all.len() {
             return Err(format!("there are {}, so there is no place {place} to go to", counted(all.len(), "event")));
         }
         let (name, text) = self.profile.clone();
-        let unit = Unit::new().arm(&text).map_err(|refused| refused.to_string())?;
-        self.sitting = Some(Sitting::new(unit, &name, &text));
+        let state = State::armed(&text).map_err(|refused| refused.to_string())?;
+        self.sitting = Some(Sitting::new(state, &name, &text));
         self.log.clear();
         self.typed.clear();
         all[..place].iter().for_each(|(piece, typed)| drop(self.pass(piece, *typed)));
@@ -75,7 +78,7 @@ impl Bench {
     /// The day in words, which then counts as saved.
     pub fn save_words(&mut self) -> Result<Vec<u8>, String> {
         let sitting = self.armed()?;
-        let words = sitting.words()?;
+        let words = in_words::of_day(&sitting.profile, &sitting.day)?;
         self.saved = Some(sitting.day.sum());
         Ok(words)
     }
@@ -96,15 +99,14 @@ impl Bench {
     }
 }
 
-/// The pieces of a file, each read at the clock that those before it leave, on a copy of the unit; and what its length says of the last.
+/// The pieces of a file, each read at the clock that those before it leave, on a copy of the state; and what its length says of the last.
 fn read(sitting: &Sitting, bytes: &[u8], form: Form) -> Result<(Vec<Piece>, Option<String>), String> {
-    let Opened { pieces: mut from, remark, .. } = source::of_file(bytes, Some(bytes.len() as u64), form, &sitting.profile)?;
-    let copied = Unit::adopt(sitting.unit.memory().to_vec().into_boxed_slice());
-    let Ok(Adopted::Armed(mut unit)) = copied else { return Err("the unit cannot be copied".to_string()) };
+    let Opened { pieces: mut from, remark, .. } = opened::of_file(bytes, Some(bytes.len() as u64), form, &sitting.profile)?;
+    let (mut state, mut account) = (sitting.state().copied().ok_or("the unit cannot be copied")?, sitting.account.clone());
     let mut pieces = Vec::new();
-    while let Some(piece) = from.next(unit.clock())? {
+    while let Some(piece) = from.next(state.clock())? {
         // what is refused leaves the clock as it is
-        let _ = piece.event().map(|event| unit.answer(event));
+        let _ = piece.event().map(|event| state.answer(&mut account, event));
         pieces.push(piece);
     }
     Ok((pieces, remark))

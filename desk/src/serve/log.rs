@@ -1,9 +1,10 @@
 //! The log: every event of the day as it was typed, its answer in words, and the answer's numbers.
 
-use crate::answer;
-use crate::json;
-use crate::passed::Passed;
-use crate::sitting::Sitting;
+use crate::answers::answer;
+use crate::session::passed::Passed;
+use crate::session::sitting::Sitting;
+use crate::typed::spoken::typed;
+use crate::words::json;
 use mbrumzheg::Event;
 
 /// A line of the log.
@@ -24,7 +25,7 @@ pub struct Entry {
 impl Entry {
     /// From what was just passed; an answer to something typed says what to type after a refusal.
     pub fn of(sitting: &Sitting, passed: &Passed) -> Entry {
-        let asked = passed.event.map_or_else(|| "faulty record".to_string(), |event| answer::typed(&sitting.profile, &event));
+        let asked = passed.event.map_or_else(|| "faulty record".to_string(), |event| typed(&sitting.profile, &event));
         let whole = answer::answer(sitting, passed);
         let numbers = passed.numbers();
         let words = whole.strip_suffix(&format!("  [{numbers}]")).unwrap_or(&whole).to_string();

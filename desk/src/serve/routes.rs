@@ -1,10 +1,10 @@
 //! What can be asked for: the page and its parts, the state, and what is done by buttons.
 
-use super::bench::{checked, Bench, Said};
-use super::http::{Reply, Request};
-use super::state;
-use crate::form::Form;
-use crate::json::{self, object, text};
+use crate::library::form::Form;
+use crate::serve::bench::{checked, Bench, Said};
+use crate::serve::message::{Reply, Request};
+use crate::serve::state;
+use crate::words::json::{self, object, text};
 
 const PAGE: &str = include_str!("page/page.html");
 const STYLE: &str = include_str!("page/page.css");
@@ -84,7 +84,7 @@ fn done(bench: &mut Bench, request: &Request) -> Reply {
         "arm" => bench.arm(if name.is_empty() { "profile" } else { &name }, body).map(words),
         "clear" => bench.clear().map(words),
         "back" => bench.bring_back().map(words),
-        "line" => bench.line(&crate::lines::plain(&line())).map(|said| match said {
+        "line" => bench.line(&crate::words::plain(&line())).map(|said| match said {
             Said::Event(entry) => ("event", entry.json()),
             Said::Words(shown) => words(shown),
         }),
@@ -122,7 +122,7 @@ fn answered(bench: &Bench, at: &str, said: Option<(&'static str, String)>) -> Re
 fn query(request: &Request, name: &str) -> String {
     let pairs = request.query.split('&').filter_map(|pair| pair.split_once('='));
     let value = pairs.into_iter().find(|(own, _)| *own == name).map_or("", |(_, value)| value);
-    crate::lines::plain(&unescaped(value)).chars().take(200).collect()
+    crate::words::plain(&unescaped(value)).chars().take(200).collect()
 }
 
 fn unescaped(value: &str) -> String {

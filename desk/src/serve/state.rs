@@ -1,21 +1,20 @@
 //! The desk as JSON, for the page to draw.
 
-use super::bench::Bench;
-use crate::answer::why_locked;
-use crate::asked::Names;
-use crate::away;
-use crate::check::meaning;
-use crate::counts::Count;
-use crate::evening;
-use crate::json::{list, maybe, object, text};
-use crate::ledger::Used;
-use crate::profile::Rule;
-use crate::register::Away;
-use crate::resets;
-use crate::sitting::Sitting;
-use crate::standing::level_name;
-use crate::table::share;
+use crate::answers::away;
+use crate::answers::columns::share;
+use crate::answers::evening;
+use crate::answers::locked::why_locked;
+use crate::explain::check::meaning;
+use crate::profile::{level_name, Count, Rule};
+use crate::serve::bench::Bench;
+use crate::serve::log::Entry;
+use crate::session::ledger::Used;
+use crate::session::register::Away;
+use crate::session::resets;
+use crate::session::sitting::Sitting;
+use crate::typed::names::Names;
 use crate::words;
+use crate::words::json::{list, maybe, object, text};
 use mbrumzheg::Time;
 
 /// So many lines of the log come with a state; older ones are asked for.
@@ -43,12 +42,11 @@ pub fn of(bench: &Bench, at: &str) -> Result<String, String> {
 /// The lines of the log up to a place.
 pub fn log(bench: &Bench, to: usize) -> String {
     let to = to.min(bench.log.len());
-    list(bench.log[to.saturating_sub(MOST_LINES)..to].iter().map(super::log::Entry::json))
+    list(bench.log[to.saturating_sub(MOST_LINES)..to].iter().map(Entry::json))
 }
 
 fn armed(sitting: &Sitting, at: &str) -> Result<String, String> {
-    let clock = sitting.unit.clock();
-    let names = Names { profile: &sitting.profile, clock };
+    let names = Names::of(sitting);
     let typed: Vec<String> = if at.is_empty() { Vec::new() } else { vec![at.to_string()] };
     let (time, _) = names.table(&typed)?;
     let mut rules = Vec::new();
@@ -57,12 +55,12 @@ fn armed(sitting: &Sitting, at: &str) -> Result<String, String> {
         rules.push(of_count(sitting, rule, count, sitting.used(time, rule, count, left), left));
     }
     let levels = (0..=sitting.profile.roots.len()).map(|level| of_level(sitting, level));
-    let status = sitting.unit.status().map_err(|refusal| refusal.to_string())?;
+    let status = sitting.status().map_err(|refusal| refusal.to_string())?;
     let lowest = status.lowest_locked.map_or(64, |root| root.number());
     Ok(object(&[
         ("firm", text(&sitting.profile.firm)),
         ("roots", list(sitting.profile.roots.iter().map(|name| text(name)))),
-        ("clock", text(&words::time(clock))),
+        ("clock", text(&words::time(names.clock))),
         ("at", text(&words::time(time))),
         ("status", list([status.tripped, status.locked_by_user, status.locked, lowest].map(|number| number.to_string()))),
         ("levels", list(levels)),

@@ -1,14 +1,14 @@
 //! Days on fresh units for the desk's tests.
 #![allow(dead_code)]
-use desk::day::Day;
-use desk::progress::Progress;
-use desk::sitting::Sitting;
-use mbrumzheg::Unit;
+use desk::files::progress::Progress;
+use desk::library::state::State;
+use desk::replay::day::Day;
+use desk::session::sitting::Sitting;
 
 /// A day that has not begun, on a unit armed from this text.
 pub fn sitting(text: &str) -> Sitting {
-    let unit = Unit::new().arm(text).unwrap_or_else(|refused| panic!("{refused}\n{text}"));
-    Sitting::new(unit, "profile", text.as_bytes())
+    let state = State::armed(text.as_bytes()).unwrap_or_else(|refused| panic!("{refused}\n{text}"));
+    Sitting::new(state, "profile", text.as_bytes())
 }
 
 /// The day that a sitting has passed, or a stretch of it.
