@@ -20,6 +20,7 @@ pub mod Counting
 pub mod Grant
 pub mod Reset
 pub mod Calls
+pub mod Seats
 pub mod Figures
 pub mod Accounted
 pub mod Views
