@@ -28,7 +28,7 @@ static void arm(const char *profile) {
     EXPECT(mbrumzheg_try_arm(memory, MBRUMZHEG_SIZE, profile, strlen(profile)).refusal == MBRUMZHEG_ACCEPTED);
 }
 
-/* At $1 on calls of the front month of root 0. */
+/* At $1 on calls of the front months of root 0. */
 static struct mbrumzheg_judged sent(uint64_t time, uint64_t contracts, uint64_t identity, uint64_t reports) {
     return mbrumzheg_try_send(memory, MBRUMZHEG_SIZE, time, 0, MBRUMZHEG_CALLS_FRONT, 10000, contracts, identity, reports);
 }

@@ -27,7 +27,7 @@ static void print(int place, struct mbrumzheg_judged judged) {
     printf("%d %d %d %" PRIu64 " %d %d\n", place, (int)judged.refusal, (int)judged.verdict, judged.grant, judged.root_trip, judged.firm_trip);
 }
 
-/* An offered fill on the profile's first root, calls of the front month, at $7. */
+/* An offered fill on the profile's first root, calls of the front months, at $7. */
 static struct mbrumzheg_judged offer(uint64_t time, uint64_t contracts) {
     const uint64_t root = 0, seven_dollars = 70000;
     return mbrumzheg_try_offer(memory, MBRUMZHEG_SIZE, time, root, MBRUMZHEG_CALLS_FRONT, seven_dollars, contracts);

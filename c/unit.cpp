@@ -20,7 +20,7 @@ static void expect(bool holds, int line) {
 }
 #define EXPECT(...) expect((__VA_ARGS__), __LINE__)
 
-// An offer at $7 on root 0, calls of the front month.
+// An offer at $7 on root 0, calls of the front months.
 static Offer at(std::uint64_t ms, std::uint64_t contracts) {
     return {Time{ms}, Root{0}, UnitOfRoot::CallsFront, Premium{70000}, Contracts{contracts}};
 }

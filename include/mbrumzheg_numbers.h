@@ -45,7 +45,7 @@ enum mbrumzheg_reset {
 /* What a lockout locks. */
 enum mbrumzheg_level { MBRUMZHEG_LEVEL_ROOT = 0, MBRUMZHEG_LEVEL_FIRM = 1 };
 
-/* The units of a root: calls or puts, of the front month or of the months behind it. */
+/* The units of a root: calls or puts, of the front two months or of the trailing months behind them. */
 enum mbrumzheg_unit {
     MBRUMZHEG_CALLS_FRONT = 0,
     MBRUMZHEG_CALLS_TRAILING = 1,

@@ -54,6 +54,7 @@ enum class Reset : std::uint64_t {
     TE = MBRUMZHEG_RESET_TE,
 };
 
+// The units of a root: calls or puts, of the front two months or of the trailing months behind them.
 enum class UnitOfRoot : std::uint64_t {
     CallsFront = MBRUMZHEG_CALLS_FRONT,
     CallsTrailing = MBRUMZHEG_CALLS_TRAILING,

@@ -3,6 +3,8 @@
 mod common;
 #[path = "common/days.rs"]
 mod days;
+#[path = "common/skipped.rs"]
+mod skipped;
 use common::{event, profile, Dice};
 use days::{day, sitting};
 use desk::answers::evening;
@@ -140,11 +142,11 @@ fn programs() -> Vec<Vec<PathBuf>> {
     let mut all = Vec::new();
     match second.exists() {
         true => all.push(vec![second]),
-        false => eprintln!("skipped: the second program's evening table, since it is not built"),
+        false => skipped::skipped("the desk beside the second program's evening table, since it is not built"),
     }
     match top.join("target/bin/evening").exists() {
         true => all.push(vec![top.join("tools/program"), PathBuf::from("evening")]),
-        false => eprintln!("skipped: the proved program's evening table, since it is not built"),
+        false => skipped::skipped("the desk beside the proved program's evening table, since it is not built"),
     }
     all
 }

@@ -1,4 +1,6 @@
 //! The manual page is well formed, and says what the program has.
+#[path = "common/skipped.rs"]
+mod skipped;
 use desk::program::USAGE;
 use desk::typed::topics::COMMANDS;
 use std::process::{Command, Stdio};
@@ -10,7 +12,7 @@ fn formatted() -> Option<String> {
     let file = concat!(env!("CARGO_MANIFEST_DIR"), "/desk.1");
     let run = Command::new("groff").args(["-man", "-Tascii", "-P-cbou", "-ww", "-rLL=100n", file]).stdin(Stdio::null()).output();
     let Ok(output) = run else {
-        eprintln!("skipped: there is no groff here to format the manual page");
+        skipped::skipped("the desk's manual page, since there is no groff to format it");
         return None;
     };
     assert_eq!(String::from_utf8_lossy(&output.stderr), "", "groff has no warning");

@@ -1,6 +1,8 @@
 //! The page, the desk's replay and the program `gateway` agree on random files of records, faulty and short ones among them: the same places, refusals,
 //! verdicts, grants and trips.
 mod common;
+#[path = "common/skipped.rs"]
+mod skipped;
 use common::{profile, recorded, Dice};
 use std::fs;
 use std::path::{Path, PathBuf};
@@ -78,7 +80,7 @@ fn check_page(page: &str, json: &str, lines: &[&str]) -> usize {
 fn page_replay_and_program_agree() {
     let program = repository().join("tools/program");
     if !repository().join("target/bin/gateway").exists() || Command::new("rt").arg("version").output().is_err() {
-        eprintln!("skipped: the program gateway is not built, or the kit is not on the path to run it");
+        skipped::skipped("the desk beside the program gateway, which is not built, or the kit is not on the path to run it");
         return;
     }
     let place = std::env::temp_dir().join(format!("desk-places-{}", std::process::id()));

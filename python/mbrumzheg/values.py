@@ -106,7 +106,7 @@ class _Worded(IntEnum):
 
 
 class UnitOfRoot(_Worded):
-    """One of the four units of a root."""
+    """One of the four units of a root: calls or puts, of the front two months or of the trailing months."""
 
     CALLS_FRONT = 0
     CALLS_TRAILING = 1

@@ -13,7 +13,7 @@ LATE = Time.from_us(86_399_999_999)
 
 
 def offer(time: Time, contracts: int, root: int = 0) -> Offer:
-    """At $7, calls of the front month."""
+    """At $7, calls of the front months."""
     return Offer(time, Root(root), UnitOfRoot.CALLS_FRONT, Premium(70_000), Contracts(contracts))
 
 

@@ -25,11 +25,11 @@ impl Root {
 #[derive(Clone, Copy, Debug, PartialEq, Eq, Hash, PartialOrd, Ord)]
 #[repr(u8)]
 pub enum UnitOfRoot {
-    /// 0: calls of the front month.
+    /// 0: calls of the front two months.
     CallsFront = 0,
     /// 1: calls of trailing months.
     CallsTrailing = 1,
-    /// 2: puts of the front month.
+    /// 2: puts of the front two months.
     PutsFront = 2,
     /// 3: puts of trailing months.
     PutsTrailing = 3,

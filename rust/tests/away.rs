@@ -11,7 +11,7 @@ fn identity(number: u64) -> Identity {
     Identity::new(number).expect("an identity")
 }
 
-/// An order of so many contracts at $1 on puts of the front month of root 0.
+/// An order of so many contracts at $1 on puts of the front months of root 0.
 fn sending(ms: u64, number: u64, count: u64, reports: u64) -> Sending {
     Sending {
         time: time(ms),
@@ -34,7 +34,7 @@ fn close(unit: &mut ArmedUnit, ms: u64, number: u64) -> Result<Verdict, Refusal>
     unit.close(Closing { time: time(ms), identity: identity(number) })
 }
 
-/// One contract on calls of the front month.
+/// One contract on calls of the front months.
 fn one(unit: &mut ArmedUnit, ms: u64) -> Result<u64, Refusal> {
     unit.offer(offer(ms, UnitOfRoot::CallsFront, 1, 1)).map(|answer| answer.grant)
 }

@@ -7,14 +7,14 @@ use mbrumzheg::{
     Unit, UnitOfRoot, Verdict, SIZE,
 };
 
-/// Grant, root trip and firm trip of an offer of calls in the front month.
+/// Grant, root trip and firm trip of an offer of calls in the front months.
 fn fill(unit: &mut ArmedUnit, ms: u64, dollars: u64, count: u64) -> (u64, bool, bool) {
     let answer = unit.offer(offer(ms, UnitOfRoot::CallsFront, dollars, count)).expect("not refused");
     assert!(answer.verdict.passes());
     (answer.grant, answer.root_trip, answer.firm_trip)
 }
 
-/// What remains of a rule on calls in the front month.
+/// What remains of a rule on calls in the front months.
 fn left(unit: &ArmedUnit, ms: u64, rule: u64) -> u64 {
     unit.remaining(time(ms), rule, UnitOfRoot::CallsFront).expect("not refused")
 }

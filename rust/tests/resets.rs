@@ -20,7 +20,7 @@ fn locked_twice() -> ArmedUnit {
     unit
 }
 
-/// What remains of the four rules on calls of the front month.
+/// What remains of the four rules on calls of the front months.
 fn left(unit: &ArmedUnit) -> [u64; 4] {
     [0, 1, 2, 3].map(|rule| unit.remaining(time(2), rule, UnitOfRoot::CallsFront).expect("not refused"))
 }

@@ -1,5 +1,5 @@
--- A day that holds any calls at all up to the next Clear: orders, lockouts, offers, Remaining and Status, and Arm and Text between them, each refused or
--- not. Assumes nothing.
+-- A day that holds any calls at all up to the next Clear: orders, lockouts, offers, sendings, reports, closings, Remaining and Status, and Arm and Text
+-- between them, each refused or not. Assumes nothing.
 use Prim.Native.Nat.{ℕ}
 use mathlib.Core.Path.{_≡_}
 use mathlib.Core.List.{List, [], _∷_}
@@ -18,7 +18,7 @@ pub data AnyCall : Type 0 where
   arm : List ℕ → AnyCall
   -- Text for a verdict, in a room
   text : ℕ → List ℕ → AnyCall
-  -- an order, a lockout, an offer, Remaining or Status
+  -- an order, a lockout, an offer, a sending, a report, a closing, Remaining or Status
   state : Call → AnyCall
 
 -- a call with what it was answered; Text's room, as it was lent and as it was left

@@ -133,7 +133,7 @@ window-facts (Rate w) h =
     }
 window-facts Absolute h = search
 
--- what the other fields of a scope read as: the root's name, 0 if it has none; whether it is the firm level; calls 1, puts 2, front month 1
+-- what the other fields of a scope read as: the root's name, 0 if it has none; whether it is the firm level; calls 1, puts 2, front months 1
 -- and trailing months 2, 0 where the field is empty
 unfoldable pub nameIn : List ℕ → Scope → ℕ
 nameIn roots EveryFill = 0

@@ -73,7 +73,7 @@ fn call_put(unit: u64) -> u8
     if unit < 2 { b'C' } else { b'P' }
 }
 
-// The letter of the front month or the trailing months.
+// The letter of the front months or of the trailing months.
 fn month(unit: u64) -> u8
     ensures { λ r. ⌜ r ≡ cond (eqb unit 0 || eqb unit 2) 70 84 ⌝ }
 {

@@ -28,7 +28,7 @@ pub fn faults(fields: &Fields) -> Vec<Fault> {
         found.extend(number(fields, TIME));
     }
     found.extend(letter(fields, CALL_PUT, "CP", "C for calls, P for puts, or nothing"));
-    found.extend(letter(fields, MONTH, "FT", "F for front, T for trailing, or nothing"));
+    found.extend(letter(fields, MONTH, "FT", "F for the front two months, T for trailing ones, or nothing"));
     found
 }
 

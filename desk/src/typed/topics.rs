@@ -53,7 +53,8 @@ pub const COMMANDS: [Topic; 20] = [
         form: OFFER_FORM,
         short: "offer a fill",
         long:
-            "Offers a fill of so many contracts at a premium in dollars. The library grants what the rules allow: all, a part or nothing.",
+            "Offers a fill of so many contracts at a premium in dollars, on calls or puts of the front two months or of the trailing ones. The library \
+               grants what the rules allow: all, a part or nothing.",
         examples: &["offer 10ms XYZ call front 7.00 200", "offer +1s QQQ put trailing 0.05 1000"],
     },
     Topic {
@@ -218,8 +219,8 @@ pub const OTHERS: [Topic; 3] = [
         form: "FIRM,TYPE,ROOT,LIMIT[,TIME[,T[,CALL/PUT,MONTH]]]",
         short: "",
         long: "One rule a line. TYPE is rate_ntnl, rate_vol, rate_count, abs_ntnl, abs_vol or abs_count; LIMIT is in dollars, contracts or \
-               executions; TIME is the window of a rate rule in milliseconds. A rule of the firm has no ROOT and a T; C or P with F or T makes \
-               a rule of one unit, and without them a rule of a root counts each of its four units for itself. No blanks, no commas inside numbers, LF after each line.",
+               executions; TIME is the window of a rate rule in milliseconds. A rule of the firm has no ROOT and a T; C or P with F (the front \
+               two months) or T (trailing ones) makes a rule of one unit, and without them a rule of a root counts each of its four units for itself. No blanks, no commas inside numbers, LF after each line.",
         examples: &["ABCD,rate_vol,XYZ,500,1000", "ABCD,abs_ntnl,,2000000,,T", "ABCD,rate_count,QQQ,10,60000,,P,F"],
     },
 ];

@@ -1,6 +1,8 @@
 //! A real browser for tests: chromium without a window, driven by chromedriver over its own protocol.
 #![allow(dead_code)]
 pub mod json;
+#[path = "../common/skipped.rs"]
+mod skipped;
 mod wire;
 
 use json::{quoted, Json};
@@ -38,7 +40,7 @@ impl Browser {
     pub fn begin(folder: &Path, looks: &Looks) -> Option<Browser> {
         let turn = ONE.lock().unwrap_or_else(PoisonError::into_inner);
         if !there("chromium") || !there("chromedriver") {
-            eprintln!("skipped: there is no chromium with chromedriver here, so no page is looked at in a browser");
+            skipped::skipped("the desk's pages in a browser, since there is no chromium with chromedriver");
             return None;
         }
         let mut command = Command::new("chromedriver");
@@ -49,7 +51,10 @@ impl Browser {
         match browser.tried("/session", &capabilities(folder, looks)) {
             Ok(answer) => browser.session = answer.get("sessionId").text().to_string(),
             Err(why) => {
-                eprintln!("skipped: chromium does not start here, so no page is looked at in a browser: {why}");
+                skipped::skipped(&format!(
+                    "the desk's pages in a browser, since chromium does not start: {}",
+                    why.chars().take(200).collect::<String>()
+                ));
                 return None;
             }
         }

@@ -1,4 +1,6 @@
 //! A program at a terminal of its own, by `script`, with keys that are typed when the program has said what they wait for.
+#[path = "skipped.rs"]
+mod skipped;
 use std::io::{Read, Write};
 use std::path::Path;
 use std::process::{Child, Command, Stdio};
@@ -10,7 +12,7 @@ const PATIENCE: Duration = Duration::from_secs(60);
 /// What a program says at a terminal; nothing where the machine has no `script`. Each step waits for words and then types keys.
 pub fn said(program: &str, place: &Path, environment: &[(&str, &str)], steps: &[(&str, &str)]) -> Option<String> {
     if Command::new("script").arg("--version").output().is_err() {
-        eprintln!("skipped: there is no script here to make a terminal");
+        skipped::skipped("the desk at a terminal, since there is no script to make one");
         return None;
     }
     let mut command = Command::new("script");

@@ -20,37 +20,29 @@ use Rattle.reset.proofs.effect_of.Reads as effect-of-reads
 use Rattle.reset.proofs.wipe.Reads as wipe-reads
 use Rattle.state.proofs.put_clock.Reads as put-clock-reads
 
--- src/lib.rt:99:9
 effect-of-requires : tie.Need-effect-of-requires
 effect-of-requires c κs = search needs
 
--- src/lib.rt:100:5
 put-clock-requires : tie.Need-put-clock-requires
 put-clock-requires c κs = search needs
 
--- src/lib.rt:101:17
 sub-lift : tie.Need-sub-lift
 sub-lift c = search needs
 
--- src/lib.rt:101:17
 part-lift-start : tie.Need-part-lift-start
 part-lift-start c = search needs
 
--- src/lib.rt:101:17
 part-lift-end : tie.Need-part-lift-end
 part-lift-end c = search needs
 
--- src/lib.rt:101:5
 lift-requires : tie.Need-lift-requires
 lift-requires c κs =
     let start = c .before .before .before .before .before .before .before in
     (locks-held (moved-laid (start .pre .0) (start .args .time) (c .before .before .before .put-clock .ensures)), start .pre .1)
 
--- src/lib.rt:103:9
 same-length : tie.Need-same-length
 same-length c = search needs
 
--- src/lib.rt:103:9
 returns : tie.Need-returns
 returns c =
     let start = c .before .before .before .before .before .before .before .before .before .before .before .before in
@@ -59,7 +51,6 @@ returns c =
     unlocked-stored (start .pre .0) (a .time) (c .before .before .before .before .before .before .before .before .put-clock .ensures) (a .root) e (c .before .before .before .before .lift .ensures) (start .pre .2) (zeroes-neither e (c .if1 .taken))
     ∙ ap (λ (e : Effect). stored (after (resetting (a .time) (a .root) e) (decode (a .m .now))) (a .m .now)) (c .before .before .before .before .before .before .before .before .before .before .effect-of .ensures)
 
--- src/lib.rt:105:5
 wipe-requires : tie.Need-wipe-requires
 wipe-requires c κs =
     let start = c .before .before .before .before .before .before .before .before .before .before .before .before .before in
@@ -67,19 +58,15 @@ wipe-requires c κs =
     let e = c .before .before .before .before .before .before .before .before .before .before .before .effect-of .result in
     light-laid (start .pre .0) (a .time) (c .before .before .before .before .before .before .before .before .before .put-clock .ensures) (a .root) e (c .before .before .before .before .before .lift .ensures)
 
--- src/lib.rt:106:17
 sub-unflag : tie.Need-sub-unflag
 sub-unflag c = search needs
 
--- src/lib.rt:106:17
 part-unflag-start : tie.Need-part-unflag-start
 part-unflag-start c = search needs
 
--- src/lib.rt:106:17
 part-unflag-end : tie.Need-part-unflag-end
 part-unflag-end c = search needs
 
--- src/lib.rt:106:5
 unflag-requires : tie.Need-unflag-requires
 unflag-requires c κs =
     let start = c .before .before .before .before .before .before .before .before .before .before .before .before .before .before .before .before .before in
@@ -87,11 +74,9 @@ unflag-requires c κs =
     let e = c .before .before .before .before .before .before .before .before .before .before .before .before .before .before .before .effect-of .result in
     laid-held (emptied-laid (start .pre .0) (a .time) (c .before .before .before .before .before .before .before .before .before .before .before .before .before .put-clock .ensures) (a .root) e (c .before .before .before .before .before .before .before .before .before .lift .ensures) (c .before .before .before .wipe .ensures))
 
--- src/lib.rt:95:1
 same-length-2 : tie.Need-same-length-2
 same-length-2 c = search needs
 
--- src/lib.rt:95:1
 returns-2 : tie.Need-returns-2
 returns-2 c =
     let start = c .before .before .before .before .before .before .before .before .before .before .before .before .before .before .before .before .before .before .before .before in

@@ -10,23 +10,18 @@ use Rattle.calls.proofs.refusals.is_offer.Reads as reads
 use Rattle.calls.proofs.refusals.is_offer.Lts as lts
 use Rattle.measures.proofs.Contracts.offer.Reads as offer-reads
 
--- src/lib.rt:168:11
 offer-requires : tie.Need-offer-requires
 offer-requires c κs = search needs
 
--- src/lib.rt:169:33
 enum-told : tie.Need-enum-told
 enum-told c = search needs
 
--- src/lib.rt:170:31
 enum-told-2 : tie.Need-enum-told-2
 enum-told-2 c = search needs
 
--- src/lib.rt:165:1
 returns : tie.Need-returns
 returns c = let h = rw (c .enum-told .given .1) at (c .before .before .offer .ensures) in sym (in-test offers _ (h .1))
 
--- src/lib.rt:165:1
 returns-2 : tie.Need-returns-2
 returns-2 c = let h = rw (c .enum-told2 .given .1) at (c .before .before .offer .ensures) in sym (out-test offers _ h)
 

@@ -10,23 +10,18 @@ use Rattle.calls.proofs.refusals.is_premium.Reads as reads
 use Rattle.calls.proofs.refusals.is_premium.Lts as lts
 use Rattle.measures.proofs.TenThousandths.premium.Reads as premium-reads
 
--- src/lib.rt:158:11
 premium-requires : tie.Need-premium-requires
 premium-requires c κs = search needs
 
--- src/lib.rt:159:38
 enum-told : tie.Need-enum-told
 enum-told c = search needs
 
--- src/lib.rt:160:36
 enum-told-2 : tie.Need-enum-told-2
 enum-told-2 c = search needs
 
--- src/lib.rt:155:1
 returns : tie.Need-returns
 returns c = let h = rw (c .enum-told .given .1) at (c .before .before .premium .ensures) in sym (in-test premiums _ (h .1))
 
--- src/lib.rt:155:1
 returns-2 : tie.Need-returns-2
 returns-2 c = let h = rw (c .enum-told2 .given .1) at (c .before .before .premium .ensures) in sym (out-test premiums _ h)
 

@@ -7,15 +7,12 @@ use Rattle.calls.proofs.refusals.is_priced.Lts as lts
 use Rattle.calls.proofs.refusals.is_offer.Reads as is-offer-reads
 use Rattle.calls.proofs.refusals.is_premium.Reads as is-premium-reads
 
--- src/lib.rt:178:5
 is-premium-requires : tie.Need-is-premium-requires
 is-premium-requires c κs = search needs
 
--- src/lib.rt:178:29
 is-offer-requires : tie.Need-is-offer-requires
 is-offer-requires c κs = search needs
 
--- src/lib.rt:175:1
 returns : tie.Need-returns
 returns c = rw (c .before .is-premium .ensures, c .is-offer .ensures)
 

@@ -7,31 +7,24 @@ use Rattle.given.proofs.roots.are_roots.Reads as reads
 use Rattle.given.proofs.roots.are_roots.Lts as lts
 use Rattle.given.proofs.roots.names_hold.Reads as names-hold-reads
 
--- src/lib.rt:101:13
 shared-slice-read-n : tie.Need-shared-slice-read-n
 shared-slice-read-n c = search needs
 
--- src/lib.rt:103:9
 returns : tie.Need-returns
 returns c = roots-many _ (c .if1 .taken)
 
--- src/lib.rt:105:16
 sub-names-hold : tie.Need-sub-names-hold
 sub-names-hold c = search needs
 
--- src/lib.rt:105:16
 part-names-hold-start : tie.Need-part-names-hold-start
 part-names-hold-start c = search needs
 
--- src/lib.rt:105:16
 part-names-hold-end : tie.Need-part-names-hold-end
 part-names-hold-end c = search needs
 
--- src/lib.rt:105:5
 names-hold-requires : tie.Need-names-hold-requires
 names-hold-requires c κs = search needs
 
--- src/lib.rt:97:1
 returns-2 : tie.Need-returns-2
 returns-2 c = roots-few _ (c .before .before .if1 .left) _ (c .names-hold .ensures)
 

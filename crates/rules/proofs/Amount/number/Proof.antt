@@ -6,29 +6,23 @@ use Rattle.rules.proofs.Amount.number.Tie as tie
 use Rattle.rules.proofs.Amount.number.Reads as reads
 use Rattle.rules.proofs.Amount.number.Lts as lts
 
--- src/lib.rt:80:30
 enum-known-self : tie.Need-enum-known-self
 enum-known-self c = search needs
 
--- src/lib.rt:81:28
 enum-known-self-2 : tie.Need-enum-known-self-2
 enum-known-self-2 c = search needs
 
--- src/lib.rt:82:27
 enum-known-self-3 : tie.Need-enum-known-self-3
 enum-known-self-3 c = search needs
 
--- src/lib.rt:76:5
 returns : tie.Need-returns
 unfolding numberOf
 returns c = rw (c .before .self .given .1)
 
--- src/lib.rt:76:5
 returns-2 : tie.Need-returns-2
 unfolding numberOf
 returns-2 c = rw (c .before .self2 .given .1)
 
--- src/lib.rt:76:5
 returns-3 : tie.Need-returns-3
 unfolding numberOf
 returns-3 c = rw (c .before .self3 .given .1)

@@ -6,29 +6,23 @@ use Rattle.rules.proofs.Limit.amount.Tie as tie
 use Rattle.rules.proofs.Limit.amount.Reads as reads
 use Rattle.rules.proofs.Limit.amount.Lts as lts
 
--- src/lib.rt:93:52
 enum-told : tie.Need-enum-told
 enum-told c = search needs
 
--- src/lib.rt:94:48
 enum-told-2 : tie.Need-enum-told-2
 enum-told-2 c = search needs
 
--- src/lib.rt:95:46
 enum-told-3 : tie.Need-enum-told-3
 enum-told-3 c = search needs
 
--- src/lib.rt:89:5
 returns : tie.Need-returns
 unfolding amountIn
 returns c = rw (c .enum-told .given .1)
 
--- src/lib.rt:89:5
 returns-2 : tie.Need-returns-2
 unfolding amountIn
 returns-2 c = rw (c .enum-told2 .given .1)
 
--- src/lib.rt:89:5
 returns-3 : tie.Need-returns-3
 unfolding amountIn
 returns-3 c = rw (c .enum-told3 .given .1)

@@ -10,27 +10,21 @@ use Rattle.rules.proofs.Limit.amount.Reads as amount-reads
 use Rattle.rules.proofs.Limit.ceiling.Reads as ceiling-reads
 use Rattle.rules.proofs.less.Reads as less-reads
 
--- src/lib.rt:162:13
 ceiling-requires : tie.Need-ceiling-requires
 ceiling-requires c κs = search needs
 
--- src/lib.rt:163:27
 number-requires : tie.Need-number-requires
 number-requires c κs = search needs
 
--- src/lib.rt:163:42
 number-requires-2 : tie.Need-number-requires-2
 number-requires-2 c κs = search needs
 
--- src/lib.rt:163:22
 less-requires : tie.Need-less-requires
 less-requires c κs = search needs
 
--- src/lib.rt:163:9
 amount-requires : tie.Need-amount-requires
 amount-requires c κs = search needs
 
--- src/lib.rt:157:5
 returns : tie.Need-returns
 returns c = rw (c .amount .ensures, c .before .less .ensures, c .before .before .before .number .ensures, c .before .before .number2 .ensures, c .before .before .before .before .ceiling .ensures, number-in)
 
