@@ -115,7 +115,7 @@ def asking(root, sources):
     paper = root / "docs" / "DECISIONS.md"
     section = paper.read_text().split(ASKING, 1)[1].split("\n## ", 1)[0]
     listed = {name for row in re.findall(r"^\| (`.*?) \|", section, re.M) for name in in_letters(row)}
-    there = {function.path for function in sources.functions if function.public and function.asks}
+    there = {sources.path_of(function) for function in sources.functions if function.public and function.asks}
     for name in sorted(there - listed):
         yield f"docs/DECISIONS.md does not list {name}, which has a `requires`"
     for name in sorted(listed - there):

@@ -75,6 +75,16 @@ class Sources:
             found.update(WORD.findall(text), PROVED_WORD.findall(text), re.findall(r"_\w+_\w*_", text))
         return found
 
+    def path_of(self, function):
+        """As a paper names it: the module stands before the name where the crate itself has a public function of that name."""
+        own = any(
+            other.public and other.module == "lib" and (other.crate, other.type, other.name) == (function.crate, function.type, function.name)
+            for other in self.functions
+        )
+        if own and function.module != "lib":
+            return f"{function.crate}::{function.module}::{function.name}"
+        return function.path
+
     def declared(self, crate):
         """What a crate's code declares: functions, types, constants and cases, by name."""
         names = set()
