@@ -7,9 +7,9 @@ LATER = "later"
 # what the checker says of a proof whose parts no longer fit the code or the statement: a name, a field or a part that is gone, one part given for
 # another, a half taken of what is no pair, or a tactic used on what it is not for
 UNFIT = re.compile(
-    r"has type `tie\.Need-|has no `[^`]*` that can be named from here|has no field|is not a field of|not in scope"
-    r"|projects from a `×` type or a record|proves only a path"
+    r"has no `[^`]*` that can be named from here|has no field|is not a field of|not in scope|projects from a `×` type or a record|proves only a path"
 )
+EXCHANGED = "has type `tie.Need-"
 
 
 def reached(said):
@@ -37,8 +37,8 @@ def errors_in(said):
 
 
 def is_fact(error):
-    """True if an error is not about a proof's shape."""
-    return not UNFIT.search(error)
+    """True if an error is not about a proof's shape: its first line says what is wrong, and the lines after it may give advice."""
+    return EXCHANGED not in error and not UNFIT.search(error.splitlines()[0])
 
 
 def meaningless(said):
@@ -55,7 +55,7 @@ def of_function(edit, said):
         return f"the check says nothing of {edit.function}"
     if status == "proved":
         return f"NOT REFUSED: {edit.function} is still proved"
-    if any("has type `tie.Need-" in error for error in errors) or errors and not any(is_fact(error) for error in errors):
+    if any(EXCHANGED in error for error in errors) or errors and not any(is_fact(error) for error in errors):
         return f"{edit.function} is refused for its proof's shape, not for a fact"
     if not errors and "; it calls " in status:
         return LATER
