@@ -4,6 +4,7 @@ pub mod Marked
 pub mod Judged
 pub mod Answered
 pub mod Refusals
+pub mod Texts
 pub mod Read
 pub mod Fresh
 pub mod Holds
