@@ -5,6 +5,7 @@ pub mod Judged
 pub mod Answered
 pub mod Refusals
 pub mod Texts
+pub mod FirmRefusals
 pub mod Read
 pub mod Fresh
 pub mod Holds
@@ -12,7 +13,9 @@ pub mod Follows
 pub mod Never
 pub mod Unarmed
 pub mod Arming
+pub mod FirmArming
 pub mod Kept
+pub mod FirmKept
 pub mod Moved
 pub mod Goes
 pub mod Day
