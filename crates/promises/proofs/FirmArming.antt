@@ -22,7 +22,7 @@ use Rattle.state.specs.State.{size, decode}
 use Rattle.firms.specs.Seats.{Seat, empty, taken, facing}
 use Rattle.firms.specs.Doings.{nameOf}
 use Rattle.seats.specs.Memory.{stateSize, seatPart, decodeSeat, decodeSeats, SoundMemory, isSoundMemory, firmOf, armRefusal, givenTo, armAnswer}
-use Rattle.seats.proofs.Calls.{ready-is, sound-is}
+use Rattle.seats.proofs.Calls.{Ready, ready-is, sound-is}
 use Rattle.seats.proofs.Both.{other-decoded}
 use Rattle.seats.proofs.Armable.{Armable, armable, arm-refused, part-mark, no-name}
 use Rattle.capi.specs.Rows.{armRow}
@@ -76,19 +76,22 @@ module _ (xs : List ℕ) (firm : ℕ) where
     unnamed : firmMark xs (1 - firm) ≡ 0 → nameOf otherSeat ≡ 0
     unnamed m = ap nameOf (sym (other-decoded xs firm (a .known))) ∙ sym (no-name otherPart (part-mark xs (1 - firm) ∙ m))
 
-    named : (firmMark xs (1 - firm) ≡ 0 → ⊥) → nameOf otherSeat ≡ decode otherPart .part .profile .firm
+    pub named : (firmMark xs (1 - firm) ≡ 0 → ⊥) → nameOf otherSeat ≡ decode otherPart .part .profile .firm
     unfolding decodeSeat nameOf
     named m =
         ap nameOf (sym (other-decoded xs firm (a .known)))
         ∙ rw (ne-eqb (getD otherPart 0 0) 0 (λ z. m (sym (part-mark xs (1 - firm)) ∙ z)))
 
+    pub other-ready : (firmMark xs (1 - firm) ≡ 0 → ⊥) → Ready xs (1 - firm)
+    other-ready m =
+        let sound = a .beside (λ z. m (ap (λ (i : ℕ). getD xs i 0) (sym (other-at firm)) ∙ z)) in
+        ready-is xs (1 - firm) (sym (sound-is xs (1 - firm) (a .long) (omega arith) m sound))
+
     held-name : (firmMark xs (1 - firm) ≡ 0 → ⊥) → (name : ℕ)
         → (decode otherPart .part .profile .firm ≡ name) ↔ HoldingFirm xs (1 - firm) (λ places s. s .part .profile .firm ≡ name)
-    held-name m name =
-        let sound = a .beside (λ z. m (ap (λ (i : ℕ). getD xs i 0) (sym (other-at firm)) ∙ z)) in
-        on-held xs (1 - firm) (ready-is xs (1 - firm) (sym (sound-is xs (1 - firm) (a .long) (omega arith) m sound))) (λ places s. s .part .profile .firm ≡ name)
+    held-name m name = on-held xs (1 - firm) (other-ready m) (λ places s. s .part .profile .firm ≡ name)
 
-    other-name : (name : ℕ) → (nameOf otherSeat ≡ name) ↔ OtherName xs firm name
+    pub other-name : (name : ℕ) → (nameOf otherSeat ≡ name) ↔ OtherName xs firm name
     other-name name = go (eqb (firmMark xs (1 - firm)) 0) refl
       where
         go : (b : Bool) → eqb (firmMark xs (1 - firm)) 0 ≡ b → (nameOf otherSeat ≡ name) ↔ OtherName xs firm name
@@ -111,24 +114,24 @@ module _ (xs : List ℕ) (firm : ℕ) where
     start = startBeside name text
 
     -- the number that comes without a line
-    abbrev wrongly : ℕ
+    abbrev pub wrongly : ℕ
     wrongly = cond (not (isIn (1 to 65_536) (length text))) 5 0
 
-    abbrev early : ℕ
+    abbrev pub early : ℕ
     early = orElse (armRefusal xs firm) wrongly
 
-    early-gives : Gives early (firmArmRefusals xs firm text)
+    pub early-gives : Gives early (firmArmRefusals xs firm text)
     early-gives =
         arm-leads wrongly (5 when Unsized text else none)
         (λ e n. Iff·trans (λ p. or-zero wrongly ∙ p, λ p. sym (or-zero wrongly) ∙ p)
         (tested 0 none (not (isIn (1 to 65_536) (length text))) 4 0 (size-tells text) (ends 0 none) (λ z. none-gives) n))
 
-    given-answer : armRefusal xs firm ≡ 0 → armAnswer xs firm text ≡ readingOf (outcomeFrom start text)
+    pub given-answer : armRefusal xs firm ≡ 0 → armAnswer xs firm text ≡ readingOf (outcomeFrom start text)
     unfolding armAnswer givenTo outcomeBeside
     given-answer e = rw e
 
     -- no such number: the memory and the size of the text are as they should be
-    early-free : early ≡ 0 → (armRefusal xs firm ≡ 0) × Sized text
+    pub early-free : early ≡ 0 → (armRefusal xs firm ≡ 0) × Sized text
     unfolding orElse
     early-free e = go (armRefusal xs firm) (isIn (1 to 65_536) (length text)) refl refl e
       where

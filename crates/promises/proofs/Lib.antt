@@ -14,6 +14,7 @@ pub mod Never
 pub mod Unarmed
 pub mod Arming
 pub mod FirmArming
+pub mod OtherName
 pub mod Kept
 pub mod FirmKept
 pub mod Moved

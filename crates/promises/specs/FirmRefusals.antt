@@ -1,6 +1,6 @@
 -- When each call of a firm is refused, on memory that two firms share: number by number, in the order in which the calls look for them. Assumes
 -- nothing.
-use Prim.Native.Nat.{ℕ, suc, _*_, _-_, _≤_, _<_}
+use Prim.Native.Nat.{ℕ, suc, _*_, _-_, _<_}
 use mathlib.Core.Path.{_≡_}
 use mathlib.Core.Logic.{_↔_, _⊎_}
 use mathlib.Core.Bool.{false, cond}
@@ -18,7 +18,7 @@ use Rattle.firms.specs.Seats.{taken, Seats, facing, roomBeside}
 use Rattle.firms.specs.Sound.{SoundSeats}
 use Rattle.seats.specs.Memory.{stateSize, encodeSeats, SoundMemory, firmOf, firmAnswer, firmMemory, armAnswer, armMemory, clearFirmAnswer, clearFirmMemory, clearAllAnswer, clearAllMemory}
 use Rattle.capi.specs.Rows.{armRow, clearRow}
-use Rattle.promises.specs.Refusals.{refusalRow, _when_else_, none, refusalsOf, Unsized, profileOf, Faultless, startIn, FirstFault, acceptedRow}
+use Rattle.promises.specs.Refusals.{refusalRow, _when_else_, none, refusalsOf, Unsized, profileOf, Faultless, firstLine, startIn, FirstFault, acceptedRow}
 
 -- ---- the memory and the firm
 
@@ -93,6 +93,15 @@ pub record FirmArmRefusals (xs : List ℕ) (firm : ℕ) (text : List ℕ) : Type
   pub accepted :
       (armRow (armAnswer xs firm text) ≡ acceptedRow (profileOf (startIn text) (lines text)))
       ↔ (firmArmRefusals xs firm text 0 × Beside xs firm (λ other. Faultless (startBeside other text) (lines text)))
+
+-- what 7 says beside the other
+pub record OtherNamed (xs : List ℕ) (firm : ℕ) (text : List ℕ) : Type 0 where
+  -- beside no name, or one that line 1 does not have, a text is read as by itself
+  pub another : (other : ℕ) → (other ≡ 0) ⊎ (firmIn (firstLine text) ≡ other → ⊥) → startBeside other text ≡ startIn text
+  -- where the other is armed under the name of line 1, that line has 6 if it is malformed, and else 7, before its 8 to 11
+  pub same :
+      firmArmRefusals xs firm text 0 → (firmMark xs (1 - firm) ≡ 0 → ⊥) → OtherName xs firm (firmIn (firstLine text))
+      → armRow (armAnswer xs firm text) ≡ cond (malformed (firstLine text)) 6 7 ∷ 1 ∷ 0 ∷ 0 ∷ 0 ∷ []
 
 -- ---- clearing
 

@@ -163,9 +163,12 @@ Faultless p (line ∷ more) = (firstOf (faults p line) ≡ 0) × Faultless (join
 abbrev pub Unsized : List ℕ → Type 0
 Unsized text = (length text ≡ 0) ⊎ (65_536 < length text)
 
+abbrev pub firstLine : List ℕ → List ℕ
+firstLine text = getD (lines text) 0 []
+
 -- before the first line: the firm of that line, no root and no rule
 abbrev pub startIn : List ℕ → Profile
-startIn text = startOf (firmIn (getD (lines text) 0 []))
+startIn text = startOf (firmIn (firstLine text))
 
 -- the first faulty line of a text that is read from a start, counted from 1, and the lowest number that applies to it
 pub record FirstFault (start : Profile) (text : List ℕ) (number place : ℕ) : Type 0 where
