@@ -27,7 +27,7 @@ use Rattle.seats.proofs.Both.{other-decoded}
 use Rattle.seats.proofs.Armable.{Armable, armable, arm-refused, part-mark, no-name}
 use Rattle.capi.specs.Rows.{armRow}
 use Rattle.promises.specs.Refusals.{refusalRow, _when_else_, none, Unsized, profileOf, Faultless, startIn, FirstFault, acceptedRow}
-use Rattle.promises.specs.FirmRefusals.{ShortState, NoFirm, firmMark, HoldingFirm, firmArmRefusals, OtherName, startBeside, Beside, FirmArmRefusals}
+use Rattle.promises.specs.FirmRefusals.{firmMark, HoldingFirm, unarmedThen, firmArmRefusals, OtherName, startBeside, Beside, FirmArmRefusals}
 use Rattle.promises.proofs.Tests.{Tells, not-tells, and-tells, or-tells, tells-as, ltb-tells, eqb-tells, above-tells}
 use Rattle.promises.proofs.Gives.{Gives, orElse, or-zero, none-gives, Leads, ends, tested}
 use Rattle.promises.proofs.Texts.{Sized, outcome, outcomeFrom, unsized-is, faulty-is, fine-is, TextComes, wrongSize, wrongLine, allRead, text-comes}
@@ -54,9 +54,7 @@ module _ (xs : List ℕ) (firm : ℕ) where
 
   -- 1, 13, 3 and 2, and what comes after them
   arm-leads : (r : ℕ) (after : ℕ → Type 0)
-      → Leads r after (armRefusal xs firm)
-      (1 when ShortState xs else 13 when NoFirm firm else 3 when (firmMark xs firm ≡ 0 → ⊥) else
-      2 when ((firmMark xs (1 - firm) ≡ 0 → ⊥) × (SoundMemory xs → ⊥)) else after)
+      → Leads r after (armRefusal xs firm) (unarmedThen xs firm after)
   unfolding armRefusal firstOf
   arm-leads r after =
       tested r after (ltb (length xs) stateSize) 0 _ (ltb-tells (length xs) stateSize)

@@ -7,25 +7,27 @@ use mathlib.Core.Bool.{Bool, true, false, not, cond, false≢true}
 use mathlib.Core.List.{List, _++_}
 use lib.ListN.{length, getD, take, drop, take-append-drop}
 use lib.Dec.{eqb, ltb}
-use borrow.Author.Tests.{le-leb, ltb-true, ltb-false}
+use borrow.Author.Tests.{le-leb, ne-eqb}
 use Rattle.laws.proofs.Tests.{and-i}
 use Rattle.machine.specs.State.{State}
 use Rattle.machine.specs.Calls.{Call}
-use Rattle.machine.specs.Refusals.{firstOf, refusalOf}
+use Rattle.machine.specs.Refusals.{firstOf, badTime, used, refusalOf}
 use Rattle.machine.specs.Judge.{judged, unless, judge, isRefusal}
 use Rattle.machine.specs.declared.Answer.the-variants.{Refused}
 use Rattle.state.specs.State.{size, decode}
 use Rattle.state.proofs.Exactly.{made-parts, decode-made}
-use Rattle.firms.specs.Seats.{Seat, taken, Seats, facing, roomBeside}
-use Rattle.seats.specs.Memory.{stateSize, seatPart, encodeSeats, decodeSeats, SoundMemory, isSoundMemory, firmRefusal, firmOf, firmAnswer, firmMemory}
+use Rattle.firms.specs.Seats.{taken, Seats, facing, roomBeside}
+use Rattle.seats.specs.Memory.{stateSize, seatPart, encodeSeats, decodeSeats, SoundMemory, isSoundMemory, firmRefusal, firmOf, firmAnswer, firmMemory, useIn, useAnswer}
+use Rattle.seats.specs.declared.Using.{Using}
+use Rattle.seats.specs.declared.Using.the-variants.{Places, Refused as NotUsed}
 use Rattle.seats.proofs.Laws.{Tests}
 use Rattle.seats.proofs.Exactly.{all-again, exactly}
 use Rattle.seats.proofs.Calls.{Ready, ready-is, refused-is, unarmed-is, own-sound, own-taken, firm-answer}
-use Rattle.promises.specs.Refusals.{_when_else_, none, refusalsOf}
-use Rattle.promises.specs.FirmRefusals.{ShortState, NoFirm, firmMark, HoldsSeats, HoldingFirm, firmRefusals, FirmCallRefusals}
+use Rattle.promises.specs.Refusals.{_when_else_, none, BadTime, refusalsOf}
+use Rattle.promises.specs.FirmRefusals.{firmMark, HoldsSeats, HoldingFirm, memoryThen, firmRefusals, FirmCallRefusals, useRefusals, UseRefusals}
 use Rattle.promises.proofs.Tests.{Tells, not-tells, ltb-tells, eqb-tells}
 use Rattle.promises.proofs.Gives.{Gives, orElse, or-zero, none-gives, Leads, ends, tested}
-use Rattle.promises.proofs.Judged.{call-leads}
+use Rattle.promises.proofs.Judged.{time-tells, call-leads}
 use Rattle.promises.proofs.Answered.{row-number, none-number}
 
 -- ---- what the memory holds
@@ -81,9 +83,7 @@ module _ (xs : List ℕ) (firm : ℕ) where
           (subst⁻¹ (P (roomBeside (facing (firmOf firm) (g .seats) .second))) own (g .so))
 
   -- 1, 13, 4 and 2, and what comes after them
-  memory-leads : (r : ℕ) (after : ℕ → Type 0)
-      → Leads r after (firmRefusal xs firm)
-      (1 when ShortState xs else 13 when NoFirm firm else 4 when (firmMark xs firm ≡ 0) else 2 when (SoundMemory xs → ⊥) else after)
+  memory-leads : (r : ℕ) (after : ℕ → Type 0) → Leads r after (firmRefusal xs firm) (memoryThen xs firm after)
   unfolding firmRefusal firstOf
   memory-leads r after =
       tested r after (ltb (length xs) stateSize) 0 _ (ltb-tells (length xs) stateSize)
@@ -140,3 +140,56 @@ module _ (xs : List ℕ) (firm : ℕ) where
             on-held r (λ places s. 0 < length (s .part .profile .rules)) .0
             (made-parts (ownState .part .profile) (decode-made (seatPart firm xs) (own-sound xs firm r)) .some)
         go (suc n) e = absurd (false≢true (sym answered ∙ ap isRefusal (sym (refused-is xs firm (suc n) (sym e) (λ z. omega arith) call .0))))
+
+  -- ---- a question for the use
+
+  module _ (time : ℕ) where
+    abbrev late : ℕ
+    late = cond (badTime (ownState .part) time) 12 0
+
+    abbrev useNumber : ℕ
+    useNumber = orElse (firmRefusal xs firm) late
+
+    use-gives : Gives useNumber (useRefusals xs firm time)
+    use-gives =
+        memory-leads late (λ n. HoldingFirm xs firm (λ places s. (12 when BadTime s time else none) n))
+        (λ e n. Iff·trans (λ p. or-zero late ∙ p, λ p. sym (or-zero late) ∙ p)
+        (Iff·trans (tested 0 none (badTime (ownState .part) time) 11 0 (time-tells ownState time) (ends 0 none) (λ z. none-gives) n)
+        (on-held (ready-is xs firm e) (λ places s. (12 when BadTime s time else none) n))))
+
+    -- the answer by that number
+    useBy : ℕ → Using
+    useBy zero = Places (used ownState time) placesLeft
+    useBy (suc n) = NotUsed (suc n)
+
+    use-number : useAnswer xs firm time ≡ useBy useNumber
+    unfolding useAnswer useIn orElse useBy
+    use-number = go (firmRefusal xs firm) (badTime (ownState .part) time)
+      where
+        go : (n : ℕ) (b : Bool)
+            → cond (eqb n 0) (cond b (NotUsed 12) (Places (used ownState time) placesLeft)) (NotUsed n) ≡ useBy (orElse n (cond b 12 0))
+        go zero true = refl
+        go zero false = refl
+        go (suc n) b = rw (ne-eqb (suc n) 0 (λ z. omega arith))
+
+    use-free : useNumber ≡ 0 → firmRefusal xs firm ≡ 0
+    unfolding orElse
+    use-free e = go (firmRefusal xs firm) e
+      where
+        go : (n : ℕ) → orElse n late ≡ 0 → n ≡ 0
+        go zero e = refl
+        go (suc n) e = absurd (omega arith)
+
+    -- EACH REFUSAL OF A QUESTION FOR THE USE, and what it tells
+    pub use-refusals : UseRefusals xs firm time
+    unfolding useBy
+    use-refusals = record {
+      refused = λ n. Iff·trans (λ e. to n useNumber (sym use-number ∙ e), λ e. use-number ∙ ap useBy e) (use-gives (suc n));
+      told =
+          λ h. let z = use-gives 0 .1 h in
+          on-held (ready-is xs firm (use-free z)) (λ places s. useAnswer xs firm time ≡ Places (used s time) places) .0 (use-number ∙ ap useBy z);
+    }
+      where
+        to : (n k : ℕ) → useBy k ≡ NotUsed (suc n) → k ≡ suc n
+        to n zero e = cc
+        to n (suc k) e = cc

@@ -33,7 +33,7 @@ range-tells r n = and-tells (leb (r .least) n) (leb n (r .most)) (leb-tells (r .
 over-tells : (most n : ℕ) → Tells (not (leb 0 n && leb n most)) (most < n)
 over-tells most n = tells-as (or-tells (leb 0 n) (leb n most) (above-tells 0 n) (above-tells n most)) (⊎-elim (λ h. absurd (omega (arith, h))) (λ h. h), λ h. inr h)
 
-time-tells : (s : State) (time : ℕ) → Tells (badTime (s .part) time) (BadTime s time)
+pub time-tells : (s : State) (time : ℕ) → Tells (badTime (s .part) time) (BadTime s time)
 unfolding badTime
 time-tells s time = or-tells (isIn times time) (leb (s .part .clock) time) (over-tells (times .most) time) (above-tells (s .part .clock) time)
 

@@ -11,14 +11,16 @@ use Rattle.line.specs.Line.{firmIn, malformed}
 use Rattle.profile.specs.Profile.{startOf, firmBeside}
 use Rattle.machine.specs.State.{Profile, State}
 use Rattle.machine.specs.Calls.{Call}
+use Rattle.machine.specs.Refusals.{used}
 use Rattle.machine.specs.Judge.{numbers, isRefusal}
 use Rattle.state.specs.State.{size}
 use Rattle.state.specs.Sound.{Given}
 use Rattle.firms.specs.Seats.{taken, Seats, facing, roomBeside}
 use Rattle.firms.specs.Sound.{SoundSeats}
-use Rattle.seats.specs.Memory.{stateSize, encodeSeats, SoundMemory, firmOf, firmAnswer, firmMemory, armAnswer, armMemory, clearFirmAnswer, clearFirmMemory, clearAllAnswer, clearAllMemory}
+use Rattle.seats.specs.Memory.{stateSize, encodeSeats, SoundMemory, firmOf, firmAnswer, firmMemory, armAnswer, armMemory, useAnswer, clearFirmAnswer, clearFirmMemory, clearAllAnswer, clearAllMemory}
+use Rattle.seats.specs.declared.Using.the-variants.{Places, Refused as NotUsed}
 use Rattle.capi.specs.Rows.{armRow, clearRow}
-use Rattle.promises.specs.Refusals.{refusalRow, _when_else_, none, refusalsOf, Unsized, profileOf, Faultless, firstLine, startIn, FirstFault, acceptedRow}
+use Rattle.promises.specs.Refusals.{refusalRow, _when_else_, none, BadTime, refusalsOf, Unsized, profileOf, Faultless, firstLine, startIn, FirstFault, acceptedRow}
 
 -- ---- the memory and the firm
 
@@ -48,24 +50,40 @@ pub record HoldingFirm (xs : List ℕ) (firm : ℕ) (P : ℕ → State → Type 
 
 -- ---- the calls of an armed firm
 
--- 1, 13, 4 and 2, then what the call on the firm's state is refused for, with the places that the other leaves
+-- every call of a firm looks for 1, 13, 4 and 2 first, and then for what its state is asked
+abbrev pub memoryThen : List ℕ → ℕ → (ℕ → Type 0) → ℕ → Type 0
+memoryThen xs firm after =
+    1 when ShortState xs else 13 when NoFirm firm else 4 when (firmMark xs firm ≡ 0) else 2 when (SoundMemory xs → ⊥) else after
+
+-- then for what the call is refused for on the firm's state, with the places that the other leaves
 abbrev pub firmRefusals : List ℕ → ℕ → Call → ℕ → Type 0
-firmRefusals xs firm call =
-    1 when ShortState xs else 13 when NoFirm firm else 4 when (firmMark xs firm ≡ 0) else 2 when (SoundMemory xs → ⊥) else
-    (λ n. HoldingFirm xs firm (λ places s. refusalsOf places s call none n))
+firmRefusals xs firm call = memoryThen xs firm (λ n. HoldingFirm xs firm (λ places s. refusalsOf places s call none n))
 
 -- a firm's call is refused with a number exactly if these give it, and not refused exactly if they give none
 pub record FirmCallRefusals (xs : List ℕ) (firm : ℕ) (call : Call) : Type 0 where
   pub refused : (n : ℕ) → (numbers (firmAnswer xs firm call) ≡ refusalRow (suc n)) ↔ firmRefusals xs firm call (suc n)
   pub accepted : (isRefusal (firmAnswer xs firm call) ≡ false) ↔ firmRefusals xs firm call 0
 
+-- a question for the use of the log is refused with 12 then
+abbrev pub useRefusals : List ℕ → ℕ → ℕ → ℕ → Type 0
+useRefusals xs firm time = memoryThen xs firm (λ n. HoldingFirm xs firm (λ places s. (12 when BadTime s time else none) n))
+
+-- it is refused with a number exactly if these give it, and tells the use at that time and the firm's places exactly if they give none
+pub record UseRefusals (xs : List ℕ) (firm time : ℕ) : Type 0 where
+  pub refused : (n : ℕ) → (useAnswer xs firm time ≡ NotUsed (suc n)) ↔ useRefusals xs firm time (suc n)
+  pub told : useRefusals xs firm time 0 → HoldingFirm xs firm (λ places s. useAnswer xs firm time ≡ Places (used s time) places)
+
 -- ---- arming a firm
 
--- 1, 13, 3 for a firm that is armed, 2 beside one that is marked in a state that is not sound, and 5
-abbrev pub firmArmRefusals : List ℕ → ℕ → List ℕ → ℕ → Type 0
-firmArmRefusals xs firm text =
+-- 1, 13, 3 for a firm that is armed, 2 beside one that is marked in a state that is not sound, and then for what the text has
+abbrev pub unarmedThen : List ℕ → ℕ → (ℕ → Type 0) → ℕ → Type 0
+unarmedThen xs firm after =
     1 when ShortState xs else 13 when NoFirm firm else 3 when (firmMark xs firm ≡ 0 → ⊥) else
-    2 when ((firmMark xs (1 - firm) ≡ 0 → ⊥) × (SoundMemory xs → ⊥)) else 5 when Unsized text else none
+    2 when ((firmMark xs (1 - firm) ≡ 0 → ⊥) × (SoundMemory xs → ⊥)) else after
+
+-- 5 is the text's first
+abbrev pub firmArmRefusals : List ℕ → ℕ → List ℕ → ℕ → Type 0
+firmArmRefusals xs firm text = unarmedThen xs firm (5 when Unsized text else none)
 
 -- the name of the other firm, 0 if it is not armed
 abbrev pub OtherName : List ℕ → ℕ → ℕ → Type 0
