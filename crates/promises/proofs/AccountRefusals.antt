@@ -3,7 +3,7 @@ use Prim.Native.Nat.{ℕ, zero, suc, _+_, _<_}
 use native.Mathlib.Omega.{arith}
 use mathlib.Core.Path.{_≡_, refl, sym, ap, _∙_}
 use mathlib.Core.Logic.{_↔_, _⊎_, Iff·trans}
-use mathlib.Core.Bool.{Bool, true, false, not, cond, false≢true}
+use mathlib.Core.Bool.{Bool, true, false, not, cond}
 use lib.Dec.{eqb}
 use borrow.Author.Tests.{ne-eqb, not-true}
 use mathlib.Core.List.{List}
@@ -11,7 +11,7 @@ use Rattle.rules.specs.declared.Level.{Level}
 use Rattle.machine.specs.declared.Answer.the-variants.{Refused}
 use Rattle.machine.specs.Calls.{Call}
 use Rattle.machine.specs.Refusals.{refusalOf}
-use Rattle.machine.specs.Judge.{logPlaces, judged, unless, numbers, isRefusal}
+use Rattle.machine.specs.Judge.{logPlaces, judged, unless, numbers}
 use Rattle.state.specs.State.{decode}
 use Rattle.state.specs.Sound.{Sound}
 use Rattle.calls.specs.Calls.{memoryRefusal, callAnswer, refusalIn}
@@ -31,8 +31,7 @@ use Rattle.promises.specs.AccountRefusals.{ShortAccount, Passing, accoun
 use Rattle.promises.proofs.Gives.{Gives, orElse, or-zero, none-gives, ends, tested}
 use Rattle.promises.proofs.Refusals.{ready-sound, held-gives}
 use Rattle.promises.proofs.Never.{refusal-least}
-use Rattle.promises.proofs.Holds.{acts-answered, acts-unrefused}
-use Rattle.promises.proofs.Answered.{acted-answer, refused-by, row-refused, row-by, unrefused}
+use Rattle.promises.proofs.Answered.{acted-answer, refused-by, row-number, none-number}
 use Rattle.promises.proofs.Counted.{ready-by-number, taken, taken-memory, taken-account, refused-memory, refused-account, known-root}
 use Rattle.promises.proofs.Lent.{LongAccount, lent-leads, lent-one, lent-two}
 
@@ -65,28 +64,6 @@ module _ (memory account : List ℕ) (call : Call) where
       go zero l zero p true f = acted-answer memory call p
       go zero l zero p false f = refl
 
-  -- a row, and no refusal, by the number
-  row-number : (n : ℕ) → (numbers (accountedAnswer memory account call) ≡ refusalRow (suc n)) ↔ (number ≡ suc n)
-  unfolding unless
-  row-number n =
-      Iff·trans (row-refused (accountedAnswer memory account call) n)
-      (λ e. to number (sym answer-number ∙ e), λ e. answer-number ∙ ap (λ (k : ℕ). unless k (judged (decode memory) call) .answer) e)
-    where
-      to : (k : ℕ) → unless k (judged (decode memory) call) .answer ≡ Refused (suc n) → k ≡ suc n
-      to zero e = absurd (acts-unrefused (decode memory) call (suc n) e)
-      to (suc k) e = cc
-
-  none-number : (isRefusal (accountedAnswer memory account call) ≡ false) ↔ (number ≡ 0)
-  unfolding unless isRefusal
-  none-number = (
-    λ e. to number (sym (ap isRefusal answer-number) ∙ e),
-    λ e. ap isRefusal (answer-number ∙ ap (λ (k : ℕ). unless k (judged (decode memory) call) .answer) e) ∙ acts-answered (decode memory) call,
-  )
-    where
-      to : (k : ℕ) → isRefusal (unless k (judged (decode memory) call) .answer) ≡ false → k ≡ 0
-      to zero e = refl
-      to (suc k) e = absurd (false≢true (sym e))
-
   -- the number of memory or account, which no plain call on ready memory has
   lent-number : (n : ℕ) → suc n < 12 → number ≡ suc n → lentRefusal memory account ≡ suc n
   unfolding orElse refusalIn
@@ -101,14 +78,18 @@ module _ (memory account : List ℕ) (call : Call) where
       go zero l zero p true e = absurd (omega arith)
       go zero l zero p false e = absurd (omega arith)
 
+  -- a row, by the number
+  by-number : (n : ℕ) → (numbers (accountedAnswer memory account call) ≡ refusalRow (suc n)) ↔ (number ≡ suc n)
+  by-number = row-number (decode memory) call number (accountedAnswer memory account call) answer-number
+
   -- so 1 and 2 are for the memory or the account
   pub why-one : accountedAnswer memory account call ≡ Refused 1 → Short memory ⊎ ShortAccount account
   unfolding numbers
-  why-one e = lent-one memory account (lent-number 0 (omega arith) (row-number 0 .0 (ap numbers e)))
+  why-one e = lent-one memory account (lent-number 0 (omega arith) (by-number 0 .0 (ap numbers e)))
 
   pub why-two : accountedAnswer memory account call ≡ Refused 2 → (Sound memory → ⊥) ⊎ Above account
   unfolding numbers
-  why-two e = lent-two memory account (lent-number 1 (omega arith) (row-number 1 .0 (ap numbers e)))
+  why-two e = lent-two memory account (lent-number 1 (omega arith) (by-number 1 .0 (ap numbers e)))
 
   -- ---- 21
 
@@ -142,7 +123,7 @@ module _ (memory account : List ℕ) (call : Call) where
       (tested 0 none (not fits) 20 0 (λ h. tells .0 (not-true fits h), λ h. ap not (tells .1 h)) (ends 0 none) (λ z. none-gives) n)
 
   abbrev plainThen : ℕ → Type 0
-  plainThen n = Holding memory (λ s. refusalsOf s call (21 when Passing memory account call else none) n)
+  plainThen n = Holding memory (λ s. refusalsOf logPlaces s call (21 when Passing memory account call else none) n)
 
   -- the plain call's number on memory and account that may be counted in, and 21
   plain-gives : lentRefusal memory account ≡ 0 → Gives (orElse (refusalIn memory call) full) plainThen
@@ -161,8 +142,8 @@ module _ (memory account : List ℕ) (call : Call) where
   pub account-refusals : AccountRefusals memory account call
   unfolding accountCounted
   account-refusals = record {
-    refused = λ n. Iff·trans (row-number n) (number-gives (suc n));
-    accepted = Iff·trans none-number (number-gives 0);
+    refused = λ n. Iff·trans (by-number n) (number-gives (suc n));
+    accepted = Iff·trans (none-number (decode memory) call number (accountedAnswer memory account call) answer-number) (number-gives 0);
     done = λ e. let t = taken memory account call e in
         (t .answer ∙ sym (t .plain), (taken-memory memory account call e, taken-account memory account call e));
     keeps = λ e. (refused-memory memory account call e, refused-account memory account call e);

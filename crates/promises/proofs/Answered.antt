@@ -2,12 +2,13 @@
 use Prim.Native.Nat.{ℕ, zero, suc}
 use native.Mathlib.Omega.{arith}
 use mathlib.Core.Path.{_≡_, refl, sym, ap, _∙_}
-use mathlib.Core.Logic.{_↔_}
+use mathlib.Core.Logic.{_↔_, Iff·trans}
 use mathlib.Core.Bool.{false, cond, false≢true}
 use mathlib.Core.List.{List}
 use lib.ListN.{getD}
 use lib.Dec.{eqb}
 use borrow.Author.Tests.{ne-eqb}
+use Rattle.machine.specs.State.{State}
 use Rattle.machine.specs.Calls.{Call}
 use Rattle.machine.specs.Refusals.{refusalOf}
 use Rattle.machine.specs.Judge.{logPlaces, judged, unless, judge, stepIn, step, numbers, isRefusal}
@@ -81,3 +82,27 @@ row-by xs call n = (
   λ e. by-refused xs call (suc n) (row-refused (callAnswer xs call) n .0 e),
   λ e. row-refused (callAnswer xs call) n .1 (refused-by xs call n e),
 )
+
+-- ---- an answer by a number, which is the machine's where the number is 0
+
+module _ (s : State) (call : Call) (number : ℕ) (a : Answer) (by : a ≡ unless number (judged s call) .answer) where
+  -- its row is a refusal's exactly if that is the number
+  pub row-number : (n : ℕ) → (numbers a ≡ refusalRow (suc n)) ↔ (number ≡ suc n)
+  unfolding unless
+  row-number n = Iff·trans (row-refused a n) (λ e. to number (sym by ∙ e), λ e. by ∙ ap (λ (k : ℕ). unless k (judged s call) .answer) e)
+    where
+      to : (k : ℕ) → unless k (judged s call) .answer ≡ Refused (suc n) → k ≡ suc n
+      to zero e = absurd (acts-unrefused s call (suc n) e)
+      to (suc k) e = cc
+
+  -- and it is not refused exactly if there is none
+  pub none-number : (isRefusal a ≡ false) ↔ (number ≡ 0)
+  unfolding unless isRefusal
+  none-number = (
+    λ e. to number (sym (ap isRefusal by) ∙ e),
+    λ e. ap isRefusal (by ∙ ap (λ (k : ℕ). unless k (judged s call) .answer) e) ∙ acts-answered s call,
+  )
+    where
+      to : (k : ℕ) → isRefusal (unless k (judged s call) .answer) ≡ false → k ≡ 0
+      to zero e = refl
+      to (suc k) e = absurd (false≢true (sym e))

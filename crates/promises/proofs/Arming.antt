@@ -10,17 +10,16 @@ use lib.Dec.{eqb, ltb, leb}
 use borrow.Author.Tests.{ltb-true, ltb-false, eqb-true, eqb-false, ne-eqb, leb-true, leb-false}
 use Rattle.text.specs.Text.{lines}
 use Rattle.machine.specs.State.{Profile}
-use Rattle.profile.specs.Profile.{Outcome, readOn, startOf, outcomeOf, readingOf}
+use Rattle.profile.specs.Profile.{Outcome, startOf, outcomeOf, readingOf}
 use Rattle.profile.specs.declared.Reading.{Reading}
 use Rattle.profile.specs.declared.Reading.the-variants.{Accepted, Refused as NotRead}
 use Rattle.state.specs.State.{size}
 use Rattle.calls.specs.Calls.{markOf, armAnswer}
 use Rattle.calls.proofs.Cases.{arm-short, arm-marked}
 use Rattle.capi.specs.Rows.{armRow}
-use Rattle.promises.specs.Refusals.{Short, Unmarked, Marked, profileOf, Faultless, startIn, FirstFault, acceptedRow, ArmRefusals}
+use Rattle.promises.specs.Refusals.{Short, Unmarked, Marked, profileOf, Faultless, startIn, FirstFault, acceptedRow, Unsized, ArmRefusals}
 use Rattle.promises.proofs.Unarmed.{unarmed-idle}
-use Rattle.promises.proofs.Tests.{first-least}
-use Rattle.promises.proofs.Read.{read-through, read-fault, Split, splits}
+use Rattle.promises.proofs.Texts.{Sized, outcomeFrom, unsized-is, faulty-is, fine-is, TextComes, wrongSize, wrongLine, allRead, text-comes}
 
 -- ---- rows
 
@@ -44,34 +43,12 @@ memory-cases xs = go (ltb (length xs) size) (eqb (markOf xs) 0) refl refl
     go false false e f = inr (inl (ltb-false _ _ e, eqb-false _ _ f))
     go false true e f = inr (inr (ltb-false _ _ e, eqb-true _ _ f))
 
--- a text is empty or too long, or it is read by its lines
-abbrev Unsized : List ℕ → Type 0
-Unsized text = (length text ≡ 0) ⊎ (65_536 < length text)
-
-abbrev Sized : List ℕ → Type 0
-Sized text = (1 ≤ length text) × (length text ≤ 65_536)
-
-abbrev Sizes : List ℕ → Type 0
-Sizes text =
-    (Unsized text × (outcomeOf text ≡ record { profile = startOf 0; refusal = 5; line = 0 }))
-    ⊎ (Sized text × (outcomeOf text ≡ readOn (startIn text) 0 (lines text)))
-
-sizes : (text : List ℕ) → Sizes text
-unfolding outcomeOf
-sizes text = go (leb 1 (length text)) (leb (length text) 65_536) refl refl
-  where
-    go : (a b : Bool) → leb 1 (length text) ≡ a → leb (length text) 65_536 ≡ b
-        → Sizes text
-    go false b e f = inl (inl (omega (arith, leb-false 1 (length text) e)), rw e)
-    go true false e f = inl (inr (leb-false _ _ f), rw (e, f))
-    go true true e f = inr ((leb-true _ _ e, leb-true _ _ f), rw (e, f))
-
 -- what a memory and a text come to
 data Comes (xs text : List ℕ) : Type 0 where
   short : Short xs → armAnswer xs text ≡ NotRead 1 0 → Comes xs text
   marked : Marked xs → armAnswer xs text ≡ NotRead 3 0 → Comes xs text
   unsized : Unmarked xs → Unsized text → armAnswer xs text ≡ NotRead 5 0 → Comes xs text
-  faulty : (number line : ℕ) → Unmarked xs → Sized text → 6 ≤ number → FirstFault text number line
+  faulty : (number line : ℕ) → Unmarked xs → Sized text → 6 ≤ number → FirstFault (startIn text) text number line
       → armAnswer xs text ≡ NotRead number line → Comes xs text
   fine : Unmarked xs → Sized text → Faultless (startIn text) (lines text) → Comes xs text
 
@@ -87,60 +64,38 @@ module _ (xs text : List ℕ) where
   unfolding readingOf
   fault-answer u p k line e = unmarked-answer u _ e ∙ rw (ne-eqb (suc k) 0 (λ z. omega arith))
 
-  sized-read : Sized text → outcomeOf text ≡ readOn (startIn text) 0 (lines text)
-  sized-read h = go (sizes text)
-    where
-      go : Sizes text → outcomeOf text ≡ readOn (startIn text) 0 (lines text)
-      go (inl (inl z, e)) = absurd (omega (arith, h .0, z))
-      go (inl (inr z, e)) = absurd (omega (arith, h .1, z))
-      go (inr k) = k .1
-
-  unsized-read : Unsized text → outcomeOf text ≡ record { profile = startOf 0; refusal = 5; line = 0 }
-  unsized-read h = go h (sizes text)
-    where
-      go : Unsized text
-          → Sizes text
-          → outcomeOf text ≡ record { profile = startOf 0; refusal = 5; line = 0 }
-      go h (inl k) = k .1
-      go (inl z) (inr k) = absurd (omega (arith, k .0 .0, z))
-      go (inr z) (inr k) = absurd (omega (arith, k .0 .1, z))
+  -- the text is read from the firm of its first line
+  from-start : outcomeOf text ≡ outcomeFrom (startIn text) text
+  unfolding outcomeOf
+  from-start = refl
 
   five-answer : Unmarked xs → Unsized text → armAnswer xs text ≡ NotRead 5 0
-  five-answer u h = fault-answer u (startOf 0) 4 0 (unsized-read h)
+  five-answer u h = fault-answer u (startOf 0) 4 0 (from-start ∙ unsized-is (startIn text) text h)
 
-  faulty-answer : Unmarked xs → Sized text → (number line : ℕ) → 6 ≤ number → FirstFault text number line → armAnswer xs text ≡ NotRead number line
+  faulty-answer : Unmarked xs → Sized text → (number line : ℕ) → 6 ≤ number → FirstFault (startIn text) text number line → armAnswer xs text ≡ NotRead number line
   faulty-answer u h zero line least f = absurd (omega (arith, least))
-  faulty-answer u h (suc k) line least f =
-      fault-answer u (profileOf (startIn text) (f .before)) k line
-      (sized-read h ∙ ap (readOn (startIn text) 0) (f .parts)
-      ∙ read-fault (startIn text) 0 (f .before) (f .line) (f .behind) k line (f .fine) (f .fault) (omega (arith, f .placed)))
+  faulty-answer u h (suc k) line least f = fault-answer u (profileOf (startIn text) (f .before)) k line (from-start ∙ faulty-is (startIn text) text h k line f)
 
   fine-answer : Unmarked xs → Sized text → Faultless (startIn text) (lines text) → armRow (armAnswer xs text) ≡ acceptedRow whole
   unfolding readingOf armRow
-  fine-answer u h f = ap armRow (unmarked-answer u _ (sized-read h ∙ read-through (startIn text) 0 (lines text) f))
+  fine-answer u h f = ap armRow (unmarked-answer u _ (from-start ∙ fine-is (startIn text) text h f))
 
   comes : Comes xs text
-  comes = go (memory-cases xs) (sizes text) (splits (startIn text) (lines text))
+  comes = go (memory-cases xs) (text-comes (startIn text) text)
     where
-      go : Short xs ⊎ Marked xs ⊎ Unmarked xs
-          → Sizes text
-          → Faultless (startIn text) (lines text) ⊎ Split (startIn text) (lines text) → Comes xs text
-      go (inl h) size split = short h (sym (arm-short xs text h .0))
-      go (inr (inl h)) size split = marked h (sym (arm-marked xs text (h .0) (h .1) .0))
-      go (inr (inr h)) (inl size) split = unsized h (size .0) (five-answer h (size .0))
-      go (inr (inr h)) (inr size) (inl f) = fine h (size .0) f
-      go (inr (inr h)) (inr size) (inr s) =
-          let least : 6 ≤ suc (s .number) = first-least 6 _ (tt, (tt, (tt, (tt, (tt, (tt, tt)))))) (s .number) (s .fault) in
-          let f : FirstFault text (suc (s .number)) (length (s .before) + 1) =
-          record { before = s .before; line = s .line; behind = s .behind; parts = s .parts; placed = refl; fine = s .fine; fault = s .fault } in
-          faulty (suc (s .number)) (length (s .before) + 1) h (size .0) least f (faulty-answer h (size .0) _ _ least f)
+      go : Short xs ⊎ Marked xs ⊎ Unmarked xs → TextComes (startIn text) text → Comes xs text
+      go (inl h) read = short h (sym (arm-short xs text h .0))
+      go (inr (inl h)) read = marked h (sym (arm-marked xs text (h .0) (h .1) .0))
+      go (inr (inr h)) (wrongSize u) = unsized h u (five-answer h u)
+      go (inr (inr h)) (wrongLine k line s least f) = faulty (suc k) (suc line) h s least f (faulty-answer h s _ _ least f)
+      go (inr (inr h)) (allRead s f) = fine h s f
 
   -- why a text is refused with a number and a line
   data Why (number line : ℕ) : Type 0 where
     isShort : number ≡ 1 → Short xs → Why number line
     isMarked : number ≡ 3 → Marked xs → Why number line
     isUnsized : number ≡ 5 → Unmarked xs → Unsized text → Why number line
-    isFaulty : 6 ≤ number → Unmarked xs → Sized text → FirstFault text number line → Why number line
+    isFaulty : 6 ≤ number → Unmarked xs → Sized text → FirstFault (startIn text) text number line → Why number line
 
   why : (n line : ℕ) → Comes xs text → armAnswer xs text ≡ NotRead (suc n) line → Why (suc n) line
   unfolding armRow
@@ -150,7 +105,7 @@ module _ (xs text : List ℕ) where
   why n line (faulty number place h s least f a) e =
       let same : number ≡ suc n = cc in
       let at : place ≡ line = cc in
-      isFaulty (omega (arith, least, same)) h s (subst (λ (k : ℕ). FirstFault text k line) same (subst (FirstFault text number) at f))
+      isFaulty (omega (arith, least, same)) h s (subst (λ (k : ℕ). FirstFault (startIn text) text k line) same (subst (FirstFault (startIn text) text number) at f))
   why n line (fine h s f) e = absurd (omega (arith, ap (λ (row : List ℕ). getD row 0 0) (sym (fine-answer h s f) ∙ ap armRow e)))
 
   -- EACH REFUSAL OF ARM, AS DOCUMENT 01 HAS IT
@@ -189,14 +144,14 @@ module _ (xs text : List ℕ) where
       for-five (isUnsized z h s) = (h, s)
       for-five (isFaulty z h s f) = absurd (omega arith)
 
-      at-line : (number line : ℕ) → 6 ≤ number → Why number line → Unmarked xs × (1 ≤ length text) × (length text ≤ 65_536) × FirstFault text number line
+      at-line : (number line : ℕ) → 6 ≤ number → Why number line → Unmarked xs × (1 ≤ length text) × (length text ≤ 65_536) × FirstFault (startIn text) text number line
       at-line number line least (isShort z h) = absurd (omega (arith, least))
       at-line number line least (isMarked z h) = absurd (omega (arith, least))
       at-line number line least (isUnsized z h s) = absurd (omega (arith, least))
       at-line number line least (isFaulty z h s f) = (h, s .0, s .1, f)
 
       for-line : (number line : ℕ) → 6 ≤ number → armRow (armAnswer xs text) ≡ number ∷ line ∷ 0 ∷ 0 ∷ 0 ∷ []
-          → Unmarked xs × (1 ≤ length text) × (length text ≤ 65_536) × FirstFault text number line
+          → Unmarked xs × (1 ≤ length text) × (length text ≤ 65_536) × FirstFault (startIn text) text number line
       for-line zero line least e = absurd (omega (arith, least))
       for-line (suc n) line least e = at-line (suc n) line least (refused n line e)
 

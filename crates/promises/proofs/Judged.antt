@@ -22,7 +22,6 @@ use Rattle.machine.specs.Offers.{grantOf}
 use Rattle.machine.specs.Effects.{lastReset}
 use Rattle.machine.specs.Refusals.{firstOf, badTime, isRoot, used, logFull, noPlaces, overdrawn, refusalOf}
 use Rattle.machine.specs.Register.{registerPlaces, isOpen, sentAt}
-use Rattle.machine.specs.Judge.{logPlaces}
 use Rattle.promises.specs.Refusals.{BadTime, NoPlaces, Overdrawn, refusalsOf}
 use Rattle.promises.proofs.Gives.{Leads, ends, tested}
 use Rattle.promises.proofs.Tests.{Tells, not-tells, and-tells, or-tells, three-tells, either-tells, tells-as, leb-tells, ltb-tells, eqb-tells, above-tells, least-tells}
@@ -34,7 +33,7 @@ range-tells r n = and-tells (leb (r .least) n) (leb n (r .most)) (leb-tells (r .
 over-tells : (most n : ℕ) → Tells (not (leb 0 n && leb n most)) (most < n)
 over-tells most n = tells-as (or-tells (leb 0 n) (leb n most) (above-tells 0 n) (above-tells n most)) (⊎-elim (λ h. absurd (omega (arith, h))) (λ h. h), λ h. inr h)
 
-time-tells : (s : State) (time : ℕ) → Tells (badTime (s .part) time) (BadTime s time)
+pub time-tells : (s : State) (time : ℕ) → Tells (badTime (s .part) time) (BadTime s time)
 unfolding badTime
 time-tells s time = or-tells (isIn times time) (leb (s .part .clock) time) (over-tells (times .most) time) (above-tells (s .part .clock) time)
 
@@ -67,35 +66,35 @@ free-tells false true = (λ e. absurd (false≢true e), λ h. absurd (false≢tr
 free-tells false false = (λ e. (refl, refl), λ h. refl)
 
 -- one place more than the use, or so many
-one-place : (n : ℕ) → (logPlaces ≤ n) ↔ (logPlaces < n + 1)
-one-place n = (λ h. omega (arith, h), λ h. omega (arith, h))
+one-place : (places n : ℕ) → (places ≤ n) ↔ (places < n + 1)
+one-place places n = (λ h. omega (arith, h), λ h. omega (arith, h))
 
-offer-tells : (s : State) (o : Offer) → Tells (logFull logPlaces s o) ((0 < grantOf (s .log) o (s .part .accounts)) × NoPlaces s o 1)
+offer-tells : (places : ℕ) (s : State) (o : Offer) → Tells (logFull places s o) ((0 < grantOf (s .log) o (s .part .accounts)) × NoPlaces places s o 1)
 unfolding logFull verdictOf
-offer-tells s o =
+offer-tells places s o =
     let free = eqb (verdictOf (s .part .locks) (o .root)) 0 in
     let granted = ltb 0 (grantOf (s .log) o (s .part .accounts)) in
     let rated = hasRate (rulesIn s) in
     let firm = isLocked (s .part .locks) Firm in
     let root = isLocked (s .part .locks) (Root (o .root)) in
     tells-as
-    (and-tells (free && granted && rated) (leb logPlaces (used s (o .time)))
+    (and-tells (free && granted && rated) (leb places (used s (o .time)))
     (and-tells (free && granted) rated (and-tells free granted (free-tells firm root) (ltb-tells 0 (grantOf (s .log) o (s .part .accounts)))) (same-tells rated))
-    (tells-as (leb-tells logPlaces (used s (o .time))) (one-place (used s (o .time))))) (
+    (tells-as (leb-tells places (used s (o .time))) (one-place places (used s (o .time))))) (
       λ h. (h .0 .0 .1, record { firmFree = h .0 .0 .0 .0; rootFree = h .0 .0 .0 .1; rated = h .0 .1; full = h .1 }),
       λ h. (((((h .1 .firmFree, h .1 .rootFree), h .0), h .1 .rated), h .1 .full)),
     )
 
-send-tells : (s : State) (o : Offer) (reports : ℕ) → Tells (noPlaces logPlaces s o reports) (NoPlaces s o reports)
+send-tells : (places : ℕ) (s : State) (o : Offer) (reports : ℕ) → Tells (noPlaces places s o reports) (NoPlaces places s o reports)
 unfolding noPlaces verdictOf
-send-tells s o reports =
+send-tells places s o reports =
     let free = eqb (verdictOf (s .part .locks) (o .root)) 0 in
     let rated = hasRate (rulesIn s) in
     let firm = isLocked (s .part .locks) Firm in
     let root = isLocked (s .part .locks) (Root (o .root)) in
     tells-as
-    (and-tells (free && rated) (ltb logPlaces (used s (o .time) + reports)) (and-tells free rated (free-tells firm root) (same-tells rated))
-    (ltb-tells logPlaces (used s (o .time) + reports))) (
+    (and-tells (free && rated) (ltb places (used s (o .time) + reports)) (and-tells free rated (free-tells firm root) (same-tells rated))
+    (ltb-tells places (used s (o .time) + reports))) (
       λ h. record { firmFree = h .0 .0 .0; rootFree = h .0 .0 .1; rated = h .0 .1; full = h .1 },
       λ h. (((h .firmFree, h .rootFree), h .rated), h .full),
     )
@@ -133,8 +132,8 @@ asked-tells s rule unit =
 
 -- ---- each call
 
-module _ (r : ℕ) (after : ℕ → Type 0) (s : State) where
-  pub call-leads : (call : Call) → Leads r after (refusalOf logPlaces s call) (refusalsOf s call after)
+module _ (places r : ℕ) (after : ℕ → Type 0) (s : State) where
+  pub call-leads : (call : Call) → Leads r after (refusalOf places s call) (refusalsOf places s call after)
   unfolding refusalOf firstOf refusalsOf
   call-leads (order time root reset) =
       tested r after (badTime (s .part) time) 11 _ (time-tells s time)
@@ -149,7 +148,7 @@ module _ (r : ℕ) (after : ℕ → Type 0) (s : State) where
       (or-tells (isRoot (s .part) (o .root)) (isIn units (o .unit)) (root-tells s (o .root)) (over-tells (units .most) (o .unit)))
       (tested r after (not (isIn premiums (o .premium) && isIn offers (o .contracts))) 13 _
       (or-tells (isIn premiums (o .premium)) (isIn offers (o .contracts)) (out-tells premiums (o .premium)) (out-tells offers (o .contracts)))
-      (tested r after (logFull logPlaces s o) 14 0 (offer-tells s o) (ends r after))))
+      (tested r after (logFull places s o) 14 0 (offer-tells places s o) (ends r after))))
   call-leads (remaining time rule unit) =
       tested r after (badTime (s .part) time) 11 _ (time-tells s time)
       (tested r after (not (isCell (rulesIn s) rule unit)) 12 0 (asked-tells s rule unit) (ends r after))
@@ -164,7 +163,7 @@ module _ (r : ℕ) (after : ℕ → Type 0) (s : State) where
       (out-tells premiums (o .premium)) (out-tells offers (o .contracts)) (out-tells reportsAsked reports))
       (tested r after (leb registerPlaces (length (s .part .register))) 16 _ (leb-tells registerPlaces (length (s .part .register)))
       (tested r after (isOpen (s .part .register) identity) 17 _ (same-tells (isOpen (s .part .register) identity))
-      (tested r after (noPlaces logPlaces s o reports) 14 0 (send-tells s o reports) (ends r after))))))
+      (tested r after (noPlaces places s o reports) 14 0 (send-tells places s o reports) (ends r after))))))
   call-leads (report time identity n) =
       tested r after (badTime (s .part) time) 11 _ (time-tells s time)
       (tested r after (not (isIn identities identity)) 12 _ (over-tells (identities .most) identity)

@@ -4,6 +4,8 @@ pub mod Marked
 pub mod Judged
 pub mod Answered
 pub mod Refusals
+pub mod Texts
+pub mod FirmRefusals
 pub mod Read
 pub mod Fresh
 pub mod Holds
@@ -11,7 +13,10 @@ pub mod Follows
 pub mod Never
 pub mod Unarmed
 pub mod Arming
+pub mod FirmArming
+pub mod OtherName
 pub mod Kept
+pub mod FirmKept
 pub mod Moved
 pub mod Goes
 pub mod Day

@@ -87,15 +87,15 @@ module _ (xs : List ℕ) where
 
     -- what the machine's sentences give of the state that a sound memory holds, with a number behind them
     pub held-gives : (r : ℕ) (after : ℕ → Type 0) → isSound xs ≡ true → (refusalOf logPlaces (decode xs) call ≡ 0 → Gives r after)
-        → Gives (orElse (refusalOf logPlaces (decode xs) call) r) (λ n. Holding xs (λ s. refusalsOf s call after n))
+        → Gives (orElse (refusalOf logPlaces (decode xs) call) r) (λ n. Holding xs (λ s. refusalsOf logPlaces s call after n))
     held-gives r after sound h n =
-        Iff·trans (call-leads r after (decode xs) call h n)
-        (Iff·trans (λ p. (sound, p), λ p. p .1) (on-held (λ s. refusalsOf s call after n)))
+        Iff·trans (call-leads logPlaces r after (decode xs) call h n)
+        (Iff·trans (λ p. (sound, p), λ p. p .1) (on-held (λ s. refusalsOf logPlaces s call after n)))
 
     refusal-gives : Gives (refusalIn xs call) (callRefusals xs call)
     refusal-gives n =
         Iff·trans (λ e. sym refusal-or ∙ e, λ e. refusal-or ∙ e)
-        (memory-leads (refusalOf logPlaces (decode xs) call) (λ n. Holding xs (λ s. refusalsOf s call none n))
+        (memory-leads (refusalOf logPlaces (decode xs) call) (λ n. Holding xs (λ s. refusalsOf logPlaces s call none n))
         (λ e k. Iff·trans (λ p. or-zero (refusalOf logPlaces (decode xs) call) ∙ p, λ p. sym (or-zero (refusalOf logPlaces (decode xs) call)) ∙ p)
         (held-gives 0 none (ready-sound e) (λ z. none-gives) k)) n)
 

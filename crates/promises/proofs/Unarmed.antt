@@ -9,7 +9,7 @@ use lib.Dec.{eqb, leb}
 use borrow.Author.Tests.{eq-eqb, ne-eqb, le-ltb, leb-true, leb-false}
 use Rattle.tables.specs.Inner.Tables.{zeros}
 use Rattle.shapes.proofs.Tables.{length-zeros}
-use Rattle.profile.specs.Profile.{outcomeOf, readingOf}
+use Rattle.profile.specs.Profile.{Outcome, outcomeOf, readingOf}
 use Rattle.profile.specs.declared.Reading.the-variants.{Accepted, Refused as NotRead}
 use Rattle.profile.proofs.Laws.{accepted-some, reading-accepted, reading-refused}
 use Rattle.machine.specs.State.{armed}
@@ -59,15 +59,17 @@ arm-has-rules memory text firm rules roots ok =
 
 -- ---- memory that is idle
 
+-- where a text is refused, or what comes before it, nothing is written
+pub nothing-written : (o : Outcome) (free : Bool) (before number line : ℕ) (written memory : List ℕ)
+    → cond free (readingOf o) (NotRead before 0) ≡ NotRead number line → cond free (cond (eqb (o .refusal) 0) written memory) memory ≡ memory
+nothing-written o true before number line written memory h = rw (ne-eqb (o .refusal) 0 (reading-refused o number line h .0))
+nothing-written o false before number line written memory h = refl
+
 -- a refused Arm changes nothing
 pub refused-arm-same : (memory text : List ℕ) (number line : ℕ) → armAnswer memory text ≡ NotRead number line → armMemory memory text ≡ memory
 unfolding armAnswer armMemory
-refused-arm-same memory text number line = go (eqb (armRefusal memory) 0) (stored (armed (outcomeOf text .profile)) memory)
-  where
-    go : (b : Bool) (written : List ℕ) → cond b (readingOf (outcomeOf text)) (NotRead (armRefusal memory) 0) ≡ NotRead number line
-        → cond b (cond (eqb (outcomeOf text .refusal) 0) written memory) memory ≡ memory
-    go true written h = rw (ne-eqb (outcomeOf text .refusal) 0 (reading-refused (outcomeOf text) number line h .0))
-    go false written h = refl
+refused-arm-same memory text number line e =
+    nothing-written (outcomeOf text) (eqb (armRefusal memory) 0) (armRefusal memory) number line (stored (armed (outcomeOf text .profile)) memory) memory e
 
 module _ (memory : List ℕ) (long : size ≤ length memory) (mark : markOf memory ≡ 0) where
   idle-calls : (day : Day) → day .memory ≡ memory → AlwaysRefused 4 (day .history) → (calls : List Call)

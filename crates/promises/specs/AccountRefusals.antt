@@ -8,7 +8,7 @@ use mathlib.Core.List.{List}
 use lib.ListN.{length}
 use Rattle.rules.specs.declared.Level.{Level}
 use Rattle.machine.specs.Calls.{Call}
-use Rattle.machine.specs.Judge.{numbers, isRefusal}
+use Rattle.machine.specs.Judge.{logPlaces, numbers, isRefusal}
 use Rattle.state.specs.Sound.{Sound}
 use Rattle.calls.specs.Calls.{markOf, callAnswer, callMemory}
 use Rattle.figures.specs.Account.{accountSize, most, rowOf, accountAfter}
@@ -33,7 +33,7 @@ Passing memory account call =
 abbrev pub accountRefusals : List ℕ → List ℕ → Call → ℕ → Type 0
 accountRefusals memory account call =
     1 when (Short memory ⊎ ShortAccount account) else 4 when (markOf memory ≡ 0) else 2 when ((Sound memory → ⊥) ⊎ Above account) else
-    (λ n. Holding memory (λ s. refusalsOf s call (21 when Passing memory account call else none) n))
+    (λ n. Holding memory (λ s. refusalsOf logPlaces s call (21 when Passing memory account call else none) n))
 
 pub record AccountRefusals (memory account : List ℕ) (call : Call) : Type 0 where
   -- it is refused with a number exactly if these give it, and not refused exactly if they give none

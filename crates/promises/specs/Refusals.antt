@@ -93,40 +93,42 @@ Open s identity = isOpen (s .part .register) identity ≡ true
 abbrev pub Overdrawn : State → ℕ → ℕ → Type 0
 Overdrawn s identity n = (sentAt (s .part .register) identity .contracts .0 < n) ⊎ (sentAt (s .part .register) identity .reports ≡ 0)
 
--- 15: the fill or the order is not locked out, the profile has a rate rule, and so many places more than the use at its time are more than 512
-pub record NoPlaces (s : State) (o : Offer) (places : ℕ) : Type 0 where
+-- 15: the fill or the order is not locked out, the profile has a rate rule, and the log's places for the firm are fewer than its use at that time
+-- and what is asked for
+pub record NoPlaces (places : ℕ) (s : State) (o : Offer) (asked : ℕ) : Type 0 where
   pub firmFree : isLocked (s .part .locks) Firm ≡ false
   pub rootFree : isLocked (s .part .locks) (Root (o .root)) ≡ false
   pub rated : hasRate (rulesIn s) ≡ true
-  pub full : logPlaces < used s (o .time) + places
+  pub full : places < used s (o .time) + asked
 
--- what each call on a sound state is refused for, in the order in which it looks, and what may come after. At level 1 of a lockout the root must be 0;
--- what remains is asked for a unit of the rule; an offer that would be granted something needs one place, an order sent away as many as it has reports
-unfoldable pub refusalsOf : State → Call → (ℕ → Type 0) → ℕ → Type 0
-refusalsOf s (order time root reset) after = 12 when BadTime s time else 13 when (NoRoot s root ⊎ (lastReset < reset)) else after
-refusalsOf s (lockout time level root) after =
+-- what each call on a sound state is refused for, in the order in which it looks, and what may come after, by the places that the log has for the
+-- firm. At level 1 of a lockout the root must be 0; what remains is asked for a unit of the rule; an offer that would be granted something needs one
+-- place, an order sent away as many as it has reports
+unfoldable pub refusalsOf : ℕ → State → Call → (ℕ → Type 0) → ℕ → Type 0
+refusalsOf places s (order time root reset) after = 12 when BadTime s time else 13 when (NoRoot s root ⊎ (lastReset < reset)) else after
+refusalsOf places s (lockout time level root) after =
     12 when BadTime s time else 13 when ((1 < level) ⊎ ((level ≡ 0) × NoRoot s root) ⊎ ((level ≡ 1) × (0 < root))) else after
-refusalsOf s (offer o) after =
+refusalsOf places s (offer o) after =
     12 when BadTime s (o .time) else 13 when (NoRoot s (o .root) ⊎ NoUnit (o .unit)) else 14 when (NotIn premiums (o .premium) ⊎ NotIn offers (o .contracts)) else
-    15 when ((0 < grantOf (s .log) o (s .part .accounts)) × NoPlaces s o 1) else after
-refusalsOf s (remaining time rule unit) after =
+    15 when ((0 < grantOf (s .log) o (s .part .accounts)) × NoPlaces places s o 1) else after
+refusalsOf places s (remaining time rule unit) after =
     12 when BadTime s time else
     13 when ((length (rulesIn s) ≤ rule) ⊎ (List·Memᴰ unit (unitsOf (ruleNumbered (rulesIn s) rule .scope)) → ⊥)) else after
-refusalsOf s status after = after
-refusalsOf s (send o identity reports) after =
+refusalsOf places s status after = after
+refusalsOf places s (send o identity reports) after =
     12 when BadTime s (o .time) else 13 when (NoRoot s (o .root) ⊎ NoUnit (o .unit) ⊎ NoIdentity identity) else
     14 when (NotIn premiums (o .premium) ⊎ NotIn offers (o .contracts) ⊎ NotIn reportsAsked reports) else
-    17 when (registerPlaces ≤ length (s .part .register)) else 18 when Open s identity else 15 when NoPlaces s o reports else after
-refusalsOf s (report time identity n) after =
+    17 when (registerPlaces ≤ length (s .part .register)) else 18 when Open s identity else 15 when NoPlaces places s o reports else after
+refusalsOf places s (report time identity n) after =
     12 when BadTime s time else 13 when NoIdentity identity else 14 when NotIn offers n else
     18 when (Open s identity → ⊥) else 19 when Overdrawn s identity n else after
-refusalsOf s (close time identity) after =
+refusalsOf places s (close time identity) after =
     12 when BadTime s time else 13 when NoIdentity identity else 18 when (Open s identity → ⊥) else after
 
 -- before these it looks for 1, 4 and 2
 abbrev pub callRefusals : List ℕ → Call → ℕ → Type 0
 callRefusals xs call =
-    1 when Short xs else 4 when (markOf xs ≡ 0) else 2 when (Sound xs → ⊥) else (λ n. Holding xs (λ s. refusalsOf s call none n))
+    1 when Short xs else 4 when (markOf xs ≡ 0) else 2 when (Sound xs → ⊥) else (λ n. Holding xs (λ s. refusalsOf logPlaces s call none n))
 
 -- a call on an armed unit is refused with a number exactly if these give it, and not refused exactly if they give none
 pub record CallRefusals (xs : List ℕ) (call : Call) : Type 0 where
@@ -157,19 +159,26 @@ unfoldable pub Faultless : Profile → List (List ℕ) → Type 0
 Faultless p [] = Unit {0}
 Faultless p (line ∷ more) = (firstOf (faults p line) ≡ 0) × Faultless (joined p (ruleOf line)) more
 
+-- 5: the text is empty or longer than 65,536 bytes
+abbrev pub Unsized : List ℕ → Type 0
+Unsized text = (length text ≡ 0) ⊎ (65_536 < length text)
+
+abbrev pub firstLine : List ℕ → List ℕ
+firstLine text = getD (lines text) 0 []
+
 -- before the first line: the firm of that line, no root and no rule
 abbrev pub startIn : List ℕ → Profile
-startIn text = startOf (firmIn (getD (lines text) 0 []))
+startIn text = startOf (firmIn (firstLine text))
 
--- the first faulty line of a text, from 1, and the lowest number that applies to it
-pub record FirstFault (text : List ℕ) (number place : ℕ) : Type 0 where
+-- the first faulty line of a text that is read from a start, counted from 1, and the lowest number that applies to it
+pub record FirstFault (start : Profile) (text : List ℕ) (number place : ℕ) : Type 0 where
   pub before : List (List ℕ)
   pub line : List ℕ
   pub behind : List (List ℕ)
   pub parts : lines text ≡ before ++ (line ∷ behind)
   pub placed : place ≡ length before + 1
-  pub fine : Faultless (startIn text) before
-  pub fault : firstOf (faults (profileOf (startIn text) before) line) ≡ number
+  pub fine : Faultless start before
+  pub fault : firstOf (faults (profileOf start before) line) ≡ number
 
 -- the row of an accepted profile: its firm, rules and roots
 abbrev pub acceptedRow : Profile → List ℕ
@@ -179,11 +188,11 @@ acceptedRow p = 0 ∷ 0 ∷ p .firm ∷ length (p .rules) ∷ length (p .roots) 
 pub record ArmRefusals (xs text : List ℕ) : Type 0 where
   pub one : (armRow (armAnswer xs text) ≡ refusalRow 1) ↔ Short xs
   pub three : (armRow (armAnswer xs text) ≡ refusalRow 3) ↔ Marked xs
-  pub five : (armRow (armAnswer xs text) ≡ refusalRow 5) ↔ (Unmarked xs × ((length text ≡ 0) ⊎ (65_536 < length text)))
+  pub five : (armRow (armAnswer xs text) ≡ refusalRow 5) ↔ (Unmarked xs × Unsized text)
   pub faulty :
       (number line : ℕ) → 6 ≤ number
       → (armRow (armAnswer xs text) ≡ number ∷ line ∷ 0 ∷ 0 ∷ 0 ∷ [])
-      ↔ (Unmarked xs × (1 ≤ length text) × (length text ≤ 65_536) × FirstFault text number line)
+      ↔ (Unmarked xs × (1 ≤ length text) × (length text ≤ 65_536) × FirstFault (startIn text) text number line)
   -- and it is accepted, with the profile of its lines, exactly if none of these holds
   pub accepted :
       (armRow (armAnswer xs text) ≡ acceptedRow (profileOf (startIn text) (lines text)))
