@@ -76,28 +76,3 @@ readReply (NotRead number line) = refused number
 unfoldable pub clearReply : Clearing → Reply
 clearReply Cleared = done
 clearReply (NotCleared number) = refused number
-
-unfoldable pub told : List ℕ → Asking → Reply
-told xs (arm firm text) = readReply (armAnswer xs (numberOf firm) text)
-told xs (call firm c) = answered (firmAnswer xs (numberOf firm) c)
-told xs (clear firm) = clearReply (clearFirmAnswer xs (numberOf firm))
-told xs clearAll = done
-
--- the firm and what is done for it
-unfoldable pub doingOf : Asking → Bool × Doing
-doingOf (arm firm text) = (firm, arming (outcomeOf text .profile))
-doingOf (call firm c) = (firm, calling c)
-doingOf (clear firm) = (firm, clearing)
-doingOf clearAll = (false, clearing)
-
--- of one firm, with a text that is accepted by itself
-unfoldable pub Usual : Asking → Type 0
-Usual (arm firm text) = outcomeOf text .refusal ≡ 0
-Usual (call firm c) = Unit {0}
-Usual (clear firm) = Unit {0}
-Usual clearAll = ⊥
-
--- what a firm is told, the first first
-unfoldable pub toldTo : Bool → List ℕ → List Asking → List Reply
-toldTo firm xs [] = []
-toldTo firm xs (a ∷ rest) = cond (isSame firm (doingOf a .0)) (told xs a ∷ toldTo firm (memoryAfter xs a) rest) (toldTo firm (memoryAfter xs a) rest)

@@ -21,12 +21,12 @@ use Rattle.machine.specs.Judge.{Judgement, judged, unless, judge, stepIn, step,
 use Rattle.demand.specs.Run.{Event, Run, afterCall, runFrom, runOf}
 use Rattle.firms.specs.Seats.{Seat, empty, taken, Seats, vacant, facing, seatOf, roomBeside, trimmedSeat, leftBy}
 use Rattle.firms.specs.Doings.{Doing, arm, call, clear, Reply, refused, done, answered, isTaken, nameOf, Beside, besideOf, Outcome, stays, armRefusal, armedBy, calledBy, callAt, clearAt, atSeat, outcomeOf, afterFirst, replyTo, afterDoing}
-use Rattle.firms.specs.Runs.{Asked, of, clearAll, afterAsked, seatsAfter, isSame, Day, dayBy, dayAfter, dayOf}
+use Rattle.firms.specs.Runs.{Asked, of, clearAll, afterAsked, seatsAfter, Day, dayBy, NeverRefused}
 use Rattle.firms.proofs.Alike.{Alike, Together, alike-step}
-use Rattle.firms.proofs.Seats.{own-seat, own-after, other-seat, other-after, armed-proper, alike-self, AlikeSeat, trim-alike}
+use Rattle.firms.proofs.Seats.{armed-proper, alike-self, AlikeSeat, trim-alike}
 use Rattle.firms.proofs.Apart.{judge-rooms}
 use Rattle.firms.proofs.Places.{told-number, never-refusal}
-use Rattle.firms.proofs.Demand.{same-firm, noDay, dayIn}
+use Rattle.firms.proofs.Days.{dayIn, Anything, all-anything, all-along}
 
 -- ---- what is not 15 with less room is not 15 with more
 
@@ -62,7 +62,7 @@ module _ (room more : ℕ) (le : room ≤ more) (s : State) where
       more-used : ltb more (used s (o .time) + reports) ≡ true → ltb room (used s (o .time) + reports) ≡ true
       more-used h = lt-ltb room (used s (o .time) + reports) (omega (arith, le, ltb-true more (used s (o .time) + reports) h))
 
-  refusal-more : (c : Call) → refusalOf more s c ≡ 15 → refusalOf room s c ≡ 15
+  pub refusal-more : (c : Call) → refusalOf more s c ≡ 15 → refusalOf room s c ≡ 15
   unfolding refusalOf
   refusal-more (order time root reset) e = e
   refusal-more (lockout time level root) e = e
@@ -86,9 +86,6 @@ module _ (room more : ℕ) (le : room ≤ more) (s : State) where
 
 -- ---- a firm's day as a run
 
-abbrev NoFull : List Event → Type 0
-NoFull events = All (λ (event : Event). event .answer ≡ Refused 15 → ⊥) events
-
 -- a run of the machine with one firm whose history is the firm's day, and whose state is alike
 pub record AsAlone (day : Day) (s : State) : Type 0 where
   pub calls : List Call
@@ -97,7 +94,7 @@ pub record AsAlone (day : Day) (s : State) : Type 0 where
 
 unfoldable SeatAlone : Day → Seat → Type 0
 SeatAlone day empty = Unit {0}
-SeatAlone day (taken s) = NoFull (day .events) → AsAlone day s
+SeatAlone day (taken s) = NeverRefused 15 (day .events) → AsAlone day s
 
 run-last : (run : Run) (calls : List Call) (c : Call) → runFrom run (calls ++ (c ∷ [])) ≡ afterCall (runFrom run calls) c
 unfolding runFrom
@@ -136,7 +133,7 @@ called-alone room few day s a c none =
 
 own-alone : (other : Seat) (day : Day) (x : Seat) → SeatAlone day x → (doing : Doing)
     → SeatAlone (dayBy doing (atSeat (besideOf other) x doing .reply) day) (atSeat (besideOf other) x doing .seat)
-unfolding atSeat besideOf armRefusal callAt calledBy clearAt isTaken firstOf armedBy stays SeatAlone dayBy runOf runFrom roomBeside
+unfolding atSeat besideOf armRefusal callAt calledBy clearAt isTaken firstOf armedBy stays SeatAlone dayBy NeverRefused runOf runFrom roomBeside
 own-alone other day (taken s) i (arm p) = i
 own-alone other day empty i (arm p) = armed-by (isTaken other && eqb (p .firm) (nameOf other))
   where
@@ -161,46 +158,13 @@ own-alone other day empty i clear = cleared (isTaken other)
     cleared true = tt
     cleared false = tt
 
-module _ (firm : Bool) where
-  doing-alone : (u : Seats) (day : Day) → SeatAlone day (seatOf firm u) → (other : Bool) (doing : Doing)
-      → (b : Bool) → isSame firm other ≡ b → SeatAlone (cond b (dayBy doing (replyTo other u doing) day) day) (seatOf firm (afterDoing other u doing))
-  unfolding outcomeOf afterFirst
-  doing-alone u day i other doing true e =
-      let is = same-firm firm other e in
-      let v = facing other u in
-      let first-is : v .first ≡ seatOf firm u = ap (λ (f : Bool). facing f u .first) is ∙ own-seat firm u in
-      let now : seatOf firm (facing other (afterFirst v doing)) ≡ atSeat (besideOf (v .second)) (v .first) doing .seat =
-      ap (λ (f : Bool). seatOf firm (facing f (afterFirst v doing))) is ∙ own-after firm (afterFirst v doing) in
-      subst⁻¹ (λ (x : Seat). SeatAlone (dayBy doing (atSeat (besideOf (v .second)) (v .first) doing .reply) day) x) now
-      (own-alone (v .second) day (v .first) (subst⁻¹ (SeatAlone day) first-is i) doing)
-  doing-alone u day i other doing false e =
-      let v = facing other u in
-      subst⁻¹ (SeatAlone day)
-      (other-after firm other e (afterFirst v doing) ∙ ap (leftBy (outcomeOf v doing .joined)) (other-seat firm other e u))
-      (left-alone day (outcomeOf v doing .joined) (seatOf firm u) i)
-
-  asked-alone : (u : Seats) (day : Day) → SeatAlone day (seatOf firm u) → (x : Asked) → SeatAlone (dayAfter firm u x day) (seatOf firm (afterAsked u x))
-  unfolding afterAsked dayAfter vacant seatOf SeatAlone
-  asked-alone u day i (of other doing) = doing-alone u day i other doing (isSame firm other) refl
-  asked-alone u day i clearAll = cleared firm
-    where
-      cleared : (firm : Bool) → SeatAlone day (seatOf firm vacant)
-      cleared true = tt
-      cleared false = tt
-
-  run-alone : (xs : List Asked) (u : Seats) (day : Day) → SeatAlone day (seatOf firm u) → SeatAlone (dayOf firm u xs day) (seatOf firm (seatsAfter u xs))
-  unfolding seatsAfter dayOf
-  run-alone [] u day i = i
-  run-alone (x ∷ xs) u day i = run-alone xs (afterAsked u x) (dayAfter firm u x day) (asked-alone u day i x)
-
 -- EITHER FIRM'S DAY IS A DAY OF THE MACHINE WITH ONE FIRM, as long as the firm is not told 15: the same calls, alone, get the same answers
-pub as-alone : (firm : Bool) (xs : List Asked) (s : State) → seatOf firm (seatsAfter vacant xs) ≡ taken s → NoFull (dayIn firm xs .events)
+pub as-alone : (firm : Bool) (xs : List Asked) (s : State) → seatOf firm (seatsAfter vacant xs) ≡ taken s → NeverRefused 15 (dayIn firm xs .events)
     → AsAlone (dayIn firm xs) s
-unfolding SeatAlone vacant seatOf
+unfolding SeatAlone Anything
 as-alone firm xs s is none =
-    let st : SeatAlone (dayIn firm xs) (taken s) = subst (SeatAlone (dayIn firm xs)) is (run-alone firm xs vacant noDay (begins firm)) in
+    let st : SeatAlone (dayIn firm xs) (taken s) =
+    subst (SeatAlone (dayIn firm xs)) is
+    (all-along SeatAlone Anything (λ day. tt) left-alone (λ other day x i doing done. own-alone other day x i doing) firm xs (all-anything xs))
+    in
     st none
-  where
-    begins : (firm : Bool) → SeatAlone noDay (seatOf firm vacant)
-    begins true = tt
-    begins false = tt

@@ -16,7 +16,7 @@ use Rattle.machine.specs.Judge.{Judgement, judged, unless, judge}
 use Rattle.firms.specs.Seats.{Seat, empty, taken, Seats, vacant, facing, seatOf, useOf, ownPlaces, roomBeside, leftBy}
 use Rattle.firms.specs.Doings.{Doing, arm, call, clear, Reply, refused, done, answered, isTaken, Beside, besideOf, Outcome, stays, armRefusal, armedBy, calledBy, callAt, clearAt, atSeat, outcomeOf, afterFirst, replyTo, afterDoing}
 use Rattle.firms.specs.Runs.{isSame, doingsOf, repliesTo, Excepted, Plain}
-use Rattle.firms.proofs.Seats.{facing-twice, own-seat, own-after, other-seat, other-after, AlikeSeat, trim-alike, Same, at-same}
+use Rattle.firms.proofs.Seats.{facing-twice, own-seat, own-after, same-firm, other-left, AlikeSeat, trim-alike, Same, at-same}
 
 -- ---- 15 is the only answer by which the room is told
 
@@ -37,7 +37,7 @@ last-alike (test ∷ earlier) x y f g = go (test .0) f g (last-alike earlier x y
     go true f g next = refl
     go false f g next = next f g
 
-refusal-rooms : (room room′ : ℕ) (s : State) (c : Call) → (refusalOf room s c ≡ 15 → ⊥) → (refusalOf room′ s c ≡ 15 → ⊥)
+pub refusal-rooms : (room room′ : ℕ) (s : State) (c : Call) → (refusalOf room s c ≡ 15 → ⊥) → (refusalOf room′ s c ≡ 15 → ⊥)
     → refusalOf room s c ≡ refusalOf room′ s c
 unfolding refusalOf
 refusal-rooms room room′ s (order time root reset) f g = refl
@@ -139,12 +139,6 @@ module _ (firm : Bool) where
           ≡ repliesAlone seat (cond b ((beside, x .1) ∷ besides firm next xs) (besides firm next xs))
       go on true e = own-way (same-firm firm (x .0) e)
         where
-          same-firm : (a b : Bool) → isSame a b ≡ true → b ≡ a
-          same-firm true true e = refl
-          same-firm true false e = e
-          same-firm false true e = sym e
-          same-firm false false e = refl
-
           own-way : x .0 ≡ firm
               → replyTo (x .0) u (x .1) ∷ repliesTo firm next xs ≡ atSeat beside seat (x .1) .reply ∷ repliesAlone (atSeat beside seat (x .1) .seat) (besides firm next xs)
           own-way is =
@@ -159,8 +153,7 @@ module _ (firm : Bool) where
               (on (atSeat beside seat (x .1) .seat) (subst⁻¹ (λ (y : Seat). AlikeSeat y (atSeat beside seat (x .1) .seat)) now (t .seat)))
       go on false e =
           on seat
-          (subst⁻¹ (λ (y : Seat). AlikeSeat y seat)
-          (other-after firm (x .0) e (afterFirst (facing (x .0) u) (x .1)) ∙ ap (leftBy (outcomeOf (facing (x .0) u) (x .1) .joined)) (other-seat firm (x .0) e u))
+          (subst⁻¹ (λ (y : Seat). AlikeSeat y seat) (other-left firm (x .0) e u (x .1))
           (trim-alike (outcomeOf (facing (x .0) u) (x .1) .joined) (seatOf firm u) seat a))
 
   -- a firm's own things

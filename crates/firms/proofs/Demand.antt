@@ -29,7 +29,7 @@ use Rattle.firms.specs.Seats.{Seat, empty, taken, Seats, vacant, facing,
 use Rattle.firms.specs.Doings.{Doing, arm, call, clear, Reply, refused, done, answered, isTaken, Beside, besideOf, Outcome, stays, armRefusal, armedBy, calledBy, callAt, clearAt, atSeat, outcomeOf, afterFirst, replyTo, afterDoing}
 use Rattle.firms.specs.Runs.{Asked, of, clearAll, afterAsked, seatsAfter, isSame, Day, dayBy, dayAfter, dayOf}
 use Rattle.firms.proofs.Alike.{recent-recent, Proper, SameFrom, Fit, fits, counted-same}
-use Rattle.firms.proofs.Seats.{own-seat, own-after, other-seat, other-after}
+use Rattle.firms.proofs.Days.{OfDoing, dayIn, all-along}
 
 -- ---- old entries count no more
 
@@ -118,58 +118,8 @@ own-stands beside day empty i clear ranged = cleared (beside .armed)
     cleared true = tt
     cleared false = tt
 
-pub same-firm : (a b : Bool) → isSame a b ≡ true → b ≡ a
-unfolding isSame
-same-firm true true e = refl
-same-firm true false e = e
-same-firm false true e = sym e
-same-firm false false e = refl
-
-unfoldable pub RangedAsked : Asked → Type 0
-RangedAsked (of firm doing) = RangedBy doing
-RangedAsked clearAll = Unit {0}
-
-module _ (firm : Bool) where
-  doing-stands : (u : Seats) (day : Day) → SeatStands day (seatOf firm u) → (other : Bool) (doing : Doing) → RangedBy doing
-      → (b : Bool) → isSame firm other ≡ b → SeatStands (cond b (dayBy doing (replyTo other u doing) day) day) (seatOf firm (afterDoing other u doing))
-  unfolding outcomeOf afterFirst
-  doing-stands u day i other doing ranged true e =
-      let is = same-firm firm other e in
-      let v = facing other u in
-      let beside = besideOf (v .second) in
-      let first-is : v .first ≡ seatOf firm u = ap (λ (f : Bool). facing f u .first) is ∙ own-seat firm u in
-      let now : seatOf firm (facing other (afterFirst v doing)) ≡ atSeat beside (v .first) doing .seat =
-      ap (λ (f : Bool). seatOf firm (facing f (afterFirst v doing))) is ∙ own-after firm (afterFirst v doing) in
-      subst⁻¹ (λ (x : Seat). SeatStands (dayBy doing (atSeat beside (v .first) doing .reply) day) x) now
-      (own-stands beside day (v .first) (subst⁻¹ (SeatStands day) first-is i) doing ranged)
-  doing-stands u day i other doing ranged false e =
-      let v = facing other u in
-      subst⁻¹ (SeatStands day)
-      (other-after firm other e (afterFirst v doing) ∙ ap (leftBy (outcomeOf v doing .joined)) (other-seat firm other e u))
-      (left-stands day (outcomeOf v doing .joined) (seatOf firm u) i)
-
-  asked-stands : (u : Seats) (day : Day) → SeatStands day (seatOf firm u) → (x : Asked) → RangedAsked x
-      → SeatStands (dayAfter firm u x day) (seatOf firm (afterAsked u x))
-  unfolding afterAsked dayAfter RangedAsked vacant seatOf SeatStands
-  asked-stands u day i (of other doing) ranged = doing-stands u day i other doing ranged (isSame firm other) refl
-  asked-stands u day i clearAll ranged = cleared firm
-    where
-      cleared : (firm : Bool) → SeatStands day (seatOf firm vacant)
-      cleared true = tt
-      cleared false = tt
-
-  run-stands : (xs : List Asked) (u : Seats) (day : Day) → SeatStands day (seatOf firm u) → All RangedAsked xs
-      → SeatStands (dayOf firm u xs day) (seatOf firm (seatsAfter u xs))
-  unfolding seatsAfter dayOf
-  run-stands [] u day i ranged = i
-  run-stands (x ∷ xs) u day i ranged = run-stands xs (afterAsked u x) (dayAfter firm u x day) (asked-stands u day i x (ranged .0)) (ranged .1)
-
--- before anything is done
-unfoldable pub noDay : Day
-noDay = record { profile = record { firm = 0; roots = []; rules = [] }; events = [] }
-
-abbrev pub dayIn : Bool → List Asked → Day
-dayIn firm xs = dayOf firm vacant xs noDay
+abbrev pub RangedAsked : Asked → Type 0
+RangedAsked x = OfDoing RangedBy x
 
 -- what is promised of a firm that is armed on the state
 pub record Promised (firm : Bool) (xs : List Asked) (s : State) : Type 0 where
@@ -179,15 +129,12 @@ pub record Promised (firm : Bool) (xs : List Asked) (s : State) : Type 0 where
 
 -- DEMAND 3 FOR EACH FIRM on its own arming, with the other armed, cleared and armed again meanwhile
 pub demand3 : (firm : Bool) (xs : List Asked) → All RangedAsked xs → (s : State) → seatOf firm (seatsAfter vacant xs) ≡ taken s → Promised firm xs s
-unfolding SeatStands vacant seatOf
+unfolding SeatStands
 demand3 firm xs ranged s is =
-    let st : SeatStands (dayIn firm xs) (taken s) = subst (SeatStands (dayIn firm xs)) is (run-stands firm xs vacant noDay (none firm) ranged) in
-    promised st
+    promised
+    (subst (SeatStands (dayIn firm xs)) is
+    (all-along SeatStands RangedBy (λ day. tt) left-stands (λ other. own-stands (besideOf other)) firm xs ranged))
   where
-    none : (firm : Bool) → SeatStands noDay (seatOf firm vacant)
-    none true = tt
-    none false = tt
-
     promised : Stands (dayIn firm xs) s → Promised firm xs s
     promised st = record {
       profile = st .inv .profile;

@@ -26,6 +26,7 @@ use Rattle.firms.specs.Seats.{Seat, empty, taken, Seats, vacant, turned,
 use Rattle.firms.specs.Doings.{Doing, arm, call, clear, Reply, refused, done, answered, isTaken, nameOf, besideOf, stays, armRefusal, armedBy, calledBy, callAt, clearAt, atSeat, outcomeOf, afterFirst, replyTo, afterDoing}
 use Rattle.firms.specs.Runs.{Asked, of, clearAll, afterAsked, seatsAfter}
 use Rattle.firms.specs.Sound.{SoundSeat, SoundSeats, Fair}
+use Rattle.firms.proofs.Days.{OfDoing}
 use Rattle.firms.proofs.Sound.{left-use, armed-none, sound-facing, GivenBy, doing-sound, vacant-sound}
 
 fair-facing : (firm : Bool) (u : Seats) → Fair u → Fair (facing firm u)
@@ -67,9 +68,8 @@ module _ (Given : Profile → Type 0) where
         second = omega (arith, left-use (outcomeOf v doing .joined) (v .second), g .second);
       })
 
-  unfoldable pub GivenAsked : Asked → Type 0
-  GivenAsked (of firm doing) = GivenBy Given doing
-  GivenAsked clearAll = Unit {0}
+  abbrev pub GivenAsked : Asked → Type 0
+  GivenAsked x = OfDoing (GivenBy Given) x
 
   pub record Reached (u : Seats) : Type 0 where
     pub sound : SoundSeats Given u
@@ -80,7 +80,7 @@ module _ (Given : Profile → Type 0) where
   vacant-reached = record { sound = vacant-sound Given; fair = record { first = zero-le; second = zero-le } }
 
   asked-reached : (u : Seats) → Reached u → (x : Asked) → GivenAsked x → Reached (afterAsked u x)
-  unfolding afterAsked GivenAsked
+  unfolding afterAsked OfDoing
   asked-reached u r (of firm doing) given = record {
     sound = doing-sound Given firm u (r .sound) doing given;
     fair = doing-fair firm u (r .sound) (r .fair) doing;

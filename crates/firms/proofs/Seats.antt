@@ -15,7 +15,7 @@ use Rattle.machine.specs.Refusals.{firstOf}
 use Rattle.machine.specs.Step.{after}
 use Rattle.machine.specs.Judge.{Judgement, judge}
 use Rattle.firms.specs.Seats.{Seat, empty, taken, Seats, turned, facing, seatOf, trimmed, trimmedSeat, leftBy}
-use Rattle.firms.specs.Doings.{Doing, arm, call, clear, Reply, refused, done, answered, isTaken, Beside, joins, Outcome, stays, armRefusal, armedBy, calledBy, callAt, clearAt, atSeat, afterFirst, outcomeOf}
+use Rattle.firms.specs.Doings.{Doing, arm, call, clear, Reply, refused, done, answered, isTaken, Beside, besideOf, joins, Outcome, stays, armRefusal, armedBy, calledBy, callAt, clearAt, atSeat, afterFirst, outcomeOf, replyTo, afterDoing}
 use Rattle.firms.specs.Runs.{isSame}
 use Rattle.firms.proofs.Alike.{recent-recent, Proper, proper-kept, Alike, Together, alike-step}
 
@@ -53,6 +53,31 @@ other-seat false false e u = absurd (true-not e)
 pub other-after : (firm other : Bool) → isSame firm other ≡ false → (u : Seats) → seatOf firm (facing other u) ≡ u .second
 unfolding facing turned seatOf isSame
 other-after firm other e u = sym (other-seat firm other e (facing other u)) ∙ ap (λ (v : Seats). v .second) (facing-twice other u)
+
+pub same-firm : (a b : Bool) → isSame a b ≡ true → b ≡ a
+unfolding isSame
+same-firm true true e = refl
+same-firm true false e = e
+same-firm false true e = sym e
+same-firm false false e = refl
+
+-- what is done for a firm is answered by its own seat and the other, and leaves this of its seat
+pub own-reply : (firm : Bool) (u : Seats) (doing : Doing) → replyTo firm u doing ≡ atSeat (besideOf (facing firm u .second)) (seatOf firm u) doing .reply
+unfolding outcomeOf
+own-reply firm u doing = ap (λ (x : Seat). atSeat (besideOf (facing firm u .second)) x doing .reply) (own-seat firm u)
+
+pub own-left : (firm : Bool) (u : Seats) (doing : Doing)
+    → seatOf firm (afterDoing firm u doing) ≡ atSeat (besideOf (facing firm u .second)) (seatOf firm u) doing .seat
+unfolding outcomeOf afterFirst
+own-left firm u doing =
+    own-after firm (afterFirst (facing firm u) doing) ∙ ap (λ (x : Seat). atSeat (besideOf (facing firm u .second)) x doing .seat) (own-seat firm u)
+
+-- what is done for the other leaves a firm's seat, without old entries if one joined the log
+pub other-left : (firm other : Bool) → isSame firm other ≡ false → (u : Seats) (doing : Doing)
+    → seatOf firm (afterDoing other u doing) ≡ leftBy (outcomeOf (facing other u) doing .joined) (seatOf firm u)
+unfolding afterFirst
+other-left firm other e u doing =
+    other-after firm other e (afterFirst (facing other u) doing) ∙ ap (leftBy (outcomeOf (facing other u) doing .joined)) (other-seat firm other e u)
 
 -- ---- seats that are alike
 

@@ -1,4 +1,5 @@
 -- What is done on a state, one thing after the other, and each firm's day in it. Assumes nothing.
+use Prim.Native.Nat.{ℕ}
 use mathlib.Core.Path.{_≡_}
 use mathlib.Core.Logic.{_⊎_}
 use mathlib.Core.Bool.{Bool, true, false, not, cond}
@@ -37,6 +38,10 @@ pub record Day : Type 0 where
   pub profile : Profile
   pub events : List Event
 
+-- before anything is done
+unfoldable pub noDay : Day
+noDay = record { profile = record { firm = 0; roots = []; rules = [] }; events = [] }
+
 unfoldable pub dayBy : Doing → Reply → Day → Day
 dayBy (arm p) done day = record { profile = p; events = [] }
 dayBy (arm p) (refused n) day = day
@@ -53,6 +58,10 @@ dayAfter firm u clearAll day = day
 unfoldable pub dayOf : Bool → Seats → List Asked → Day → Day
 dayOf firm u [] day = day
 dayOf firm u (x ∷ xs) day = dayOf firm (afterAsked u x) xs (dayAfter firm u x day)
+
+-- no call of these was refused with this number
+unfoldable pub NeverRefused : ℕ → List Event → Type 0
+NeverRefused n events = All (λ event. event .answer ≡ Refused n → ⊥) events
 
 -- ---- a firm's own things among those of both
 

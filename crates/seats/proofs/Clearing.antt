@@ -32,7 +32,7 @@ module _ (xs : List ℕ) (firm : ℕ) where
   clear-unsound l f h = (rw (le-ltb _ _ l, le-ltb _ _ f, h), rw (le-ltb _ _ l, le-ltb _ _ f, h))
 
   -- the seat is empty, and the other stays
-  cleared-seats : (u : Seats) → afterFirst u clear ≡ record { first = empty; second = u .second }
+  pub cleared-seats : (u : Seats) → afterFirst u clear ≡ record { first = empty; second = u .second }
   unfolding afterFirst outcomeOf atSeat clearAt stays
   cleared-seats u = go (u .first) (besideOf (u .second) .armed)
     where

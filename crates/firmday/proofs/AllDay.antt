@@ -1,32 +1,29 @@
--- What is promised of a day of two firms on lent memory. Assumes nothing.
-use Prim.Native.Nat.{ℕ, _≤_}
+-- The memory follows the state's meaning all day, whatever is asked for either firm. Assumes nothing.
+use Prim.Native.Nat.{ℕ}
 use native.Mathlib.Omega.{arith}
-use mathlib.Core.Path.{_≡_, refl, sym, ap, ap₂, _∙_, subst, subst⁻¹}
+use mathlib.Core.Path.{_≡_, refl, sym, ap, ap₂, _∙_, subst⁻¹}
 use mathlib.Core.Logic.{inr}
 use mathlib.Core.Bool.{Bool, true, false, cond}
 use mathlib.Core.List.{List, [], _∷_, _++_}
-use lib.ListN.{length, getD}
+use lib.ListN.{getD}
 use lib.Dec.{eqb}
 use borrow.Author.Tests.{eq-eqb, eqb-true, le-ltb}
 use Rattle.rules.specs.Allowance.{All}
-use Rattle.machine.specs.State.{Profile, State}
+use Rattle.machine.specs.State.{Profile}
 use Rattle.machine.specs.Calls.{Call}
-use Rattle.demand.specs.Demand.{Ranged, Demand3}
-use Rattle.demand.proofs.Theorem.{ranged-valid}
 use Rattle.profile.specs.Profile.{outcomeOf}
-use Rattle.state.specs.State.{size}
 use Rattle.state.specs.Sound.{Given}
-use Rattle.state.proofs.Exactly.{made-parts, given-is-made}
-use Rattle.firms.specs.Seats.{Seat, empty, taken, Seats, vacant, seatOf}
-use Rattle.firms.specs.Doings.{Doing, arm as arming, call as calling, clear as clearing, Reply, answered, replyTo, afterDoing}
+use Rattle.firms.specs.Seats.{Seats, vacant}
+use Rattle.firms.specs.Doings.{Doing, arm as arming, call as calling, clear as clearing, Reply, replyTo, afterDoing}
 use Rattle.firms.specs.Runs.{Asked, of, clearAll as allCleared, afterAsked, seatsAfter, isSame, Day, dayBy, dayAfter as meantDay, dayOf}
 use Rattle.firms.proofs.Sound.{vacant-sound}
-use Rattle.firms.proofs.Demand.{RangedBy, RangedAsked, noDay, Promised, demand3}
-use Rattle.seats.specs.Memory.{stateSize, seatPart, storedSeats, decodeSeat, decodeSeats, clearAllMemory, armAnswer, armMemory}
+use Rattle.firms.proofs.Days.{OfDoing}
+use Rattle.seats.specs.Memory.{seatPart, decodeSeat, decodeSeats, clearAllMemory}
 use Rattle.seats.proofs.Armable.{part-mark}
-use Rattle.seats.proofs.ArmKept.{accepted-given}
 use Rattle.firmday.specs.Day.{Asking, arm, call, clear, clearAll, numberOf, memoryAfter, memoryAt, armedDay, dayAfter, dayAt, asked, askedAll}
-use Rattle.firmday.proofs.Follows.{Lent, Goes, stored-lent, call-goes, clear-goes, arm-goes}
+use Rattle.firmday.specs.Promised.{Unarmed}
+use Rattle.firmday.proofs.Follows.{Lent, Goes, stored-lent, call-goes, clear-goes}
+use Rattle.firmday.proofs.Arming.{arm-goes}
 
 same-cond : (b : Bool) (day : Day) → cond b day day ≡ day
 same-cond true day = refl
@@ -97,7 +94,7 @@ unfolding seatsAfter dayOf
 day-both firm [] bs u day = refl
 day-both firm (a ∷ qs) bs u day = day-both firm qs bs (afterAsked u a) (meantDay firm u a day)
 
--- THE MEMORY FOLLOWS THE UNIT'S MEANING ALL DAY, whatever is asked for either firm, and each firm's day is the one that the meaning has
+-- THE MEMORY FOLLOWS THE STATE'S MEANING ALL DAY, whatever is asked for either firm, and each firm's day is the one that the meaning has
 pub day-follows : (qs : List Asking) (xs : List ℕ) → Lent xs
     → Goes (memoryAt xs qs) (seatsAfter (decodeSeats xs) (askedAll qs)) × ((firm : Bool) (day : Day) → dayAt firm xs qs day ≡ dayOf firm (decodeSeats xs) (askedAll qs) day)
 unfolding memoryAt askedAll dayAt seatsAfter dayOf
@@ -110,44 +107,25 @@ day-follows (a ∷ qs) xs l =
           ∙ (ap₂ (λ (u : Seats) (d : Day). dayOf firm u (askedAll qs) d) (s .0 .1) (s .1 firm day) ∙ sym (day-both firm (asked a) (askedAll qs) (decodeSeats xs) day)),
     )
 
--- every text that is accepted has its limits below what totals are held at
-accepted-ranged : (text : List ℕ) → outcomeOf text .refusal ≡ 0 → Ranged (outcomeOf text .profile)
-accepted-ranged text ok =
-    let p = outcomeOf text .profile in
-    ranged-valid (length (p .roots)) (p .rules) (made-parts p (given-is-made p (accepted-given text ok)) .valid)
-
-ranged-all : (qs : List Asking) → All RangedAsked (askedAll qs)
-unfolding askedAll asked RangedAsked RangedBy
-ranged-all [] = tt
-ranged-all (arm g text ∷ qs) = go (eqb (outcomeOf text .refusal) 0) refl (ranged-all qs)
+-- what holds of every arming with a text that is accepted, of every call and of every clearing holds of all that is asked
+pub asked-all : (Done : Doing → Type 0) → ((text : List ℕ) → outcomeOf text .refusal ≡ 0 → Done (arming (outcomeOf text .profile)))
+    → ((c : Call) → Done (calling c)) → Done clearing → (qs : List Asking) → All (OfDoing Done) (askedAll qs)
+unfolding askedAll asked OfDoing
+asked-all Done armed called cleared [] = tt
+asked-all Done armed called cleared (arm g text ∷ qs) = go (eqb (outcomeOf text .refusal) 0) refl (asked-all Done armed called cleared qs)
   where
-    go : (b : Bool) → eqb (outcomeOf text .refusal) 0 ≡ b → All RangedAsked (askedAll qs) → All RangedAsked (cond b (of g (arming (outcomeOf text .profile)) ∷ []) [] ++ askedAll qs)
-    go true e more = (accepted-ranged text (eqb-true _ _ e), more)
+    go : (b : Bool) → eqb (outcomeOf text .refusal) 0 ≡ b → All (OfDoing Done) (askedAll qs)
+        → All (OfDoing Done) (cond b (of g (arming (outcomeOf text .profile)) ∷ []) [] ++ askedAll qs)
+    go true e more = (armed text (eqb-true _ _ e), more)
     go false e more = more
-ranged-all (call g c ∷ qs) = (tt, ranged-all qs)
-ranged-all (clear g ∷ qs) = (tt, ranged-all qs)
-ranged-all (clearAll ∷ qs) = (tt, ranged-all qs)
+asked-all Done armed called cleared (call g c ∷ qs) = (called c, asked-all Done armed called cleared qs)
+asked-all Done armed called cleared (clear g ∷ qs) = (cleared, asked-all Done armed called cleared qs)
+asked-all Done armed called cleared (clearAll ∷ qs) = (tt, asked-all Done armed called cleared qs)
 
--- memory in which no firm is armed: both marks are 0
-pub unarmed-lent : (xs : List ℕ) → stateSize ≤ length xs → getD xs 0 0 ≡ 0 → getD xs size 0 ≡ 0 → Lent xs × (decodeSeats xs ≡ vacant)
+-- memory in which no firm is armed
+pub unarmed-lent : (xs : List ℕ) → Unarmed xs → Lent xs × (decodeSeats xs ≡ vacant)
 unfolding decodeSeats decodeSeat vacant
-unarmed-lent xs long a b = (record { long = long; held = inr none }, none)
+unarmed-lent xs un = (record { long = un .long; held = inr none }, none)
   where
     none : decodeSeats xs ≡ vacant
-    none = rw (eq-eqb (getD (seatPart 0 xs) 0 0) 0 (part-mark xs 0 ∙ a), eq-eqb (getD (seatPart 1 xs) 0 0) 0 (part-mark xs 1 ∙ b))
-
--- DEMAND 3 FOR EACH FIRM ON LENT MEMORY: whatever was asked for both since no firm was armed, a firm that is armed now has the profile of its last
--- arming, and demand 3 holds of its calls and of the answers that the memory gave
-pub promised : (xs : List ℕ) → stateSize ≤ length xs → getD xs 0 0 ≡ 0 → getD xs size 0 ≡ 0 → (qs : List Asking) (firm : Bool) (s : State)
-    → seatOf firm (decodeSeats (memoryAt xs qs)) ≡ taken s
-    → (s .part .profile ≡ dayAt firm xs qs noDay .profile) × Demand3 (dayAt firm xs qs noDay .profile .rules) s (dayAt firm xs qs noDay .events)
-promised xs long a b qs firm s is =
-    let start = unarmed-lent xs long a b in
-    let r = day-follows qs xs (start .0) in
-    let u = start .1 in
-    let day : dayAt firm xs qs noDay ≡ dayOf firm vacant (askedAll qs) noDay = r .1 firm noDay ∙ ap (λ (v : Seats). dayOf firm v (askedAll qs) noDay) u in
-    let seat : seatOf firm (seatsAfter vacant (askedAll qs)) ≡ taken s =
-    ap (seatOf firm) (ap (λ (v : Seats). seatsAfter v (askedAll qs)) (sym u) ∙ sym (r .0 .1)) ∙ is
-    in
-    let p = demand3 firm (askedAll qs) (ranged-all qs) s seat in
-    subst⁻¹ (λ (d : Day). (s .part .profile ≡ d .profile) × Demand3 (d .profile .rules) s (d .events)) day (p .profile, p .demand)
+    none = rw (eq-eqb (getD (seatPart 0 xs) 0 0) 0 (part-mark xs 0 ∙ un .first), eq-eqb (getD (seatPart 1 xs) 0 0) 0 (part-mark xs 1 ∙ un .second))
