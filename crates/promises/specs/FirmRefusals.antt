@@ -40,7 +40,7 @@ firmMark xs firm = getD xs (firm * size) 0
 abbrev pub HoldsSeats : Seats → List ℕ → Type 0
 HoldsSeats u xs = SoundSeats Given u × (take stateSize xs ≡ encodeSeats u)
 
--- it holds sound seats in which the firm is armed, and something is so of the log's places for the firm and of its state
+-- it holds sound seats in which the firm is armed, and P holds of the places that the log has for it and of its part
 pub record HoldingFirm (xs : List ℕ) (firm : ℕ) (P : ℕ → State → Type 0) : Type 0 where
   pub seats : Seats
   pub holds : HoldsSeats seats xs
@@ -50,12 +50,12 @@ pub record HoldingFirm (xs : List ℕ) (firm : ℕ) (P : ℕ → State → Type 
 
 -- ---- the calls of an armed firm
 
--- every call of a firm looks for 1, 13, 4 and 2 first, and then for what its state is asked
+-- every call of a firm looks for 1, 13, 4 and 2, and then for its own numbers
 abbrev pub memoryThen : List ℕ → ℕ → (ℕ → Type 0) → ℕ → Type 0
 memoryThen xs firm after =
     1 when ShortState xs else 13 when NoFirm firm else 4 when (firmMark xs firm ≡ 0) else 2 when (SoundMemory xs → ⊥) else after
 
--- then for what the call is refused for on the firm's state, with the places that the other leaves
+-- these are the call's numbers by the firm's part, with the places that the other leaves
 abbrev pub firmRefusals : List ℕ → ℕ → Call → ℕ → Type 0
 firmRefusals xs firm call = memoryThen xs firm (λ n. HoldingFirm xs firm (λ places s. refusalsOf places s call none n))
 
@@ -64,24 +64,24 @@ pub record FirmCallRefusals (xs : List ℕ) (firm : ℕ) (call : Call) : Type 0 
   pub refused : (n : ℕ) → (numbers (firmAnswer xs firm call) ≡ refusalRow (suc n)) ↔ firmRefusals xs firm call (suc n)
   pub accepted : (isRefusal (firmAnswer xs firm call) ≡ false) ↔ firmRefusals xs firm call 0
 
--- a question for the use of the log is refused with 12 then
+-- the use of the log is asked for at a time, whose number is 12
 abbrev pub useRefusals : List ℕ → ℕ → ℕ → ℕ → Type 0
 useRefusals xs firm time = memoryThen xs firm (λ n. HoldingFirm xs firm (λ places s. (12 when BadTime s time else none) n))
 
--- it is refused with a number exactly if these give it, and tells the use at that time and the firm's places exactly if they give none
+-- it is refused with a number exactly if these give it, and else tells the firm's use at that time and the places that the log has for it
 pub record UseRefusals (xs : List ℕ) (firm time : ℕ) : Type 0 where
   pub refused : (n : ℕ) → (useAnswer xs firm time ≡ NotUsed (suc n)) ↔ useRefusals xs firm time (suc n)
   pub told : useRefusals xs firm time 0 → HoldingFirm xs firm (λ places s. useAnswer xs firm time ≡ Places (used s time) places)
 
 -- ---- arming a firm
 
--- 1, 13, 3 for a firm that is armed, 2 beside one that is marked in a state that is not sound, and then for what the text has
+-- arming looks for 1, 13, 3 by the firm's mark, 2 if the other is marked and the state is not sound, and then for the text's numbers
 abbrev pub unarmedThen : List ℕ → ℕ → (ℕ → Type 0) → ℕ → Type 0
 unarmedThen xs firm after =
     1 when ShortState xs else 13 when NoFirm firm else 3 when (firmMark xs firm ≡ 0 → ⊥) else
     2 when ((firmMark xs (1 - firm) ≡ 0 → ⊥) × (SoundMemory xs → ⊥)) else after
 
--- 5 is the text's first
+-- of the text's numbers 5 alone comes without a line
 abbrev pub firmArmRefusals : List ℕ → ℕ → List ℕ → ℕ → Type 0
 firmArmRefusals xs firm text = unarmedThen xs firm (5 when Unsized text else none)
 
@@ -95,7 +95,7 @@ OtherName xs firm name =
 abbrev pub startBeside : ℕ → List ℕ → Profile
 startBeside other text = startOf (firmBeside other text)
 
--- beside the other, whatever its name is, something is so
+-- P holds of the other's name
 abbrev pub Beside : List ℕ → ℕ → (ℕ → Type 0) → Type 0
 Beside xs firm P = (other : ℕ) × (OtherName xs firm other × P other)
 
