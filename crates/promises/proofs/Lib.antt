@@ -22,3 +22,4 @@ pub mod Accounts
 pub mod Lent
 pub mod AccountRefusals
 pub mod AccountDay
+pub mod Evening
