@@ -23,3 +23,4 @@ pub mod Lent
 pub mod AccountRefusals
 pub mod AccountDay
 pub mod Evening
+pub mod Left
