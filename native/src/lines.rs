@@ -1,6 +1,7 @@
 //! What is measured: each line is one call on one state, the same for the proved library, the hand-written calls and the second program.
 
 mod accounts;
+pub mod readings;
 
 use second::account::{Account, NUMBERS as ACCOUNT};
 use second::unit::{Away, Unit};

@@ -26,6 +26,11 @@ abbrev many : ℕ → List (Call × List ℕ)
 many zero = []
 many (suc n) = many n ++ (goes 0 100 n 16 ∷ [])
 
+-- n offers of 1 at time 0, all granted
+abbrev fills : ℕ → List (Call × List ℕ)
+fills zero = []
+fills (suc n) = fills n ++ (at 0 1 1 (grants 1 0 0) ∷ [])
+
 unfoldable pub awayRows : List Row
 awayRows =
     -- what comes back counts as a grant does: an offer is cut by it, an absolute rule trips when it is reached, and what is left of the order is
@@ -159,5 +164,26 @@ awayRows =
           ∷ lockoutRow 0 0
           ∷ (sends 0 1 33 1, verdictRow 2)
           ∷ []);
+    }
+    -- all 512 places are used on the only root, 496 of them kept: T and E give none back, nor does SYMBOL, since the firm still counts the entries; BOTH
+    -- gives back those of the entries, and the next offer is granted
+    ∷ record {
+      text = "ABCD,rate_vol,XYZ,1000,1000";
+      windows = 1000 ∷ [];
+      day =
+          many 31
+          ++ (fills 16
+          ++ (refused (offerOf 0 0 1 1) 15
+          ∷ orderRow 0 6 0
+          ∷ refused (offerOf 0 0 1 1) 15
+          ∷ orderRow 0 1 0
+          ∷ refused (offerOf 0 0 1 1) 15
+          ∷ orderRow 0 3 0
+          ∷ leaves 0 0 1000
+          ∷ at 0 1 1 (grants 1 0 0)
+          ∷ goes 0 1 40 15
+          ∷ refused (offerOf 999 0 1 1) 15
+          ∷ at 1000 1 1 (grants 1 0 0)
+          ∷ []));
     }
     ∷ []

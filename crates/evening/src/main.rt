@@ -1,5 +1,5 @@
-// Prints the table of a day: arms a unit from the file `profile`, applies the event records of standard input, and prints a line for each root and one
-// for the firm.
+// Prints the table of a day: arms the state from the file `profile`, applies the event records of standard input, and prints a line for each root and
+// one for the firm.
 ghost use Rattle.io.specs.Counts.{Counts};
 use libc::STDIN_FILENO;
 use libc::STDOUT_FILENO;
@@ -37,44 +37,32 @@ fn arm(memory: &mut [u64]) -> bool {
     false
 }
 
-// Applies and counts the next record of the input, and answers how many bytes of it there were.
-fn take_next(memory: &mut [u64], account: &mut [u64]) -> usize {
-    let mut record = [0u8; answering::RECORD_BYTES];
-    let n = io::read_full(STDIN_FILENO, &mut record);
-    if n == 0 {
-        return 0;
-    }
-    tabled::take_record(memory, account, &record[..n]);
-    n
+// Applies and counts what comes of the input until a room is full, and answers whether there may be more.
+fn take_piece(memory: &mut [u64], account: &mut [u64], input: &mut [u8]) -> bool {
+    let n = io::read_full(STDIN_FILENO, input);
+    tabled::run(memory, account, &input[..n]);
+    n == input.len()
 }
 
 // Applies and counts the whole input. A proved loop has to end, so it counts its turns down, from a number that no run uses up.
-fn take_all(memory: &mut [u64], account: &mut [u64]) {
-    let mut come = answering::RECORD_BYTES;
+fn take_all(memory: &mut [u64], account: &mut [u64], input: &mut [u8]) {
+    let mut more = true;
     let mut turns = u64::MAX;
-    while 0 < turns && come == answering::RECORD_BYTES {
-        come = take_next(memory, account);
+    while 0 < turns && more {
+        more = take_piece(memory, account, input);
         turns -= 1;
     }
 }
 
-// Prints line i of the table: nothing past the firm's.
-fn print_line(memory: &[u64], account: &[u64], i: usize) -> bool {
-    let mut line = [0u8; 192];
-    let n = tabled::put_line(memory, account, i, &mut line);
-    io::write_all(STDOUT_FILENO, &line[..n])
+// Prints the table.
+fn print_table(memory: &[u64], account: &[u64]) {
+    let mut table = [0u8; tabled::TABLE_BYTES];
+    let n = tabled::put_table(memory, account, &mut table);
+    io::write_all(STDOUT_FILENO, &table[..n]);
 }
 
-// Prints the table: at most 64 roots, and the firm.
-fn print_table(memory: &[u64], account: &[u64]) {
-    let mut i: usize = 0;
-    while i <= 64 {
-        if !print_line(memory, account, i) {
-            return;
-        }
-        i += 1;
-    }
-}
+// How many records are read at a time: pieces of whole records leave what the input leaves in one go.
+const RECORDS: usize = 4096;
 
 fn main() {
     let mut memory = [0u64; answering::SIZE];
@@ -82,6 +70,7 @@ fn main() {
         return;
     }
     let mut account = [0u64; figures::SIZE];
-    take_all(&mut memory, &mut account);
+    let mut input = [0u8; RECORDS * answering::RECORD_BYTES];
+    take_all(&mut memory, &mut account, &mut input);
     print_table(&memory, &account);
 }

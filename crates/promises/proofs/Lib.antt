@@ -27,3 +27,5 @@ pub mod Accounts
 pub mod Lent
 pub mod AccountRefusals
 pub mod AccountDay
+pub mod Evening
+pub mod Left

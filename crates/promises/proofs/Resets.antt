@@ -30,7 +30,7 @@ holds-is {xs = xs} h =
 
 -- an accepted call met memory that holds a state, which the machine does not refuse
 module _ (xs : List ℕ) (call : Call) (ok : Accepted xs call) where
-  accepted-ready : memoryRefusal xs ≡ 0
+  pub accepted-ready : memoryRefusal xs ≡ 0
   unfolding isRefusal
   accepted-ready = go (memoryRefusal xs) refl
     where
@@ -38,7 +38,7 @@ module _ (xs : List ℕ) (call : Call) (ok : Accepted xs call) where
       go zero e = e
       go (suc n) e = absurd (false≢true (sym ok ∙ sym (ap isRefusal (call-refused xs call (suc n) (sym e) (λ z. omega arith) .0))))
 
-  accepted-machine : refusalOf logPlaces (decode xs) call ≡ 0
+  pub accepted-machine : refusalOf logPlaces (decode xs) call ≡ 0
   unfolding isRefusal step stepIn judge unless
   accepted-machine = go (refusalOf logPlaces (decode xs) call) refl
     where
@@ -48,7 +48,7 @@ module _ (xs : List ℕ) (call : Call) (ok : Accepted xs call) where
           absurd (false≢true (sym ok ∙ ap isRefusal (sym (call-taken xs call 0 (sym accepted-ready) refl)) ∙ ap (λ (k : ℕ). isRefusal (unless k (judged (decode xs) call) .answer)) e))
 
 -- and a call that the machine does not refuse is accepted on memory that holds the state
-machine-accepted : {s : State} {past xs : List ℕ} → Holds s past xs → (call : Call) → refusalOf logPlaces s call ≡ 0 → Accepted xs call
+pub machine-accepted : {s : State} {past xs : List ℕ} → Holds s past xs → (call : Call) → refusalOf logPlaces s call ≡ 0 → Accepted xs call
 unfolding step stepIn judge unless
 machine-accepted {s} h call e =
     ap isRefusal (call-answers h call) ∙ ap (λ (k : ℕ). isRefusal (unless k (judged s call) .answer)) e ∙ acts-answered s call

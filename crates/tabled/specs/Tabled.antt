@@ -1,15 +1,18 @@
--- The day's table: what a record leaves of a unit's memory and of its account, and the line of each row. Assumes nothing.
-use Prim.Native.Nat.{ℕ}
+-- The day's table: what records leave of a state's memory and of its account, and the lines of the table. Assumes nothing.
+use Prim.Native.Nat.{ℕ, _+_}
 use mathlib.Core.Bool.{not, cond, _||_}
 use mathlib.Core.List.{List, [], _∷_, _++_}
-use lib.ListN.{length, getD, take, drop}
-use lib.Dec.{eqb, ltb}
+use lib.Dec.{eqb}
 use Rattle.text.specs.Digits.{nameBytes}
 use Rattle.machine.specs.declared.Answer.{Answer}
 use Rattle.machine.specs.declared.Answer.the-variants.{Refused}
+use Rattle.machine.specs.State.{Profile}
+use Rattle.rules.specs.declared.Level.{Level}
 use Rattle.rules.specs.declared.Level.the-variants.{Firm, Root}
 use Rattle.state.specs.State.{decode}
-use Rattle.figures.specs.Account.{rowPlace}
+use Rattle.figures.specs.declared.Figures.{Figures}
+use Rattle.figures.specs.Figures.{rowNumbers}
+use Rattle.figures.specs.Account.{rowOf}
 use Rattle.calls.specs.Calls.{memoryRefusal}
 use Rattle.records.specs.Event16.{read16Of, read16Refusal}
 use Rattle.records.specs.declared.Reading16.{Reading16}
@@ -31,24 +34,30 @@ unfoldable pub accountOf : List ℕ → List ℕ → Reading16 → List ℕ
 accountOf xs account (Is e) = accountAfterCall xs account (recordCall e)
 accountOf xs account Faulty = account
 
--- the names of the rows that a table prints: the roots', in their order, and then the firm's
-unfoldable pub rowNames : List ℕ → List ℕ
-rowNames xs = decode xs .part .profile .roots ++ (decode xs .part .profile .firm ∷ [])
+-- the memory and the account after records, the first of them first
+unfoldable pub memoryTaken : List ℕ → List ℕ → List (List ℕ) → List ℕ
+memoryTaken xs account [] = xs
+memoryTaken xs account (s ∷ rest) = memoryTaken (tabledMemory xs account (read16Of s)) (accountOf xs account (read16Of s)) rest
 
--- the eight figures that begin at a place
-abbrev pub figuresAt : List ℕ → ℕ → List ℕ
-figuresAt account at = take 8 (drop at account)
+unfoldable pub accountTaken : List ℕ → List ℕ → List (List ℕ) → List ℕ
+accountTaken xs account [] = account
+accountTaken xs account (s ∷ rest) = accountTaken (tabledMemory xs account (read16Of s)) (accountOf xs account (read16Of s)) rest
 
--- a row's line: its name and its figures, one space between fields, LF at the end
-unfoldable pub rowLine : ℕ → List ℕ → ℕ → List ℕ
-rowLine name account at = nameBytes name ++ spaced (figuresAt account at)
+-- a row's line: its name and its eight figures, one space between fields, LF at the end
+unfoldable pub rowLine : ℕ → Figures → List ℕ
+rowLine name figures = nameBytes name ++ spaced (rowNumbers figures)
 
--- where the figures of row i stand: the firm's row is the last of an account, whatever roots there are
-unfoldable pub figuresPlace : List ℕ → ℕ → ℕ
-figuresPlace xs i = cond (ltb i (length (decode xs .part .profile .roots))) (rowPlace (Root i)) (rowPlace Firm)
+-- the lines of roots with these names, the first of which is root i
+unfoldable pub rootLines : (Level → Figures) → ℕ → List ℕ → List ℕ
+rootLines rows i [] = []
+rootLines rows i (name ∷ names) = rowLine name (rows (Root i)) ++ rootLines rows (i + 1) names
 
--- line i of the table: nothing past the firm's, and nothing of memory or an account that is refused
-unfoldable pub tableLine : List ℕ → List ℕ → ℕ → List ℕ
-tableLine xs account i =
-    cond (isShortAccount account || not (eqb (memoryRefusal xs) 0) || ltb (length (decode xs .part .profile .roots)) i) []
-    (rowLine (getD (rowNames xs) i 0) account (figuresPlace xs i))
+-- the table of one firm: a line for each root of its profile, in the roots' order, and then the firm's
+unfoldable pub tableLines : Profile → (Level → Figures) → List ℕ
+tableLines profile rows = rootLines rows 0 (profile .roots) ++ rowLine (profile .firm) (rows Firm)
+
+-- the table of a memory and an account: nothing of those that are refused
+unfoldable pub tableText : List ℕ → List ℕ → List ℕ
+tableText xs account =
+    cond (isShortAccount account || not (eqb (memoryRefusal xs) 0)) []
+    (tableLines (decode xs .part .profile) (rowOf account))

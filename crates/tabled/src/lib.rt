@@ -1,22 +1,25 @@
 // The day's table: each record of an input is applied and counted, and the rows of the account are written with the names of their roots.
 ghost use mathlib.Core.Path.{_≡_};
 ghost use mathlib.Core.List.{_++_};
-ghost use Prim.Native.Nat.{_≤_};
-ghost use lib.ListN.{length, getD};
+ghost use Prim.Native.Nat.{_+_, _≤_};
+ghost use lib.ListN.{length};
 ghost use lib.Seq.{sets};
 ghost use Rattle.text.specs.Digits.{nameBytes};
 ghost use Rattle.answering.specs.Lines.{spaced};
-ghost use Rattle.machine.specs.State.{rootsIn};
 ghost use Rattle.state.specs.State.{decode};
 ghost use Rattle.state.specs.Inner.Laid.{Laid};
 ghost use Rattle.records.specs.Event16.{read16Of};
-ghost use Rattle.answering.specs.Run.{recordCall as callOf16};
+ghost use Rattle.answering.specs.Run.{recordCall as callOf16, recordsOf};
+ghost use Rattle.figures.specs.Account.{accountSize, rowOf};
 ghost use Rattle.accounted.specs.Accounted.{callOf};
-ghost use Rattle.tabled.specs.Tabled.{tabledAnswer, tabledMemory, accountOf, rowNames, tableLine};
+ghost use Rattle.tabled.specs.Tabled.{tabledAnswer, tabledMemory, accountOf, memoryTaken, accountTaken, rootLines, tableText};
 use accounted::Event;
 use machine::Answer;
 use records::Event16;
 use records::Reading16;
+
+// How many bytes a table has at most: 65 lines of at most 192.
+pub const TABLE_BYTES: usize = 12_480;
 
 // The event of a record, at its time in whole milliseconds.
 fn event_of(e: Event16) -> Event
@@ -82,33 +85,55 @@ pub fn take_record(m: &mut [u64], a: &mut [u64], s: &[u8]) -> Answer
     }
 }
 
-// Writes the line of a row to the front of a room, and answers how many bytes it has.
-fn put_row(name: u64, figures: &[u64], room: &mut [u8]) -> usize
-    requires { ⌜ (length (now figures) ≡ 8) × (192 ≤ length (now room)) ⌝ }
-    ensures { λ r. ⌜ r ≤ 192 ⌝ }
-    ensures { λ r. ⌜ r ≡ length (nameBytes name ++ spaced (now (figures .entry))) ⌝ }
-    ensures { λ r. ⌜ now (room .exit) ≡ sets (now (room .entry)) 0 (nameBytes name ++ spaced (now (figures .entry))) ⌝ }
+// Applies and counts the records of a piece of input, in their order.
+pub fn run(m: &mut [u64], a: &mut [u64], s: &[u8])
+    ensures { λ r. ⌜ now (m .exit) ≡ memoryTaken (now (m .entry)) (now (a .entry)) (recordsOf (now (s .entry))) ⌝ }
+    ensures { λ r. ⌜ now (a .exit) ≡ accountTaken (now (m .entry)) (now (a .entry)) (recordsOf (now (s .entry))) ⌝ }
 {
-    let at = text::put_name(name, room, 0);
-    answering::put_spaced(figures, room, at)
-}
-
-// The name of row i: a root's, in the roots' order, and then the firm's.
-fn row_name(m: &[u64], i: usize) -> u64
-    requires { ⌜ Laid (now m) × (i ≤ rootsIn (decode (now m))) ⌝ }
-    ensures { λ r. ⌜ r ≡ getD (rowNames (now (m .entry))) i 0 ⌝ }
-{
-    if state::roots_in(m) as usize <= i {
-        return m[state::FIRM];
+    let mut at = 0;
+    while at < s.len() {
+        let left = s.len() - at;
+        let to = at + numbers::least(left as u64, answering::RECORD_BYTES as u64) as usize;
+        take_record(m, a, &s[at..to]);
+        at = to;
     }
-    state::name_in(m, i)
 }
 
-// Writes line i of the table to the front of a room, and answers how many bytes it has: none past the firm's.
-pub fn put_line(m: &[u64], a: &[u64], i: usize, room: &mut [u8; 192]) -> usize
-    ensures { λ r. ⌜ r ≤ 192 ⌝ }
-    ensures { λ r. ⌜ r ≡ length (tableLine (now (m .entry)) (now (a .entry)) i) ⌝ }
-    ensures { λ r. ⌜ now (room .exit) ≡ sets (now (room .entry)) 0 (tableLine (now (m .entry)) (now (a .entry)) i) ⌝ }
+// Writes the line of a row from a place on, and answers the place after it.
+fn put_row(name: u64, figures: &[u64], room: &mut [u8], at: usize) -> usize
+    requires { ⌜ (length (now figures) ≡ 8) × (at + 192 ≤ length (now room)) ⌝ }
+    ensures { λ r. ⌜ r ≤ at + 192 ⌝ }
+    ensures { λ r. ⌜ r ≡ at + length (nameBytes name ++ spaced (now (figures .entry))) ⌝ }
+    ensures { λ r. ⌜ now (room .exit) ≡ sets (now (room .entry)) at (nameBytes name ++ spaced (now (figures .entry))) ⌝ }
+{
+    let next = text::put_name(name, room, at);
+    answering::put_spaced(figures, room, next)
+}
+
+// Writes the lines of the roots to the front of a room, in the roots' order, and answers how many bytes they have.
+fn put_roots(m: &[u64], a: &[u64], room: &mut [u8]) -> usize
+    requires { ⌜ Laid (now m) × ((accountSize ≤ length (now a)) × (12_288 ≤ length (now room))) ⌝ }
+    ensures { λ r. ⌜ r ≤ 12_288 ⌝ }
+    ensures { λ r. ⌜ r ≡ length (rootLines (rowOf (now (a .entry))) 0 (decode (now (m .entry)) .part .profile .roots)) ⌝ }
+    ensures { λ r. ⌜ now (room .exit) ≡ sets (now (room .entry)) 0 (rootLines (rowOf (now (a .entry))) 0 (decode (now (m .entry)) .part .profile .roots)) ⌝ }
+{
+    let roots = state::roots_in(m) as usize;
+    let mut to = 0;
+    let mut i = 0;
+    while i < roots {
+        let row = i * figures::ROW;
+        let end = row + figures::ROW;
+        to = put_row(state::name_in(m, i), &a[row..end], room, to);
+        i += 1;
+    }
+    to
+}
+
+// Writes the table to the front of a room, a line for each root and then the firm's, and answers how many bytes it has.
+pub fn put_table(m: &[u64], a: &[u64], room: &mut [u8; TABLE_BYTES]) -> usize
+    ensures { λ r. ⌜ r ≤ 12_480 ⌝ }
+    ensures { λ r. ⌜ r ≡ length (tableText (now (m .entry)) (now (a .entry))) ⌝ }
+    ensures { λ r. ⌜ now (room .exit) ≡ sets (now (room .entry)) 0 (tableText (now (m .entry)) (now (a .entry))) ⌝ }
 {
     if a.len() < figures::SIZE {
         return 0;
@@ -116,15 +141,6 @@ pub fn put_line(m: &[u64], a: &[u64], i: usize, room: &mut [u8; 192]) -> usize
     if calls::memory_refusal(m) != 0 {
         return 0;
     }
-    let roots = state::roots_in(m) as usize;
-    if roots < i {
-        return 0;
-    }
-    let name = row_name(m, i);
-    if i < roots {
-        let at = i * figures::ROW;
-        let end = at + figures::ROW;
-        return put_row(name, &a[at..end], room);
-    }
-    put_row(name, &a[figures::FIRM..figures::SIZE], room)
+    let to = put_roots(m, a, room);
+    put_row(m[state::FIRM], &a[figures::FIRM..figures::SIZE], room, to)
 }

@@ -7,7 +7,7 @@ use std::path::PathBuf;
 use std::time::Duration;
 
 use native::beside::{days, no_slip};
-use native::counts::{counts, run_counted};
+use native::counts::{counts, run_counted, run_readings};
 use native::lines::{lines, rates, Line};
 use native::measure::{Least, Times, CALLS, ROUNDS};
 use native::program;
@@ -27,6 +27,7 @@ fn main() {
         None => print_times(),
         Some("counts") => print_counts(),
         Some("counted") => run_counted(),
+        Some("readings") => run_readings(),
         // a closed output ends the program without a word
         Some("program") => drop(program::run(stdin().lock(), stdout().lock())),
         Some(_) => eprintln!("usage: speed [counts | program]"),

@@ -1,47 +1,40 @@
--- `evening::print_table` ends: i grows up to 65. Assumes nothing of what is read.
-use Prim.Native.Nat.{_-_, _≤_}
-use borrow.Author.Needs.{needs}
+-- `evening::print_table` is safe: the table stands in its room. Assumes nothing of what is read.
+use Prim.Native.Nat.{_≤_}
+use mathlib.Core.Path.{_≡_, sym, ap, _∙_}
 use native.Mathlib.Omega.{arith}
+use lib.ListN.{length}
+use lib.Seq.{length-sets, length-take-le}
+use borrow.Author.Needs.{needs}
 use Rattle.evening.proofs.print_table.Statement.{statement}
 use Rattle.evening.proofs.print_table.Tie as tie
 
-abbrev Inv-loop : tie.InvT-loop
-Inv-loop memory account i₀ i = i ≤ 65
+put-table-requires : tie.Need-put-table-requires
+put-table-requires c κs = search needs
 
-abbrev μ-loop : tie.MeasureT-loop
-μ-loop memory account i₀ i = 65 - i
+array-share-prefix-table : tie.Need-array-share-prefix-table
+array-share-prefix-table c =
+    let e : length (c .put-table .last .1 .1 .0) ≡ 12480 = ap length (c .put-table .ensures .1 .1) ∙ simp length-sets in
+    let h : c .put-table .result ≤ length (c .put-table .last .1 .1 .0) = omega (arith, c .put-table .ensures .0) in
+    h
 
-loop-holds : tie.Need-loop-holds Inv-loop μ-loop
-loop-holds c = omega arith
+slice-aggregate-write-all : tie.Need-slice-aggregate-write-all
+slice-aggregate-write-all c =
+    let e : length (c .before .put-table .last .1 .1 .0) ≡ 12480 = ap length (c .before .put-table .ensures .1 .1) ∙ simp length-sets in
+    let h : c .before .put-table .result ≤ length (c .before .put-table .last .1 .1 .0) = omega (arith, c .before .put-table .ensures .0) in
+    sym (length-take-le (c .before .put-table .result) (c .before .put-table .last .1 .1 .0) h)
 
-print-line-requires : tie.Need-print-line-requires Inv-loop μ-loop
-print-line-requires c κs = search needs
+write-all-requires : tie.Need-write-all-requires
+write-all-requires c κs = search needs
 
-returns : tie.Need-returns Inv-loop μ-loop
+returns : tie.Need-returns
 returns c = search needs
-
-add-i : tie.Need-add-i Inv-loop μ-loop
-add-i c = search needs
-
-loop-less : tie.Need-loop-less Inv-loop μ-loop
-loop-less c = omega arith
-
-loop-again : tie.Need-loop-again Inv-loop μ-loop
-loop-again c = omega arith
-
-returns-2 : tie.Need-returns-2 Inv-loop μ-loop
-returns-2 c = search needs
 
 pub print-table-spec : {M : Type 1} → statement M
 print-table-spec =
     tie.close
     (tie.spec
-    Inv-loop
-    μ-loop
-    loop-holds
-    print-line-requires
-    returns
-    add-i
-    loop-less
-    loop-again
-    returns-2)
+    put-table-requires
+    array-share-prefix-table
+    slice-aggregate-write-all
+    write-all-requires
+    returns)

@@ -7,40 +7,46 @@ use Rattle.evening.proofs.take_all.Statement.{statement}
 use Rattle.evening.proofs.take_all.Tie as tie
 
 abbrev Inv-loop : tie.InvT-loop
-Inv-loop memory₀ account₀ come₀ turns₀ memory account come turns = (length memory ≡ length memory₀) × (length account ≡ length account₀)
+Inv-loop memory₀ account₀ input₀ more₀ turns₀ memory account input more turns = (length memory ≡ length memory₀) × ((length account ≡ length account₀) × (length input ≡ length input₀))
 
 abbrev μ-loop : tie.MeasureT-loop
-μ-loop memory₀ account₀ come₀ turns₀ memory account come turns = turns
+μ-loop memory₀ account₀ input₀ more₀ turns₀ memory account input more turns = turns
 
 loop-holds : tie.Need-loop-holds Inv-loop μ-loop
-loop-holds c = (refl, refl)
+loop-holds c = (refl, (refl, refl))
 
-take-next-requires : tie.Need-take-next-requires Inv-loop μ-loop
-take-next-requires c κs = search needs
+take-piece-requires : tie.Need-take-piece-requires Inv-loop μ-loop
+take-piece-requires c κs = search needs
 
 sub-turns : tie.Need-sub-turns Inv-loop μ-loop
-sub-turns c = search needs
+sub-turns c = omega arith
 
 loop-less : tie.Need-loop-less Inv-loop μ-loop
 loop-less c = omega arith
 
 loop-again : tie.Need-loop-again Inv-loop μ-loop
-loop-again c = (c .before .before .before .before .take-next .kept .0 ∙ c .before .before .before .before .before .before .before .before .before .loop .inv .0, c .before .before .before .before .take-next .kept .1 .0 ∙ c .before .before .before .before .before .before .before .before .before .loop .inv .1)
+loop-again c = (c .before .before .before .before .before .before .take-piece .kept .0 ∙ c .before .before .before .before .before .before .before .before .before .before .before .before .loop .inv .0, (c .before .before .before .before .before .before .take-piece .kept .1 .0 ∙ c .before .before .before .before .before .before .before .before .before .before .before .before .loop .inv .1 .0, c .before .before .before .before .before .before .take-piece .kept .1 .1 .0 ∙ c .before .before .before .before .before .before .before .before .before .before .before .before .loop .inv .1 .1))
 
 same-length : tie.Need-same-length Inv-loop μ-loop
-same-length c = c .before .before .loop .inv .0
+same-length c = search needs
 
 same-length-2 : tie.Need-same-length-2 Inv-loop μ-loop
-same-length-2 c = c .before .before .loop .inv .1
+same-length-2 c = search needs
+
+same-length-3 : tie.Need-same-length-3 Inv-loop μ-loop
+same-length-3 c = search needs
 
 returns : tie.Need-returns Inv-loop μ-loop
 returns c = search needs
 
-same-length-3 : tie.Need-same-length-3 Inv-loop μ-loop
-same-length-3 c = c .before .loop .inv .0
-
 same-length-4 : tie.Need-same-length-4 Inv-loop μ-loop
-same-length-4 c = c .before .loop .inv .1
+same-length-4 c = search needs
+
+same-length-5 : tie.Need-same-length-5 Inv-loop μ-loop
+same-length-5 c = search needs
+
+same-length-6 : tie.Need-same-length-6 Inv-loop μ-loop
+same-length-6 c = search needs
 
 returns-2 : tie.Need-returns-2 Inv-loop μ-loop
 returns-2 c = search needs
@@ -52,13 +58,15 @@ take-all-spec =
     Inv-loop
     μ-loop
     loop-holds
-    take-next-requires
+    take-piece-requires
     sub-turns
     loop-less
     loop-again
     same-length
     same-length-2
-    returns
     same-length-3
+    returns
     same-length-4
+    same-length-5
+    same-length-6
     returns-2)

@@ -1,6 +1,4 @@
 -- `tabled::put_row` meets its contract: the name and the figures one after the other. Assumes nothing.
-use mathlib.Core.Path.{_∙_}
-use native.Mathlib.Nat.{zero-add}
 use native.Mathlib.Omega.{arith}
 use Rattle.text.specs.Digits.{nameBytes}
 use Rattle.text.proofs.Written.{then-written}
@@ -22,8 +20,8 @@ same-length c = search needs
 returns : tie.Need-returns
 returns c =
     let s = c .before .before .before .before .before .before .before .before .before .before in
-    let is = then-written (s .args .room .now) (nameBytes (s .args .name)) (spaced (s .args .figures .now)) 0 (c .before .before .before .before .before .before .put-name .ensures .0) (c .before .before .before .before .before .before .put-name .ensures .1) (c .before .before .put-spaced .ensures .0) (c .before .before .put-spaced .ensures .1 .0) in
-    (omega (arith, s .pre .0, c .before .before .before .before .before .before .put-name .ensures .0, c .before .before .put-spaced .ensures .1 .1, name-few (s .args .name)), (is .0 ∙ zero-add _, is .1))
+    let is = then-written (s .args .room .now) (nameBytes (s .args .name)) (spaced (s .args .figures .now)) (s .args .at) (c .before .before .before .before .before .before .put-name .ensures .0) (c .before .before .before .before .before .before .put-name .ensures .1) (c .before .before .put-spaced .ensures .0) (c .before .before .put-spaced .ensures .1 .0) in
+    (omega (arith, s .pre .0, c .before .before .before .before .before .before .put-name .ensures .0, c .before .before .put-spaced .ensures .1 .1, name-few (s .args .name)), is)
 
 pub put-row-spec : {M : Type 1} → statement M
 put-row-spec = tie.close (tie.spec put-name-requires put-spaced-requires same-length returns)
