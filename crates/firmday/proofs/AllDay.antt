@@ -15,12 +15,12 @@ use Rattle.profile.specs.Profile.{outcomeOf}
 use Rattle.state.specs.Sound.{Given}
 use Rattle.firms.specs.Seats.{Seats, vacant}
 use Rattle.firms.specs.Doings.{Doing, arm as arming, call as calling, clear as clearing, Reply, replyTo, afterDoing}
-use Rattle.firms.specs.Runs.{Asked, of, clearAll as allCleared, afterAsked, seatsAfter, isSame, Day, dayBy, dayAfter as meantDay, dayOf}
+use Rattle.firms.specs.Runs.{Asked, of, afterAsked, seatsAfter, isSame, Day, dayBy, dayAfter as meantDay, dayOf}
 use Rattle.firms.proofs.Sound.{vacant-sound}
 use Rattle.firms.proofs.Days.{OfDoing}
 use Rattle.seats.specs.Memory.{seatPart, decodeSeat, decodeSeats, clearAllMemory}
 use Rattle.seats.proofs.Armable.{part-mark}
-use Rattle.firmday.specs.Day.{Asking, arm, call, clear, clearAll, numberOf, memoryAfter, memoryAt, armedDay, dayAfter, dayAt, asked, askedAll}
+use Rattle.firmday.specs.Day.{Asking, arm, call, clear, clearAll, numberOf, memoryAfter, memoryAt, dayAfter, dayAt, asked, askedAll}
 use Rattle.firmday.specs.Promised.{Unarmed}
 use Rattle.firmday.proofs.Follows.{Lent, Goes, stored-lent, call-goes, clear-goes}
 use Rattle.firmday.proofs.Arming.{arm-goes}

@@ -1,9 +1,9 @@
 -- The memory follows the state's meaning, whatever is asked for either firm. Assumes nothing.
-use Prim.Native.Nat.{ℕ, zero, suc, _+_, _*_, _-_, _≤_}
+use Prim.Native.Nat.{ℕ, _*_, _-_, _≤_}
 use native.Mathlib.Omega.{arith}
 use mathlib.Core.Path.{_≡_, refl, sym, ap, _∙_, subst, subst⁻¹}
 use mathlib.Core.Logic.{_⊎_, inl, inr}
-use mathlib.Core.Bool.{Bool, true, false, not, cond, _&&_, _||_, false≢true}
+use mathlib.Core.Bool.{Bool, true, false, _||_, false≢true}
 use mathlib.Core.List.{List}
 use lib.ListN.{length, getD, drop}
 use lib.Dec.{eqb}
@@ -15,14 +15,14 @@ use Rattle.machine.specs.Refusals.{firstOf}
 use Rattle.state.specs.State.{size, decode}
 use Rattle.state.specs.Sound.{Given}
 use Rattle.firms.specs.Seats.{Seat, empty, taken, Seats, vacant, turned, facing, leftBy, roomBeside}
-use Rattle.firms.specs.Doings.{call, clear, Reply, refused, done, answered, isTaken, besideOf, stays, callAt, calledBy, clearAt, atSeat, outcomeOf as doneFor, afterFirst, replyTo, afterDoing}
+use Rattle.firms.specs.Doings.{call, clear, refused, done, answered, isTaken, besideOf, stays, callAt, calledBy, clearAt, atSeat, outcomeOf as doneFor, afterFirst, replyTo, afterDoing}
 use Rattle.firms.specs.Sound.{SoundSeats}
 use Rattle.firms.proofs.Seats.{facing-twice}
 use Rattle.firms.proofs.Sound.{GivenBy, doing-sound, vacant-sound}
 use Rattle.seats.specs.Memory.{stateSize, seatPart, encodeSeats, storedSeats, decodeSeat, decodeSeats, isSoundMemory, firmOf, answerIn, firmAnswer, firmMemory, clearRefusal, clearFirmAnswer, clearFirmMemory}
 use Rattle.seats.proofs.Laws.{taken-apart, seat-at}
 use Rattle.seats.proofs.Exactly.{tested-sound, all-again, all-seated, stored-sound}
-use Rattle.seats.proofs.Calls.{unarmed-is, sound-is, refused-is, Ready, ready-is}
+use Rattle.seats.proofs.Calls.{unarmed-is, sound-is, refused-is, ready-is}
 use Rattle.seats.proofs.Kept.{kept-sound, follows}
 use Rattle.seats.proofs.Both.{other-start, other-decoded}
 use Rattle.seats.proofs.Clearing.{clear-unsound}

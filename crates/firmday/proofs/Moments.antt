@@ -1,26 +1,23 @@
 -- What a firm is answered on lent memory, and what becomes of its seat, by its own seat and the one beside it. Assumes nothing.
-use Prim.Native.Nat.{ℕ, _≤_}
+use Prim.Native.Nat.{ℕ}
 use native.Mathlib.Omega.{arith}
-use mathlib.Core.Path.{_≡_, refl, sym, ap, _∙_, subst, subst⁻¹}
-use mathlib.Core.Bool.{Bool, true, false, not, cond, _&&_}
+use mathlib.Core.Path.{_≡_, sym, _∙_, subst, subst⁻¹}
+use mathlib.Core.Bool.{Bool, true, false, cond}
 use mathlib.Core.List.{List, [], _∷_}
 use lib.Dec.{eqb}
-use borrow.Author.Tests.{eq-eqb, eqb-true, le-ltb}
-use Rattle.machine.specs.State.{Profile, State, armed}
+use borrow.Author.Tests.{eq-eqb}
+use Rattle.machine.specs.State.{Profile, State}
 use Rattle.machine.specs.Calls.{Call}
-use Rattle.machine.specs.Refusals.{firstOf}
 use Rattle.profile.specs.Profile.{readingOf, outcomeOf, outcomeBeside}
 use Rattle.profile.specs.declared.Reading.the-variants.{Refused as NotRead}
-use Rattle.calls.specs.declared.Clearing.{Clearing}
-use Rattle.calls.specs.declared.Clearing.the-variants.{Done as Cleared, Refused as NotCleared}
-use Rattle.firms.specs.Seats.{Seat, empty, taken, Seats, vacant, turned, facing, seatOf, roomBeside, leftBy}
-use Rattle.firms.specs.Doings.{Doing, arm as arming, call as calling, clear as clearing, Reply, refused, done, answered, isTaken, nameOf, Beside, besideOf, armRefusal, armedBy, stays, callAt, clearAt, atSeat, outcomeOf as doneFor, replyTo, afterDoing}
-use Rattle.firms.specs.Runs.{Asked, of, afterAsked, seatsAfter, isSame}
-use Rattle.firms.proofs.Seats.{own-seat, same-firm, own-reply, own-left, other-left, AlikeSeat, trim-alike, Same, at-same}
-use Rattle.seats.specs.Memory.{decodeSeats, answerIn, firmAnswer, armAnswer, armMemory, clearFirmAnswer, clearAllAnswer}
-use Rattle.firmday.specs.Day.{Asking, arm, call, clear, clearAll, numberOf, memoryAfter, asked, readReply, clearReply}
+use Rattle.firms.specs.Seats.{Seat, empty, taken, Seats, vacant, turned, facing, seatOf, roomBeside}
+use Rattle.firms.specs.Doings.{Doing, arm as arming, call as calling, clear as clearing, answered, isTaken, nameOf, Beside, besideOf, callAt, clearAt, atSeat, outcomeOf as doneFor, replyTo, afterDoing}
+use Rattle.firms.specs.Runs.{of, afterAsked, seatsAfter, isSame}
+use Rattle.firms.proofs.Seats.{same-firm, own-reply, own-left, other-left, AlikeSeat, trim-alike, at-same}
+use Rattle.seats.specs.Memory.{decodeSeats, firmAnswer, armAnswer, armMemory, clearFirmAnswer}
+use Rattle.firmday.specs.Day.{Asking, arm, call, clear, clearAll, numberOf, asked, readReply, clearReply}
 use Rattle.firmday.specs.Isolated.{concerns, besideIn}
-use Rattle.firmday.proofs.Follows.{Lent, Goes, call-goes, clear-told}
+use Rattle.firmday.proofs.Follows.{Lent, call-goes, clear-told}
 use Rattle.firmday.proofs.Arming.{arm-goes, arm-told, arm-again}
 
 -- what a firm is told is told by its own seat and the one beside it

@@ -1,10 +1,10 @@
 -- What becomes of the numbers of each part: by a call of its firm, by clearing either firm, and past the state. Assumes nothing.
 use Prim.Native.Nat.{ℕ, _*_, _≤_}
 use native.Mathlib.Omega.{arith}
-use mathlib.Core.Path.{_≡_, refl, sym, ap, _∙_, subst, subst⁻¹}
+use mathlib.Core.Path.{_≡_, refl, sym, ap, _∙_, subst⁻¹}
 use mathlib.Core.Bool.{Bool, true, false, not, cond}
 use mathlib.Core.List.{List, [], _∷_}
-use lib.ListN.{length, getD, drop}
+use lib.ListN.{getD, drop}
 use lib.Dec.{eqb}
 use borrow.Author.Tests.{eqb-true, le-ltb}
 use Rattle.tables.specs.Inner.Tables.{zeros}
@@ -12,7 +12,7 @@ use Rattle.machine.specs.State.{State}
 use Rattle.machine.specs.Calls.{Call}
 use Rattle.machine.specs.Refusals.{firstOf}
 use Rattle.machine.specs.Step.{after}
-use Rattle.machine.specs.Judge.{judge, stepIn, isRefusal}
+use Rattle.machine.specs.Judge.{stepIn, isRefusal}
 use Rattle.demand.specs.Moves.{Moves}
 use Rattle.demand.proofs.Moves.{moves}
 use Rattle.state.specs.State.{size, decode}
@@ -23,7 +23,7 @@ use Rattle.firms.specs.Doings.{call as calling, clear as clearing, afterDoing}
 use Rattle.firms.specs.Sound.{SoundSeat, SoundSeats}
 use Rattle.firms.proofs.Seats.{own-seat}
 use Rattle.firms.proofs.Sound.{GivenBy, doing-sound, vacant-sound}
-use Rattle.seats.specs.Memory.{stateSize, seatPart, encodeSeat, encodeSeats, storedSeats, decodeSeat, decodeSeats, isSoundMemory, firmOf, firmRefusal, firmAnswer, firmMemory, clearRefusal, clearFirmAnswer, clearFirmMemory, clearAllMemory, armRefusal, givenTo, armMemory}
+use Rattle.seats.specs.Memory.{stateSize, seatPart, encodeSeat, encodeSeats, storedSeats, decodeSeats, isSoundMemory, firmOf, firmRefusal, firmAnswer, firmMemory, clearRefusal, clearFirmAnswer, clearFirmMemory, clearAllMemory, armRefusal, givenTo, armMemory}
 use Rattle.seats.proofs.Laws.{taken-apart, seat-long, seat-again}
 use Rattle.seats.proofs.Exactly.{part-first, part-second, all-rest}
 use Rattle.seats.proofs.Calls.{sound-is, Ready, ready-is, own, other, own-taken, firm-answer}

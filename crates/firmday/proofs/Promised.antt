@@ -1,17 +1,15 @@
 -- What is promised of two firms on one state holds, whatever is asked. Assumes nothing.
-use Prim.Native.Nat.{ℕ, _≤_, _<_}
+use Prim.Native.Nat.{ℕ, _<_}
 use native.Mathlib.Omega.{arith}
-use mathlib.Core.Path.{_≡_, refl, sym, ap, _∙_, subst, subst⁻¹}
+use mathlib.Core.Path.{_≡_, sym, ap, _∙_, subst, subst⁻¹}
 use mathlib.Core.Logic.{_⊎_, inl, inr}
-use mathlib.Core.Bool.{Bool, true, false, not, cond}
-use mathlib.Core.List.{List, [], _∷_, _++_}
-use lib.ListN.{length, getD, drop}
+use mathlib.Core.Bool.{Bool, true, not}
+use mathlib.Core.List.{List, _++_}
+use lib.ListN.{length, drop}
 use Rattle.tables.specs.Inner.Tables.{zeros}
 use Rattle.machine.specs.declared.Answer.the-variants.{Refused}
-use Rattle.machine.specs.declared.Offer.{Offer}
-use Rattle.machine.specs.State.{Profile, State}
+use Rattle.machine.specs.State.{State}
 use Rattle.machine.specs.Calls.{Call, offer, send}
-use Rattle.machine.specs.Refusals.{used}
 use Rattle.demand.specs.Run.{runOf}
 use Rattle.demand.specs.Demand.{Ranged, Demand3}
 use Rattle.demand.proofs.Theorem.{ranged-valid}
@@ -19,22 +17,22 @@ use Rattle.demand.proofs.Words.{demand-words}
 use Rattle.profile.specs.Profile.{outcomeOf}
 use Rattle.state.specs.Sound.{Given}
 use Rattle.state.proofs.Exactly.{made-parts, given-is-made}
-use Rattle.firms.specs.Seats.{taken, Seats, vacant, seatOf, facing, ownPlaces}
-use Rattle.firms.specs.Doings.{call as calling, answered, Reply, replyTo}
+use Rattle.firms.specs.Seats.{taken, Seats, vacant, seatOf, facing}
+use Rattle.firms.specs.Doings.{call as calling, answered, replyTo}
 use Rattle.firms.specs.Runs.{Day, noDay, seatsAfter, dayOf, NeverRefused}
 use Rattle.firms.proofs.Seats.{own-seat}
 use Rattle.firms.proofs.Sound.{GivenBy}
 use Rattle.firms.proofs.Days.{dayIn}
 use Rattle.firms.proofs.Places.{Reached, reached, own-places}
 use Rattle.firms.proofs.Demand.{RangedBy, Promised as FirmMeant, demand3}
-use Rattle.firms.proofs.Alone.{AsAlone, as-alone}
+use Rattle.firms.proofs.Alone.{as-alone}
 use Rattle.firms.proofs.Told.{never-low}
-use Rattle.seats.specs.Memory.{stateSize, decodeSeats, SoundMemory, isSoundMemory, firmAnswer, clearAllMemory}
+use Rattle.seats.specs.Memory.{stateSize, decodeSeats, SoundMemory, isSoundMemory, firmAnswer}
 use Rattle.seats.proofs.Exactly.{exactly}
 use Rattle.seats.proofs.ArmKept.{accepted-given}
 use Rattle.seats.proofs.Clearing.{seats-cleared}
 use Rattle.firmday.specs.Day.{Asking, numberOf, memoryAt, askedAll}
-use Rattle.firmday.specs.Promised.{Unarmed, dayOn, Armed, FirmPromised, Promised, DayPromised}
+use Rattle.firmday.specs.Promised.{Unarmed, dayOn, Armed, FirmPromised, DayPromised}
 use Rattle.firmday.proofs.Follows.{Lent}
 use Rattle.firmday.proofs.AllDay.{day-follows, asked-all, unarmed-lent}
 use Rattle.firmday.proofs.Moments.{by-call, arm-taken}

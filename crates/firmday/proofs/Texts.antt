@@ -1,10 +1,10 @@
 -- What a text is answered beside the other's name: 7 with line 1 if it has this name, else what it is answered by itself. Assumes nothing.
-use Prim.Native.Nat.{ℕ, zero, suc, _+_, _<_, _≤_}
+use Prim.Native.Nat.{ℕ, suc, _+_}
 use native.Mathlib.Omega.{arith}
 use native.Mathlib.Nat.{suc-ne-zero}
 use mathlib.Core.Path.{_≡_, refl, sym, ap, _∙_, subst}
 use mathlib.Core.Logic.{_⊎_, inl, inr}
-use mathlib.Core.Bool.{Bool, true, false, not, cond}
+use mathlib.Core.Bool.{Bool, true, false, cond}
 use mathlib.Core.List.{List, [], _∷_}
 use lib.ListN.{length, getD}
 use lib.Dec.{eqb, leb}
@@ -19,8 +19,7 @@ use Rattle.line.specs.Line.{firmIn, typeIn, limitIn, timeIn, rootIn, isFirmLeve
 use Rattle.line.specs.declared.Line.{Line}
 use Rattle.line.specs.declared.Line.the-variants.{Is, Refused as Faulty}
 use Rattle.profile.specs.Profile.{Outcome, joined, tooMany, afterLine, readOn, startOf, readingOf, outcomeOf, outcomeBeside}
-use Rattle.profile.specs.declared.Reading.{Reading}
-use Rattle.profile.specs.declared.Reading.the-variants.{Accepted, Refused as NotRead}
+use Rattle.profile.specs.declared.Reading.the-variants.{Refused as NotRead}
 use Rattle.profile.proofs.Laws.{accepted-lines, accepted-some, reading-refused}
 use Rattle.profile.proofs.Beside.{beside-none, beside-other, beside-same}
 use Rattle.firmday.specs.Isolated.{namedIn}

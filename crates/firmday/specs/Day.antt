@@ -1,20 +1,18 @@
 -- A day of a state on lent memory: what is asked for each firm, the memory that it leaves, and a firm's calls with their answers. Assumes nothing.
 use Prim.Native.Nat.{ℕ}
-use mathlib.Core.Path.{_≡_}
 use mathlib.Core.Bool.{Bool, true, false, cond}
 use mathlib.Core.List.{List, [], _∷_, _++_}
 use lib.Dec.{eqb}
-use Rattle.machine.specs.State.{Profile, State}
+use Rattle.machine.specs.State.{Profile}
 use Rattle.machine.specs.Calls.{Call}
-use Rattle.demand.specs.Demand.{Demand3}
 use Rattle.profile.specs.Profile.{outcomeOf}
 use Rattle.profile.specs.declared.Reading.{Reading}
 use Rattle.profile.specs.declared.Reading.the-variants.{Accepted, Refused as NotRead}
-use Rattle.firms.specs.Doings.{Doing, arm as arming, call as calling, clear as clearing, Reply, refused, done, answered}
+use Rattle.firms.specs.Doings.{arm as arming, call as calling, clear as clearing, Reply, refused, done}
 use Rattle.calls.specs.declared.Clearing.{Clearing}
 use Rattle.calls.specs.declared.Clearing.the-variants.{Done as Cleared, Refused as NotCleared}
 use Rattle.firms.specs.Runs.{Asked, of, clearAll as allCleared, isSame, Day}
-use Rattle.seats.specs.Memory.{armAnswer, armMemory, firmAnswer, firmMemory, clearFirmAnswer, clearFirmMemory, clearAllMemory}
+use Rattle.seats.specs.Memory.{armAnswer, armMemory, firmAnswer, firmMemory, clearFirmMemory, clearAllMemory}
 
 -- what is asked for firm 0 (false) or firm 1 (true): arming with a text, a call, clearing the firm; and clearing the state
 pub data Asking : Type 0 where

@@ -15,7 +15,7 @@ use Rattle.profile.specs.declared.Reading.{Reading}
 use Rattle.profile.specs.declared.Reading.the-variants.{Refused as NotRead}
 use Rattle.calls.specs.declared.Clearing.{Clearing}
 use Rattle.calls.specs.declared.Clearing.the-variants.{Done as Cleared, Refused as NotCleared}
-use Rattle.firms.specs.Seats.{Seat, empty, vacant, facing, seatOf, useOf, ownPlaces}
+use Rattle.firms.specs.Seats.{Seat, empty, facing, seatOf, useOf, ownPlaces}
 use Rattle.firms.specs.Doings.{isTaken, nameOf}
 use Rattle.firms.specs.Runs.{isSame}
 use Rattle.seats.specs.Memory.{decodeSeats, firmAnswer, armAnswer, clearFirmAnswer, clearAllAnswer}
