@@ -14,7 +14,7 @@ use crate::typed::command::{self, Command};
 use crate::typed::complete::Known;
 use crate::typed::help;
 use crate::typed::names::Names;
-use crate::words::shortened;
+use crate::words::{counted, shortened};
 use std::io::{self, Write};
 
 /// What stands on the desk: a state without rules, or one with a day behind it.
@@ -78,6 +78,13 @@ impl Desk {
             Ok(text) => writeln!(out, "{text}").map(|()| After::Done),
             Err(advice) => writeln!(out, "{advice}").map(|()| After::NotDone),
         }
+    }
+
+    /// Refuses a line of more bytes than the desk takes.
+    pub fn too_long(&mut self, most: usize, out: &mut dyn Write) -> io::Result<After> {
+        self.caution.next_line();
+        writeln!(out, "the line has more than {}, so nothing of it was done; type a shorter one", counted(most, "byte"))?;
+        Ok(After::NotDone)
     }
 
     fn carry_out(&mut self, command: Command) -> Result<String, String> {
