@@ -1,8 +1,7 @@
 //! A typed line as a command, or as a sentence that says what to type.
 
 use crate::library::form::Form;
-use crate::typed::topics::COMMANDS;
-use crate::words::{nearest, shortened};
+use crate::typed::meant::no_command;
 
 /// A file to write.
 #[derive(Clone, Debug, PartialEq, Eq)]
@@ -146,7 +145,7 @@ pub fn read(line: &str) -> Result<Command, String> {
         "report" => report(rest),
         "help" | "?" => Ok(Command::Help(Some(rest.to_string()).filter(|name| !name.is_empty()))),
         "quit" | "exit" => alone(rest, "quit", Command::Quit),
-        _ => Err(format!("'{}' is no command; type help for the list{}", shortened(name), meant(name))),
+        _ => Err(no_command(name)),
     }
 }
 
@@ -211,10 +210,4 @@ fn report(rest: &str) -> Result<Command, String> {
     };
     let stretch = stretch.map(|(from, to)| (from.to_string(), to.to_string()));
     Ok(Command::Report { file: file(name.trim(), form)?, stretch })
-}
-
-/// A hint for a word that is near a command.
-fn meant(name: &str) -> String {
-    let names: Vec<&str> = COMMANDS.iter().map(|topic| topic.name).collect();
-    nearest(name, &names).map_or_else(String::new, |known| format!(" (did you mean {known}?)"))
 }
