@@ -75,6 +75,8 @@ pub enum Command {
     Status,
     /// Forget everything.
     Clear,
+    /// Take back the last line or replay that passed events.
+    Undo,
     /// Write the day to a file, as records or in words.
     Save {
         /// The file.
@@ -138,6 +140,7 @@ pub fn read(line: &str) -> Result<Command, String> {
         "account" => kept(rest, "account").map(|kept| Command::Account(Some(kept))),
         "status" => alone(rest, "status", Command::Status),
         "clear" => alone(rest, "clear", Command::Clear),
+        "undo" => alone(rest, "undo", Command::Undo),
         "save" => save(rest),
         "replay" => replay(rest),
         "widen" => moved(rest, Move::Widen),
