@@ -125,11 +125,16 @@ fn from_file(name: &str, out: &mut dyn Write) -> io::Result<End> {
 }
 
 fn checked(name: &str, out: &mut dyn Write) -> io::Result<End> {
-    let shown = given::shown(name);
-    match given::profile(name).map(|text| check::check(shown, &text)) {
-        Ok(Ok(words)) => writeln!(out, "{words}").map(|()| End::Done),
-        Ok(Err(words)) => writeln!(out, "{words}").map(|()| End::NotDone),
-        Err(advice) => writeln!(io::stderr(), "desk: {advice}").map(|()| End::WrongUse),
+    let text = match given::profile(name) {
+        Ok(text) => text,
+        Err(advice) => return writeln!(io::stderr(), "desk: {advice}").map(|()| End::WrongUse),
+    };
+    if let Some(remark) = given::emptiness(name, &text) {
+        writeln!(io::stderr(), "desk: {remark}")?;
+    }
+    match check::check(given::shown(name), &text) {
+        Ok(words) => writeln!(out, "{words}").map(|()| End::Done),
+        Err(words) => writeln!(out, "{words}").map(|()| End::NotDone),
     }
 }
 

@@ -27,8 +27,8 @@ fn what_a_person_does_at_the_page() {
     browser.open(&serving.address);
     lines(&browser, 2);
     cleared_and_brought_back(&browser);
-    // a file of records goes on where the day stands
-    fs::write(place.join("day"), [0xFF; 16]).expect("written");
+    // a day in words goes on where the day stands
+    fs::write(place.join("day"), "record ff00\n").expect("written");
     browser.keys("#day", &place.join("day").to_string_lossy());
     lines(&browser, 3);
     browser.wait("document.querySelector('#account-rows').innerText.includes('firm ABCD')");

@@ -40,13 +40,13 @@ fn what_comes_back_is_counted_past_a_limit_and_under_a_lock() {
                 "back 20ms 7 10",
                 "10 of order 7 came back on XYZ call front, 150 contracts open and 1 report left; limit reached: rule 0 abs_vol 100 of XYZ call front; root XYZ tripped  [3 0 0 10 1 0]",
             ),
-            ("away 21ms XYZ put front 1.00 5 8 1", "rejected, root XYZ is tripped (s: RiskMgmtSymLevel), order 8 not sent  [4 0 2 0 0 0]"),
+            ("away 21ms XYZ put front 1.00 5 8 1", "rejected, root XYZ is tripped (s: RiskMgmtSymLevel), order 8 not sent: 5 at $1.00  [4 0 2 0 0 0]"),
             (
                 "back 30ms 7 150",
                 "150 of order 7 came back on XYZ call front, 0 contracts open and 0 reports left; past the limit: rule 0 abs_vol 100 of XYZ call front by 150; root XYZ tripped  [5 0 0 150 1 0]",
             ),
             ("order 31ms XYZ reset t", "root XYZ unlocked, its counts stay; the order on XYZ may pass  [6 0 0 0 0 0]"),
-            ("offer 32ms XYZ call front 1.00 5", "granted 0 of 5, cut by rule 0 abs_vol 100 of XYZ call front; root XYZ tripped  [7 0 0 0 1 0]"),
+            ("offer 32ms XYZ call front 1.00 5", "granted 0 of 5 at $1.00, cut by rule 0 abs_vol 100 of XYZ call front; root XYZ tripped  [7 0 0 0 1 0]"),
             ("close 40ms 7", "order 7 closed, 250 of 250 had come back  [8 0 0 0 0 0]"),
         ],
     );
@@ -77,7 +77,7 @@ fn refusals_say_what_is_open_and_what_to_type() {
             ("away 0ms XYZ call front 2.00 50 7 2", "order 7 sent away: 50 of XYZ call front at $2.00, 2 reports allowed  [2 0 0 0 0 0]"),
             ("away 0ms XYZ put front 2.00 50 65535 1", "order 65535 sent away: 50 of XYZ put front at $2.00, 1 report allowed  [3 0 0 0 0 0]"),
             ("back 0ms 8 1", &format!("{no_order}; open: 7, 65535  [4 18 0 0 0 0]")),
-            ("send 0ms XYZ call front 1 1 7 1", &format!("{no_order}; order 7 has 50 contracts open and 2 reports left: close it first, or type another identity  [5 18 0 0 0 0]")),
+            ("send 0ms XYZ call front 1 1 7 1", &format!("{no_order}; asked for: 1 at $1.00; order 7 has 50 contracts open and 2 reports left: close it first, or type another identity  [5 18 0 0 0 0]")),
             (
                 "back 1ms 7 51",
                 "refused with 19: the report has more contracts than are open, or the order has no report left; order 7 has 50 contracts open and 2 reports left  [6 19 0 0 0 0]",
@@ -95,7 +95,7 @@ fn refusals_say_what_is_open_and_what_to_type() {
         assert!(said(&mut sitting, &format!("away 3ms XYZ call front 1 1 {identity} 1")).starts_with("order "));
     }
     let full = said(&mut sitting, "away 3ms XYZ call front 1 1 9 1");
-    assert!(full.starts_with("refused with 17: 64 orders sent away are open, so the register has no place for another; type close TIME IDENTITY for one of 7, 100,"), "{full}");
+    assert!(full.starts_with("refused with 17: 64 orders sent away are open, so the register has no place for another; asked for: 1 at $1.00; type close TIME IDENTITY for one of 7, 100,"), "{full}");
     assert!(full.contains("109, 110 and 52 more  ["), "{full}");
 }
 
@@ -103,7 +103,7 @@ fn refusals_say_what_is_open_and_what_to_type() {
 fn a_log_without_room_says_what_keeps_it() {
     let mut sitting = sitting("ABCD,rate_vol,XYZ,1000000,60000");
     let full = "refused with 15: fills inside the longest window and places kept for reports leave too few of the log's 512 places; \
-                type a time at which the longest window has passed over the oldest fill";
+                asked for: 1 at $1.00; type a time at which the longest window has passed over the oldest fill";
     for identity in 0..31 {
         let sent = said(&mut sitting, &format!("away 0ms XYZ call front 1 16 {identity} 16"));
         assert!(sent.contains(", 16 reports allowed, 16 log places kept  ["), "{sent}");

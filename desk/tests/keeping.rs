@@ -86,7 +86,8 @@ fn every_record_keeps_its_bytes_and_its_place() {
     for seed in 0..60 {
         let mut dice = Dice::new(seed);
         fs::write(place.path("profile"), profile(&mut dice)).expect("written");
-        let mut bytes: Vec<u8> = (0..dice.below(30)).flat_map(|n| recorded(&mut dice, n * 50, 3).0).collect();
+        // at least half of the records must hold an event, else the desk takes the file for no day
+        let mut bytes: Vec<u8> = (0..12 + dice.below(30)).flat_map(|n| recorded(&mut dice, n * 50, 3).0).collect();
         for _ in 0..dice.below(6) {
             let length = bytes.len() as u64;
             if let Some(byte) = bytes.get_mut(dice.below(length) as usize) {

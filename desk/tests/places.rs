@@ -28,7 +28,8 @@ fn desk() -> Command {
 fn records(dice: &mut Dice) -> Vec<u8> {
     let mut clock = 0;
     let mut bytes = Vec::new();
-    for _ in 0..1 + dice.below(400) {
+    // at least half of the records must hold an event, else the desk takes the file for no day
+    for _ in 0..40 + dice.below(400) {
         let (record, next) = recorded(dice, clock, 3);
         clock = clock.max(next.time().ms());
         bytes.extend(record);

@@ -65,15 +65,14 @@ fn what_was_only_unlocked_trips_again() {
     assert!(line("offer 0ms XYZ call front 1.00 120").ends_with("[1 0 0 100 1 0]"));
     assert_eq!(line("order 1ms XYZ reset t"), "root XYZ unlocked, its counts stay; the order on XYZ may pass  [2 0 0 0 0 0]");
     assert!(line("offer 2ms XYZ call front 1.00 1")
-        .starts_with("granted 0 of 1, cut by rule 0 abs_vol 100 of XYZ call front; root XYZ tripped"));
+        .starts_with("granted 0 of 1 at $1.00, cut by rule 0 abs_vol 100 of XYZ call front; root XYZ tripped"));
     assert_eq!(
         line("order 3ms XYZ reset te"),
         "root XYZ and firm ABCD unlocked, their counts stay; the order on XYZ may pass  [4 0 0 0 0 0]"
     );
     // the firm has 50 left, and another unit of the root 100
-    assert!(
-        line("offer 4ms XYZ put front 1.00 60").starts_with("granted 50 of 60, cut by rule 1 abs_vol 150 of firm ABCD; firm ABCD tripped")
-    );
+    assert!(line("offer 4ms XYZ put front 1.00 60")
+        .starts_with("granted 50 of 60 at $1.00, cut by rule 1 abs_vol 150 of firm ABCD; firm ABCD tripped"));
     assert!(line("order 5ms XYZ reset t").starts_with("root XYZ unlocked, its counts stay; rejected, firm ABCD is tripped"));
     assert_eq!(line("order 6ms XYZ reset e"), "firm ABCD unlocked, its counts stay; the order on XYZ may pass  [7 0 0 0 0 0]");
     assert_eq!(line("order 7ms XYZ reset symbol"), "root XYZ reset; the order on XYZ may pass  [8 0 0 0 0 0]");

@@ -139,7 +139,7 @@ fn orders_are_sent_away_by_keys_and_clicks() {
     browser.script("document.activeElement.blur()");
     assert_eq!(browser.text("#orders tr"), "5\tXYZ call front\t$7.00\t0 of 100\t100\t3");
     browser.press("o");
-    browser.wait_text("#words", "granted all 100; limit reached: rule 0 abs_vol 100 of XYZ call front; root XYZ tripped");
+    browser.wait_text("#words", "granted all 100 at $7.00; limit reached: rule 0 abs_vol 100 of XYZ call front; root XYZ tripped");
     browser.fill("#contracts", "40");
     browser.script("document.activeElement.blur()");
     browser.press("b");
@@ -153,7 +153,7 @@ fn orders_are_sent_away_by_keys_and_clicks() {
     browser.fill("#identity", "6");
     browser.script("document.activeElement.blur()");
     browser.press("a");
-    browser.wait_text("#words", "rejected, root XYZ is tripped (s: RiskMgmtSymLevel), order 6 not sent");
+    browser.wait_text("#words", "rejected, root XYZ is tripped (s: RiskMgmtSymLevel), order 6 not sent: 40 at $7.00");
     browser.click("#orders button");
     browser.press("x");
     browser.wait_text("#words", "order 5 closed, 40 of 100 had come back, 2 log places free again");

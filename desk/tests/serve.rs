@@ -163,7 +163,7 @@ fn a_long_log_comes_in_pieces() {
     let place = workplace("log");
     let serving = Serving::begin(&place, &[]);
     assert_eq!(post(&serving, "arm", PROFILE.as_bytes()).0, 200);
-    assert_eq!(post(&serving, "replay?name=faulty", &[0xFF; 16 * 450]).0, 200);
+    assert_eq!(post(&serving, "replay?name=faulty", "record ff\n".repeat(450).as_bytes()).0, 200);
     let places = |log: &Json| (log.list().first().map(|entry| entry.get("place").number()), log.list().len());
     assert_eq!(places(state(&serving).get("log")), (Some(251), 200));
     let before = |to: usize| Json::of(&String::from_utf8(get(&serving, &format!("log?to={to}")).1).expect("text"));

@@ -87,7 +87,7 @@ fn what_was_replaced_is_no_source() {
     let mut bench = Bench::default();
     bench.arm("profile", PROFILE.as_bytes()).expect("armed");
     bench.line("order 0ms XYZ").expect("an event");
-    bench.replay("faulty", &[0xFF; 32], Form::New).expect("replayed");
+    bench.replay("faulty", b"record ff\nrecord ff\n", Form::New).expect("replayed");
     let sources = |bench: &Bench| bench.sitting.as_ref().map(|sitting| (sitting.sources.replayed.clone(), sitting.sources.typed));
     assert_eq!(sources(&bench), Some((vec!["faulty".to_string()], 1)));
     bench.go(1).expect("undone");

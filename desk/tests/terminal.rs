@@ -80,8 +80,8 @@ fn lines_are_painted_by_what_they_say() {
     let red = |line: &str| line.starts_with("\x1b[31m");
     let yellow = |line: &str| line.starts_with("\x1b[33m");
     let green = |line: &str| line.starts_with("\x1b[32m");
-    assert!(green(&paint("granted all 450  [1 0 0 450 0 0]")));
-    assert!(yellow(&paint("granted 50 of 200, cut by rule 0 rate_vol 500 in 1 s of XYZ; root XYZ tripped  [2 0 0 50 1 0]")));
+    assert!(green(&paint("granted all 450 at $7.00  [1 0 0 450 0 0]")));
+    assert!(yellow(&paint("granted 50 of 200 at $7.00, cut by rule 0 rate_vol 500 in 1 s of XYZ; root XYZ tripped  [2 0 0 50 1 0]")));
     assert!(red(&paint("rejected, root XYZ is tripped (s: RiskMgmtSymLevel)  [3 0 2 0 0 0]")));
     assert!(red(&paint("refused with 12: the time is no time of the day")));
     assert!(red(&paint("    |      ^^^^^^^^^^")) && yellow(&paint("    | warning: the limit is 1")));

@@ -1,7 +1,7 @@
 //! Lines that rustyline edits: arrows and history, Tab for commands, roots, open orders and files.
 
 use desk::console::desk::Desk;
-use desk::console::lines::{talk, Ended, Lines};
+use desk::console::lines::{talk, Ended, Line, Lines};
 use desk::typed::complete::{self, Known};
 use rustyline::completion::{Completer, Pair};
 use rustyline::error::ReadlineError;
@@ -47,15 +47,15 @@ struct Edited<'a> {
 }
 
 impl Lines for Edited<'_> {
-    fn next(&mut self, prompt: &str, desk: &Desk, out: &mut dyn Write) -> io::Result<Option<String>> {
+    fn next(&mut self, prompt: &str, desk: &Desk, out: &mut dyn Write) -> io::Result<Option<Line>> {
         out.flush()?;
         if let Some(names) = self.editor.helper_mut() {
             names.known = desk.known();
         }
         match self.editor.readline(prompt) {
-            Ok(line) => Ok(Some(line)),
+            Ok(line) => Ok(Some(Line::of(line.as_bytes()))),
             // a line that was given up is an empty one
-            Err(ReadlineError::Interrupted) => Ok(Some(String::new())),
+            Err(ReadlineError::Interrupted) => Ok(Some(Line::of(b""))),
             Err(ReadlineError::Eof) => Ok(None),
             Err(ReadlineError::Io(error)) => Err(error),
             Err(error) => Err(io::Error::other(error.to_string())),

@@ -7,13 +7,13 @@ use crate::session::passed::Passed;
 use crate::session::resets;
 use crate::session::sitting::Sitting;
 use crate::typed::spoken::typed;
-use crate::words::{self, grouped};
+use crate::words::{self, at_premium, grouped};
 use mbrumzheg::{Answer, Event, Level, Offer, Refusal, Reset, Root, Verdict};
 
 /// The answer to an event that was typed, in words and numbers; a refusal says what to type.
 pub fn answer(sitting: &Sitting, passed: &Passed) -> String {
     let advice = match &passed.answer {
-        Err(refusal) => advice(sitting, passed, *refusal),
+        Err(refusal) => format!("{}{}", asked_for(passed), advice(sitting, passed, *refusal)),
         Ok(_) => String::new(),
     };
     format!("{}{advice}  [{}]", sentence(sitting, passed), passed.numbers())
@@ -34,7 +34,7 @@ pub fn sentence(sitting: &Sitting, passed: &Passed) -> String {
     match (&passed.event, &passed.answer) {
         (Some(Event::Offer(offer)), Ok(answer)) if answer.verdict.passes() => filled(&sitting.profile, offer, answer, passed),
         (Some(Event::Offer(offer)), Ok(answer)) => {
-            format!("{}, granted 0 of {}", rejected(sitting, answer.verdict, offer.root), grouped(offer.contracts.count()))
+            format!("{}, granted 0 of {}", rejected(sitting, answer.verdict, offer.root), at_premium(offer.contracts, offer.premium))
         }
         (Some(Event::Order { root, reset, .. }), Ok(answer)) => ordered(sitting, *root, *reset, answer.verdict),
         (Some(Event::Lockout { level, .. }), Ok(_)) => match level {
@@ -52,14 +52,14 @@ pub fn sentence(sitting: &Sitting, passed: &Passed) -> String {
 }
 
 fn filled(profile: &Profile, offer: &Offer, answer: &Answer, passed: &Passed) -> String {
-    let offered = offer.contracts.count();
+    let offered = at_premium(offer.contracts, offer.premium);
     let text = if answer.cuts(offer.contracts) {
-        let granted = format!("granted {} of {}", grouped(answer.grant), grouped(offered));
+        let granted = format!("granted {} of {offered}", grouped(answer.grant));
         format!("{granted}, cut by {}", counts(profile, &passed.cut_by))
     } else if passed.covered {
-        format!("granted all {}", grouped(offered))
+        format!("granted all {offered}")
     } else {
-        format!("granted all {}, no rule covers it", grouped(offered))
+        format!("granted all {offered}, no rule covers it")
     };
     format!("{text}{}{}", limits(profile, passed), trips(profile, Some(offer.root), answer))
 }
@@ -97,6 +97,15 @@ fn ordered(sitting: &Sitting, root: Root, reset: Reset, verdict: Verdict) -> Str
     match verdict {
         Verdict::Free => format!("{done}the order on {name} may pass"),
         _ => format!("{done}{}", rejected(sitting, verdict, root)),
+    }
+}
+
+/// The contracts and premium of an offer or a sending that was refused, as they were understood.
+fn asked_for(passed: &Passed) -> String {
+    match &passed.event {
+        Some(Event::Offer(offer)) => format!("; asked for: {}", at_premium(offer.contracts, offer.premium)),
+        Some(Event::Send(sending)) => format!("; asked for: {}", at_premium(sending.contracts, sending.premium)),
+        _ => String::new(),
     }
 }
 

@@ -6,7 +6,7 @@ use crate::session::passed::Passed;
 use crate::session::register::{Away, Register};
 use crate::session::sitting::Sitting;
 use crate::typed::topics::{AWAY_FORM, CLOSE_FORM};
-use crate::words::{self, counted, grouped, listed};
+use crate::words::{self, at_premium, counted, grouped, listed};
 use mbrumzheg::{Event, Identity, Refusal, Sending};
 
 /// What became of an order sent away, or of one that was not sent since something is locked.
@@ -14,7 +14,8 @@ pub fn sentence(sitting: &Sitting, passed: &Passed) -> String {
     let (Some(event), Ok(answer)) = (&passed.event, &passed.answer) else { return String::new() };
     match (event, passed.away) {
         (Event::Send(sending), None) => {
-            format!("{}, order {} not sent", rejected(sitting, answer.verdict, sending.root), sending.identity)
+            let asked = at_premium(sending.contracts, sending.premium);
+            format!("{}, order {} not sent: {asked}", rejected(sitting, answer.verdict, sending.root), sending.identity)
         }
         (Event::Send(sending), Some(_)) => {
             let (contracts, on) = (grouped(sending.contracts.count()), on(&sitting.profile, sending));

@@ -5,16 +5,19 @@ use crate::answers::evening;
 use crate::answers::table;
 use crate::console::caution::Caution;
 use crate::console::keeping;
+use crate::console::undo::{Step, Steps};
 use crate::explain::check;
 use crate::files::disk;
 use crate::files::moving;
+use crate::library::form::Form;
 use crate::library::state::Cleared;
 use crate::session::sitting::Sitting;
 use crate::typed::command::{self, Command};
 use crate::typed::complete::Known;
 use crate::typed::help;
 use crate::typed::names::Names;
-use crate::words::shortened;
+use crate::typed::spoken::typed;
+use crate::words::{counted, shortened};
 use std::io::{self, Write};
 
 /// What stands on the desk: a state without rules, or one with a day behind it.
@@ -33,6 +36,7 @@ impl Default for Bench {
 #[derive(Default)]
 pub struct Desk {
     bench: Bench,
+    steps: Steps,
     caution: Caution,
 }
 
@@ -66,10 +70,7 @@ impl Desk {
                 None => return Ok(After::End),
                 Some(question) => Err(question),
             },
-            Ok(Command::Replay { file, form, quiet }) => match self.sitting() {
-                Ok(sitting) => keeping::replay(sitting, &file, form, quiet, out)?,
-                Err(advice) => Err(advice),
-            },
+            Ok(Command::Replay { file, form, quiet }) => self.replay(&file, form, quiet, out)?,
             Ok(command) => self.carry_out(command),
             Err(advice) => Err(advice),
         };
@@ -78,6 +79,13 @@ impl Desk {
             Ok(text) => writeln!(out, "{text}").map(|()| After::Done),
             Err(advice) => writeln!(out, "{advice}").map(|()| After::NotDone),
         }
+    }
+
+    /// Refuses a line of more bytes than the desk takes.
+    pub fn too_long(&mut self, most: usize, out: &mut dyn Write) -> io::Result<After> {
+        self.caution.next_line();
+        writeln!(out, "the line has more than {}, so nothing of it was done; type a shorter one", counted(most, "byte"))?;
+        Ok(After::NotDone)
     }
 
     fn carry_out(&mut self, command: Command) -> Result<String, String> {
@@ -93,6 +101,7 @@ impl Desk {
             Command::Account(Some(kept)) => keeping::save_account(self.sitting()?, &kept),
             Command::Status => table::status(self.sitting()?).map_err(|refusal| refusal.to_string()),
             Command::Clear => self.clear(),
+            Command::Undo => self.steps.undo(armed(&mut self.bench)?),
             Command::Save { kept, in_words } => keeping::save(self.sitting()?, &kept, in_words),
             Command::Report { file, stretch } => keeping::report(self.sitting()?, &file, stretch),
             Command::Move { which, from, kept } => moving::file(which, &from, &kept),
@@ -110,10 +119,19 @@ impl Desk {
     }
 
     fn sitting(&mut self) -> Result<&mut Sitting, String> {
-        match &mut self.bench {
-            Bench::Armed(sitting) => Ok(sitting),
-            Bench::Unarmed(_) => Err(ARM_FIRST.to_string()),
-        }
+        armed(&mut self.bench)
+    }
+
+    /// Passes the events of a file.
+    fn replay(&mut self, file: &str, form: Form, quiet: bool, out: &mut dyn Write) -> io::Result<Result<String, String>> {
+        let sitting = match armed(&mut self.bench) {
+            Ok(sitting) => sitting,
+            Err(advice) => return Ok(Err(advice)),
+        };
+        let before = Step::before(sitting);
+        let said = keeping::replay(sitting, file, form, quiet, out)?;
+        self.steps.took(before, sitting, format!("the replay of {file}"));
+        Ok(said)
     }
 
     fn arm(&mut self, file: &str) -> Result<String, String> {
@@ -130,15 +148,18 @@ impl Desk {
         let sitting = Sitting::new(armed, file, &text);
         let words = check::armed(&sitting.profile, RULES_SHOWN);
         self.bench = Bench::Armed(Box::new(sitting));
+        self.steps = Steps::of(&text);
         Ok(words)
     }
 
     /// Passes the event that a command asks for.
     fn pass(&mut self, command: &Command) -> Result<String, String> {
-        let sitting = self.sitting()?;
+        let sitting = armed(&mut self.bench)?;
         let names = Names::of(sitting);
         let Some(event) = names.event(command) else { return Ok(String::new()) };
-        let passed = sitting.pass(event?);
+        let (event, before) = (event?, Step::before(sitting));
+        let passed = sitting.pass(event);
+        self.steps.took(before, sitting, typed(&sitting.profile, &event));
         Ok(answer::answer(sitting, &passed))
     }
 
@@ -155,6 +176,7 @@ impl Desk {
         if let Bench::Armed(sitting) = std::mem::take(&mut self.bench) {
             self.caution.lose(sitting.unsaved);
             self.bench = Bench::Unarmed(sitting.clear());
+            self.steps = Steps::default();
         }
         Ok("cleared: the unit holds no rules, and nothing may pass until it is armed  [0]".to_string())
     }
@@ -170,6 +192,14 @@ impl Desk {
             Bench::Armed(sitting) => sitting.unsaved,
             Bench::Unarmed(_) => 0,
         }
+    }
+}
+
+/// The day on an armed state.
+fn armed(bench: &mut Bench) -> Result<&mut Sitting, String> {
+    match bench {
+        Bench::Armed(sitting) => Ok(sitting),
+        Bench::Unarmed(_) => Err(ARM_FIRST.to_string()),
     }
 }
 

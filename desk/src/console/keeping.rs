@@ -3,8 +3,9 @@
 use crate::answers::answer;
 use crate::answers::evening;
 use crate::files::disk;
-use crate::files::opened::{self, Opened};
+use crate::files::opened;
 use crate::files::progress::Progress;
+use crate::files::whole::Whole;
 use crate::library::form::Form;
 use crate::replay::day::Day;
 use crate::report;
@@ -13,6 +14,7 @@ use crate::session::sums::Sums;
 use crate::typed::command::Kept;
 use crate::typed::names::Names;
 use crate::words::{self, counted};
+use mbrumzheg::Time;
 use std::io::{self, Write};
 
 /// Writes the day to a file, as records or in words.
@@ -68,41 +70,39 @@ pub fn report(sitting: &Sitting, file: &str, stretch: Option<(String, String)>) 
     Ok(format!("wrote {} on {} to {file}", report::kind(file), counted(sitting.place, "record")))
 }
 
-/// Passes the events of a file, and shows their answers or, where it is `quiet`, those of them that did not simply pass.
+/// Passes the events of a file, and shows their answers or, where it is `quiet`, those of them that did not simply pass. Nothing is passed where one of them
+/// cannot be read.
 pub fn replay(sitting: &mut Sitting, file: &str, form: Form, quiet: bool, out: &mut dyn Write) -> io::Result<Result<String, String>> {
-    let profile = sitting.profile.clone();
-    let opened = disk::records(file).and_then(|(from, bytes)| {
-        let opened = opened::of_file(from, bytes, form, &profile).map_err(|why| format!("'{file}' is left alone, since {why}"))?;
-        let records = bytes.filter(|_| !opened.are_words).map(|bytes| bytes.div_ceil(form.size() as u64));
-        Ok((opened, Progress::of(records)))
-    });
-    match opened {
-        Ok((opened, progress)) => pass_all(sitting, file, opened, progress, quiet, out),
+    match read(sitting, file, form) {
+        Ok((whole, remark)) => pass_all(sitting, file, &whole, remark, quiet, out),
         Err(advice) => Ok(Err(advice)),
     }
+}
+
+/// A file read to its end on a copy of the state; and what its length says of the last record.
+fn read(sitting: &Sitting, file: &str, form: Form) -> Result<(Whole, Option<String>), String> {
+    let left_alone = |why: String| format!("'{file}' is left alone, since {why}");
+    let (from, bytes) = disk::records(file)?;
+    let mut opened = opened::of_file(from, bytes, form, &sitting.profile).map_err(left_alone)?;
+    let whole = Whole::read(&mut opened, sitting.state().copied(), sitting.account.clone()).map_err(left_alone)?;
+    Ok((whole, opened.remark))
 }
 
 /// Passes the records of a file, and shows their answers.
 fn pass_all(
     sitting: &mut Sitting,
     file: &str,
-    Opened { mut pieces, remark, .. }: Opened<'_>,
-    mut progress: Progress,
+    whole: &Whole,
+    remark: Option<String>,
     quiet: bool,
     out: &mut dyn Write,
 ) -> io::Result<Result<String, String>> {
     let clock = sitting.clock();
     let (mut sums, mut late) = (Sums::default(), false);
+    let mut progress = Progress::of(Some(whole.count() as u64));
+    let mut pieces = whole.pieces().map_err(io::Error::other)?;
     sitting.sources.replayed.push(file.to_string());
-    loop {
-        let piece = match pieces.next(sitting.clock()) {
-            Ok(Some(piece)) => piece,
-            Ok(None) => break,
-            Err(why) => {
-                let passed = counted(sums.records as usize, "record");
-                return Ok(Err(format!("'{file}' ends here: {why}; {passed} before it passed")));
-            }
-        };
+    while let Some(piece) = pieces.next(Time::START).map_err(io::Error::other)? {
         late |= sums.records == 0 && piece.event().is_some_and(|event| event.time() < clock);
         let passed = sitting.pass_piece(&piece);
         sums.take(&passed);

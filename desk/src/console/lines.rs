@@ -1,11 +1,30 @@
 //! Lines in, answers out: a person at a terminal, a script in a file, or a pipe.
 
 use crate::console::desk::{After, Desk};
-use crate::words::plain;
+use crate::words::{plain, shortened};
 use std::io::{self, BufRead, Read, Write};
 
-/// A longer line is taken in pieces of this many bytes.
-const LONGEST: u64 = 1 << 16;
+/// A line of more bytes is refused whole.
+const LONGEST: usize = 1 << 16;
+
+/// A line that was typed.
+#[derive(Clone, Debug, PartialEq, Eq)]
+pub enum Line {
+    /// All of it, without its end.
+    Whole(String),
+    /// It has more bytes than the desk takes.
+    TooLong,
+}
+
+impl Line {
+    /// From the bytes of a line without its end.
+    pub fn of(bytes: &[u8]) -> Line {
+        if bytes.len() > LONGEST {
+            return Line::TooLong;
+        }
+        Line::Whole(plain(&String::from_utf8_lossy(bytes)))
+    }
+}
 
 /// How lines are taken.
 #[derive(Clone, Copy, Debug, PartialEq, Eq)]
@@ -19,7 +38,7 @@ pub enum Manner {
 /// Where lines come from.
 pub trait Lines {
     /// The next line without its end, asked for by a prompt; nothing at the end of the input.
-    fn next(&mut self, prompt: &str, desk: &Desk, out: &mut dyn Write) -> io::Result<Option<String>>;
+    fn next(&mut self, prompt: &str, desk: &Desk, out: &mut dyn Write) -> io::Result<Option<Line>>;
 
     /// Whether somebody is there to answer a question.
     fn asked(&self) -> bool {
@@ -33,22 +52,42 @@ struct FromInput<'a> {
     manner: Manner,
 }
 
+impl FromInput<'_> {
+    /// The bytes of the next line without its end, and of one that is too long its beginning; nothing at the end of the input.
+    fn bytes(&mut self) -> io::Result<Option<Vec<u8>>> {
+        let mut bytes = Vec::new();
+        if self.input.take(LONGEST as u64 + 1).read_until(b'\n', &mut bytes)? == 0 {
+            return Ok(None);
+        }
+        if bytes.len() > LONGEST && !bytes.ends_with(b"\n") {
+            self.input.skip_until(b'\n')?;
+        } else {
+            let end = bytes.iter().rposition(|byte| !b"\r\n".contains(byte)).map_or(0, |last| last + 1);
+            bytes.truncate(end);
+        }
+        Ok(Some(bytes))
+    }
+}
+
 impl Lines for FromInput<'_> {
-    fn next(&mut self, prompt: &str, _: &Desk, out: &mut dyn Write) -> io::Result<Option<String>> {
+    fn next(&mut self, prompt: &str, _: &Desk, out: &mut dyn Write) -> io::Result<Option<Line>> {
         if self.manner == Manner::Asked {
             write!(out, "{prompt}")?;
             out.flush()?;
         }
-        let mut bytes = Vec::new();
-        if self.input.take(LONGEST).read_until(b'\n', &mut bytes)? == 0 {
+        let Some(bytes) = self.bytes()? else {
             if self.manner == Manner::Asked {
                 writeln!(out)?;
             }
             return Ok(None);
-        }
-        let line = plain(String::from_utf8_lossy(&bytes).trim_end_matches(['\n', '\r']));
+        };
+        let line = Line::of(&bytes);
         if self.manner == Manner::Shown {
-            writeln!(out, "{}", format!("{prompt}{line}").trim_end())?;
+            let shown = match &line {
+                Line::Whole(text) => text.clone(),
+                Line::TooLong => shortened(&plain(&String::from_utf8_lossy(&bytes))),
+            };
+            writeln!(out, "{}", format!("{prompt}{shown}").trim_end())?;
         }
         Ok(Some(line))
     }
@@ -78,13 +117,14 @@ pub fn talk(lines: &mut dyn Lines, out: &mut dyn Write) -> io::Result<Ended> {
     let mut desk = if asked { Desk::asking() } else { Desk::default() };
     let mut not_done = 0;
     loop {
-        let line = match lines.next("> ", &desk, out)? {
-            Some(line) => plain(&line),
+        let after = match lines.next("> ", &desk, out)? {
+            Some(Line::Whole(line)) => desk.line(&line, out)?,
+            Some(Line::TooLong) => desk.too_long(LONGEST, out)?,
             // the end of a terminal's input is a quit, which may have to be said twice
-            None if asked => "quit".to_string(),
+            None if asked => desk.line("quit", out)?,
             None => break,
         };
-        match desk.line(&line, out)? {
+        match after {
             After::Done => {}
             After::NotDone => not_done += 1,
             After::End => break,

@@ -13,6 +13,11 @@ pub fn profile(name: &str) -> Result<Vec<u8>, String> {
     read.map(|_| bytes).map_err(|error| format!("the standard input cannot be read ({error})"))
 }
 
+/// What to say of a profile that has no byte; nothing for another.
+pub fn emptiness(name: &str, text: &[u8]) -> Option<String> {
+    text.is_empty().then(|| format!("'{}' is empty, so it has no rule", shown(name)))
+}
+
 /// Records from their start, and how many bytes they have, if that is known.
 pub fn records(name: &str) -> Result<(Box<dyn Read>, Option<u64>), String> {
     if name != "-" {

@@ -62,7 +62,8 @@ impl<'a, R: BufRead> InWords<'a, R> {
         match read {
             Ok(0) => Ok(None),
             Ok(_) if bytes.len() as u64 == LONGEST => Err(format!("line {} is longer than any event", self.number)),
-            Ok(_) => Ok(Some(String::from_utf8_lossy(&bytes).trim().to_string())),
+            // some editors put a mark before a text
+            Ok(_) => Ok(Some(String::from_utf8_lossy(&bytes).trim_start_matches('\u{FEFF}').trim().to_string())),
             Err(error) => Err(format!("the day cannot be read to its end: {error}")),
         }
     }

@@ -5,6 +5,8 @@
 pub mod disk;
 pub mod given;
 pub mod in_words;
+mod kinds;
 pub mod moving;
 pub mod opened;
 pub mod progress;
+pub mod whole;

@@ -1,6 +1,7 @@
 //! A file of a day opened: its records, or the day in words.
 
-use crate::files::in_words::{self, InWords};
+use crate::files::in_words::InWords;
+use crate::files::kinds::{self, Kind};
 use crate::library::form::Form;
 use crate::profile::Profile;
 use crate::records::source::{Records, Source};
@@ -16,16 +17,20 @@ pub struct Opened<'a> {
     pub remark: Option<String>,
 }
 
-/// The pieces of a file: in words if its first line says so, else records of a form, whose number of bytes, where it is known, must not be that of the other.
+/// The pieces of a file: a day in words, or records of a form, whose number of bytes, where it is known, must not be that of the other. What is neither is
+/// told before a piece of it is read.
 pub fn of_file<'a>(mut from: impl Read + 'a, bytes: Option<u64>, form: Form, profile: &'a Profile) -> Result<Opened<'a>, String> {
     let mut beginning = Vec::new();
-    let read = from.by_ref().take(in_words::HEAD.len() as u64).read_to_end(&mut beginning);
+    let read = from.by_ref().take(kinds::LOOKED_AT).read_to_end(&mut beginning);
     read.map_err(|error| format!("it cannot be read: {error}"))?;
-    let are_words = beginning == in_words::HEAD.as_bytes();
+    let kind = kinds::of(&beginning, form);
     let whole = io::Cursor::new(beginning).chain(from);
-    if are_words {
-        return Ok(Opened { pieces: Box::new(InWords::new(BufReader::new(whole), profile)), are_words, remark: None });
+    match kind {
+        Kind::NoDay(why) => Err(why.to_string()),
+        Kind::Words => Ok(Opened { pieces: Box::new(InWords::new(BufReader::new(whole), profile)), are_words: true, remark: None }),
+        Kind::Records => {
+            let remark = bytes.map_or(Ok(None), |bytes| form.fits(bytes))?;
+            Ok(Opened { pieces: Box::new(Records::new(whole, form)), are_words: false, remark })
+        }
     }
-    let remark = bytes.map_or(Ok(None), |bytes| form.fits(bytes))?;
-    Ok(Opened { pieces: Box::new(Records::new(whole, form)), are_words, remark })
 }

@@ -4,6 +4,7 @@ use crate::files::disk;
 use crate::files::given;
 use crate::files::opened;
 use crate::files::progress::Progress;
+use crate::files::whole;
 use crate::library::form::Form;
 use crate::library::state::State;
 use crate::profile::Profile;
@@ -36,6 +37,9 @@ pub fn of_name(file: &str, profile: &Profile, day: &Day, made: &Made) -> String 
 /// Reports a day of files, reading each record once; answers what to say of it.
 pub fn of_files(profile_file: &str, (records_file, form): (&str, Form), to: &str, stretch: Option<(u64, u64)>) -> Result<String, String> {
     let text = given::profile(profile_file)?;
+    if let Some(remark) = given::emptiness(profile_file, &text) {
+        return Err(remark);
+    }
     let armed = State::armed(&text);
     armed.map_err(|refused| format!("'{profile_file}' is refused: {}; desk check {profile_file} says more", refused))?;
     disk::may_report(to)?;
@@ -47,6 +51,10 @@ pub fn of_files(profile_file: &str, (records_file, form): (&str, Form), to: &str
         let mut opened = opened.map_err(|why| format!("'{records_file}' is left alone, since {why}"))?;
         let mut progress = Progress::of(bytes.filter(|_| !opened.are_words).map(|bytes| bytes.div_ceil(form.size() as u64)));
         let day = Day::replayed(&profile, &mut *opened.pieces, stretch, &mut progress).map_err(|why| format!("'{records_file}': {why}"))?;
+        if !opened.are_words {
+            let good = day.sums.records - day.sums.faulty;
+            whole::is_day(day.sums.records, good).map_err(|why| format!("'{records_file}' is left alone, since {why}"))?;
+        }
         (day, opened.remark)
     };
     if day.sums.records == 0 {

@@ -1,10 +1,10 @@
 //! What the page's desk keeps of a day: it can be replayed from a file, gone back and forth in, saved and reported.
 
 use crate::files::in_words;
-use crate::files::opened::{self, Opened};
+use crate::files::opened;
 use crate::files::progress::Progress;
+use crate::files::whole::Whole;
 use crate::library::form::Form;
-use crate::library::piece::Piece;
 use crate::library::state::State;
 use crate::records::source::Source;
 use crate::replay::day::Day;
@@ -16,16 +16,19 @@ use mbrumzheg::Time;
 use std::io::Read;
 
 impl Bench {
-    /// Passes every record of a file, or every event of a day in words; nothing where one of its lines cannot be read.
+    /// Passes every record of a file, or every event of a day in words; nothing where one of them cannot be read.
     pub fn replay(&mut self, name: &str, bytes: &[u8], form: Form) -> Result<String, String> {
-        let (pieces, remark) = read(self.armed()?, bytes, form).map_err(|why| format!("{name} is left alone, since {why}"))?;
-        self.has_room(pieces.len())?;
+        let (whole, remark) = read(self.armed()?, bytes, form).map_err(|why| format!("{name} is left alone, since {why}"))?;
+        self.has_room(whole.count())?;
+        let mut pieces = whole.pieces()?;
         self.give_up_undone();
         self.files.push((self.place() + 1, name.to_string()));
-        pieces.iter().for_each(|piece| drop(self.pass(piece, false)));
+        while let Some(piece) = pieces.next(Time::START)? {
+            self.pass(&piece, false);
+        }
         self.name_files();
         let remark = remark.map_or_else(String::new, |remark| format!("; {remark}"));
-        Ok(format!("replayed {} of {name}{remark}", counted(pieces.len(), "record")))
+        Ok(format!("replayed {} of {name}{remark}", counted(whole.count(), "record")))
     }
 
     /// Goes to the day as it was after so many events, back or forth, by a replay on a fresh state.
@@ -99,15 +102,9 @@ impl Bench {
     }
 }
 
-/// The pieces of a file, each read at the clock that those before it leave, on a copy of the state; and what its length says of the last.
-fn read(sitting: &Sitting, bytes: &[u8], form: Form) -> Result<(Vec<Piece>, Option<String>), String> {
-    let Opened { pieces: mut from, remark, .. } = opened::of_file(bytes, Some(bytes.len() as u64), form, &sitting.profile)?;
-    let (mut state, mut account) = (sitting.state().copied().ok_or("the unit cannot be copied")?, sitting.account.clone());
-    let mut pieces = Vec::new();
-    while let Some(piece) = from.next(state.clock())? {
-        // what is refused leaves the clock as it is
-        let _ = piece.event().map(|event| state.answer(&mut account, event));
-        pieces.push(piece);
-    }
-    Ok((pieces, remark))
+/// A file read to its end on a copy of the state; and what its length says of the last record.
+fn read(sitting: &Sitting, bytes: &[u8], form: Form) -> Result<(Whole, Option<String>), String> {
+    let mut opened = opened::of_file(bytes, Some(bytes.len() as u64), form, &sitting.profile)?;
+    let whole = Whole::read(&mut opened, sitting.state().copied(), sitting.account.clone())?;
+    Ok((whole, opened.remark))
 }

@@ -8,8 +8,12 @@ use crate::words::json::{self, object, text};
 
 const PAGE: &str = include_str!("page/page.html");
 const STYLE: &str = include_str!("page/page.css");
-const SCRIPTS: [(&str, &str); 3] =
-    [("desk.js", include_str!("page/desk.js")), ("draw.js", include_str!("page/draw.js")), ("forms.js", include_str!("page/forms.js"))];
+const SCRIPTS: [(&str, &str); 4] = [
+    ("desk.js", include_str!("page/desk.js")),
+    ("draw.js", include_str!("page/draw.js")),
+    ("forms.js", include_str!("page/forms.js")),
+    ("keys.js", include_str!("page/keys.js")),
+];
 
 /// The page runs its own scripts and styles and fetches nothing from elsewhere; nothing may frame it.
 const OF_PAGE: &str =

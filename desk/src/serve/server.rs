@@ -1,6 +1,7 @@
 //! The server: takes requests at the loopback address, a few at a time, and answers each.
 
 use crate::files::disk;
+use crate::files::given;
 use crate::serve::bench::Bench;
 use crate::serve::guard::Guard;
 use crate::serve::http::{self, Trouble};
@@ -27,7 +28,12 @@ struct Shared {
 pub fn serve(profile: Option<&str>, out: &mut dyn Write) -> io::Result<Result<(), String>> {
     let bench = match profile.map(|name| disk::profile(name).map(|text| (name, text))) {
         Some(Err(advice)) => return Ok(Err(advice)),
-        Some(Ok((name, text))) => Bench::with_profile(name, text),
+        Some(Ok((name, text))) => {
+            if let Some(remark) = given::emptiness(name, &text) {
+                writeln!(io::stderr(), "desk: {remark}; the page takes one")?;
+            }
+            Bench::with_profile(name, text)
+        }
         None => Bench::default(),
     };
     // the loopback address alone, and a port that the system has free

@@ -1,8 +1,7 @@
 //! A typed line as a command, or as a sentence that says what to type.
 
 use crate::library::form::Form;
-use crate::typed::topics::COMMANDS;
-use crate::words::{nearest, shortened};
+use crate::typed::meant::no_command;
 
 /// A file to write.
 #[derive(Clone, Debug, PartialEq, Eq)]
@@ -76,6 +75,8 @@ pub enum Command {
     Status,
     /// Forget everything.
     Clear,
+    /// Take back the last line or replay that passed events.
+    Undo,
     /// Write the day to a file, as records or in words.
     Save {
         /// The file.
@@ -139,6 +140,7 @@ pub fn read(line: &str) -> Result<Command, String> {
         "account" => kept(rest, "account").map(|kept| Command::Account(Some(kept))),
         "status" => alone(rest, "status", Command::Status),
         "clear" => alone(rest, "clear", Command::Clear),
+        "undo" => alone(rest, "undo", Command::Undo),
         "save" => save(rest),
         "replay" => replay(rest),
         "widen" => moved(rest, Move::Widen),
@@ -146,7 +148,7 @@ pub fn read(line: &str) -> Result<Command, String> {
         "report" => report(rest),
         "help" | "?" => Ok(Command::Help(Some(rest.to_string()).filter(|name| !name.is_empty()))),
         "quit" | "exit" => alone(rest, "quit", Command::Quit),
-        _ => Err(format!("'{}' is no command; type help for the list{}", shortened(name), meant(name))),
+        _ => Err(no_command(name)),
     }
 }
 
@@ -211,10 +213,4 @@ fn report(rest: &str) -> Result<Command, String> {
     };
     let stretch = stretch.map(|(from, to)| (from.to_string(), to.to_string()));
     Ok(Command::Report { file: file(name.trim(), form)?, stretch })
-}
-
-/// A hint for a word that is near a command.
-fn meant(name: &str) -> String {
-    let names: Vec<&str> = COMMANDS.iter().map(|topic| topic.name).collect();
-    nearest(name, &names).map_or_else(String::new, |known| format!(" (did you mean {known}?)"))
 }

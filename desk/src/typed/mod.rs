@@ -7,6 +7,7 @@ mod away;
 pub mod command;
 pub mod complete;
 pub mod help;
+mod meant;
 pub mod names;
 pub mod shown;
 pub mod spoken;

@@ -30,7 +30,7 @@ pub const LOCK_FORM: &str = "lock [TIME] ROOT|firm";
 pub const REMAINING_FORM: &str = "remaining [TIME] [firm|ROOT|rule NUMBER] [call|put front|trailing]";
 
 /// The commands, in the order of the list.
-pub const COMMANDS: [Topic; 20] = [
+pub const COMMANDS: [Topic; 21] = [
     Topic {
         name: "arm",
         form: "arm FILE",
@@ -149,9 +149,17 @@ pub const COMMANDS: [Topic; 20] = [
         name: "replay",
         form: "replay FILE [old] [quiet]",
         short: "pass the day in FILE; quiet shows no plain pass",
-        long: "Passes every record of a file, or every event of a day that was saved in words, each with its answer. With old its records are \
-               read in the old form, of 12 bytes. With quiet only cuts, trips, rejections, resets and refusals are shown.",
+        long: "Passes every record of a file, or every event of a day in words, each with its answer. If a line of words cannot be read, or \
+               the file is no day, nothing of it is passed and the place is said. With old its records are read in the old form, of 12 bytes. With quiet only cuts, trips, rejections, resets and refusals are shown.",
         examples: &["replay day.records", "replay day.records quiet", "replay last-year.records old"],
+    },
+    Topic {
+        name: "undo",
+        form: "undo",
+        short: "take back the last line or replay that passed events",
+        long: "Takes back the last offer, order, lockout or other event that was typed, one that was refused too, or all of the last replay: \
+               the day before it is replayed on a fresh unit. It can be typed again, back to the day's begin; clear cannot be taken back.",
+        examples: &["undo"],
     },
     Topic {
         name: "widen",

@@ -78,32 +78,72 @@ pub fn reset(reset: Reset) -> String {
     }
 }
 
+/// A number of contracts at a premium, for an answer that repeats what was asked for.
+pub fn at_premium(contracts: Contracts, of: Premium) -> String {
+    format!("{} at ${}", grouped(contracts.count()), premium(of))
+}
+
 /// Reads a premium in dollars, with at most four places after the point.
 pub fn read_premium(word: &str) -> Result<Premium, String> {
     let number = word.strip_prefix('$').unwrap_or(word);
     read_decimal(number, 4)
         .and_then(|n| Premium::from_ten_thousandths(n).ok())
-        .ok_or_else(|| format!("'{word}' is no premium; type dollars from 0.0001 to 10000, like 7.00"))
+        .ok_or_else(|| format!("'{word}' is no premium; type dollars from 0.0001 to 10000, like 7.00{}", on_commas(word)))
 }
 
 /// Reads a number of contracts.
 pub fn read_contracts(word: &str) -> Result<Contracts, String> {
     read_decimal(word, 0)
         .and_then(|n| Contracts::new(n).ok())
-        .ok_or_else(|| format!("'{word}' is no number of contracts; type 1 to 1000000"))
+        .ok_or_else(|| format!("'{word}' is no number of contracts; type 1 to 1000000{}", on_commas(word)))
 }
 
-/// Digits, commas between them allowed, with at most so many after a point, as a number of the last place.
+/// What a comma may stand for, where a word that cannot be read has one.
+pub fn on_commas(word: &str) -> &'static str {
+    if word.contains(',') {
+        "; a comma stands between thousands alone, like 1,000"
+    } else {
+        ""
+    }
+}
+
+/// Digits, with commas between thousands or none, and at most so many after a point, as a number of the last place.
 pub fn read_decimal(word: &str, places: u32) -> Option<u64> {
     let (whole, part) = word.split_once('.').unwrap_or((word, ""));
-    let well_placed = |text: &str| text.bytes().all(|b| b.is_ascii_digit() || b == b',');
-    if whole.is_empty() || !whole.starts_with(|c: char| c.is_ascii_digit()) || !well_placed(whole) {
+    if part.len() > places as usize || !are_digits(part) || word.ends_with('.') {
         return None;
     }
-    if part.len() > places as usize || !part.bytes().all(|b| b.is_ascii_digit()) || word.ends_with('.') {
-        return None;
-    }
-    let digits: String = whole.chars().filter(|c| *c != ',').chain(part.chars()).collect();
+    let digits: String = without_commas(whole)?.chars().chain(part.chars()).collect();
     let missing = places - part.len() as u32;
     digits.parse::<u64>().ok()?.checked_mul(10u64.pow(missing))
+}
+
+fn are_digits(text: &str) -> bool {
+    text.bytes().all(|byte| byte.is_ascii_digit())
+}
+
+/// A whole number's digits; none where there are none, or where its commas are not those that part thousands.
+fn without_commas(whole: &str) -> Option<String> {
+    let (first, thousands) = whole.split_once(',').map_or((whole, None), |(first, rest)| (first, Some(rest)));
+    let is_parted = thousands.is_none_or(|rest| {
+        (1..=3).contains(&first.len()) && !first.starts_with('0') && rest.split(',').all(|group| group.len() == 3 && are_digits(group))
+    });
+    let is_number = !first.is_empty() && are_digits(first) && is_parted;
+    is_number.then(|| whole.replace(',', ""))
+}
+
+#[cfg(test)]
+mod tests {
+    use super::{grouped, read_decimal};
+
+    #[test]
+    fn a_comma_is_read_between_thousands_alone() {
+        for n in [0, 7, 999, 1_000, 12_345, 999_999, 1_000_000, 1_234_567_890] {
+            assert_eq!((read_decimal(&grouped(n), 0), read_decimal(&n.to_string(), 0)), (Some(n), Some(n)));
+        }
+        assert_eq!((read_decimal("12,345.50", 4), read_decimal("007", 0)), (Some(123_455_000), Some(7)));
+        for word in ["7,00", "1,5", "1,00,0", ",5", ",500", "1,", "1,0000", "1000,000", "1,000,", "1,,000", "0,500", "1,000.0,0", "", "."] {
+            assert_eq!((read_decimal(word, 0), read_decimal(word, 4)), (None, None), "{word}");
+        }
+    }
 }

@@ -1,6 +1,6 @@
 //! Times of the day and stretches of it, as people type and read them.
 
-use crate::words::amounts::{grouped, read_decimal};
+use crate::words::amounts::{grouped, on_commas, read_decimal};
 use mbrumzheg::Time;
 
 /// A stretch of milliseconds in the largest unit that says it whole.
@@ -28,7 +28,7 @@ pub const TIME_FORMS: &str = "a time like 10ms, 250us, 2.5s, 09:30, 09:30:00.250
 
 /// Reads a time: from midnight, of the clock's face, or from a state's clock.
 pub fn read_time(word: &str, clock: Time) -> Result<Time, String> {
-    let wrong = || format!("'{word}' is no time; type {TIME_FORMS}");
+    let wrong = || format!("'{word}' is no time; type {TIME_FORMS}{}", on_commas(word));
     let us = match word.strip_prefix('+') {
         Some(after) => clock.us().checked_add(read_span(after).ok_or_else(wrong)?).ok_or_else(wrong)?,
         None if word.eq_ignore_ascii_case("now") => clock.us(),

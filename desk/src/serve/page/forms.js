@@ -1,5 +1,6 @@
 // What buttons and keys do: each makes the line that would be typed at the desk.
 import { arm, back, bringBack, choose, clear, earlier, edited, forth, go, line, redraw, refresh, replay } from "./desk.js";
+import { afterEnter, wireKeys } from "./keys.js";
 
 const $ = (id) => document.getElementById(id);
 const EXAMPLE = "ABCD,rate_vol,XYZ,500,1000\nABCD,abs_ntnl,XYZ,20000\nABCD,rate_count,QQQ,10,60000,,P,F\nABCD,abs_vol,,50000,,T\n";
@@ -48,19 +49,9 @@ const KEYS = {
   o: offer, r: () => order(""), 1: () => order("symbol"), 2: () => order("firm"), 3: () => order("both"),
   4: () => order("t"), 5: () => order("e"), 6: () => order("te"),
   a: away, b: cameBack, x: closeOrder,
-  l: () => lock("root"), f: () => lock("firm"), u: () => back(), y: () => forth(),
+  l: () => afterEnter(`root ${$("root").value}`, () => lock("root")), f: () => afterEnter("the firm", () => lock("firm")), u: () => back(), y: () => forth(),
   t: focus("time"), c: focus("contracts"), "/": focus("line"), s: follow("save"), g: follow("report"),
 };
-
-function key(event) {
-  const writing = event.target.closest("input:not([type=radio]), textarea, select");
-  if (event.key === "Escape" && writing) writing.blur();
-  if (writing || event.ctrlKey || event.metaKey || event.altKey || $("work").hidden) return;
-  const act = KEYS[event.key];
-  if (!act) return;
-  event.preventDefault();
-  act();
-}
 
 const on = (id, kind, act) => $(id).addEventListener(kind, act);
 const each = (selector, act) => document.querySelectorAll(selector).forEach((own) => own.addEventListener("click", () => act(own)));
@@ -117,5 +108,5 @@ export function wire() {
   each("[data-time]", (own) => ($("time").value = own.dataset.time));
   each("[data-reset]", (own) => order(own.dataset.reset));
   each("[data-lock]", (own) => lock(own.dataset.lock));
-  document.addEventListener("keydown", key);
+  wireKeys(KEYS);
 }
