@@ -2,6 +2,7 @@
 
 use std::fs;
 use std::path::Path;
+use std::process::Command;
 
 use native::counts::{beyond, is_there};
 use native::lines::readings::LONG;
@@ -12,7 +13,9 @@ const FEW: u64 = LONG / 2;
 #[test]
 fn the_log_is_read_up_to_the_first_entry_outside_the_window() {
     if !is_there() {
-        println!("skipped: how far the log is read, since there is no valgrind to count instructions with");
+        let say = concat!(env!("CARGO_MANIFEST_DIR"), "/../tools/skipped");
+        let words = "how far the log is read, since there is no valgrind to count instructions with";
+        assert!(Command::new(say).arg(words).status().expect("the gate's tool").success());
         return;
     }
     let folder = std::env::temp_dir().join(format!("mbrumzheg-counts-{}", std::process::id()));
