@@ -301,7 +301,7 @@ module _ (Given : Profile → Type 0) where
           cleared true = i
           cleared false = i
 
-  -- WHATEVER IS DONE FOR A FIRM LEAVES A SOUND UNIT SOUND
+  -- WHATEVER IS DONE FOR A FIRM LEAVES A SOUND STATE SOUND
   pub doing-sound : (firm : Bool) (u : Seats) → SoundSeats Given u → (doing : Doing) → GivenBy doing → SoundSeats Given (afterDoing firm u doing)
   doing-sound firm u i doing given =
       sound-facing firm (afterFirst (facing firm u) doing) (first-sound (facing firm u) (sound-facing firm u i) doing given)

@@ -101,12 +101,12 @@ module _ (xs : List ℕ) (firm : ℕ) (free : armRefusal xs firm ≡ 0) where
     unfolding armMemory
     left-stored = rw (free, ok)
 
-    -- ARMING LEAVES A SOUND UNIT
+    -- ARMING LEAVES A SOUND STATE
     pub arm-kept : isSoundMemory (armMemory xs firm text) ≡ true
     unfolding storedSeats encodeSeats
     arm-kept = ap isSoundMemory left-stored ∙ stored-sound left (left-sound .first) (left-sound .second) (drop stateSize xs) left-sound left-some
 
-    -- THE MEMORY FOLLOWS THE UNIT'S MEANING, and what is past it stays
+    -- THE MEMORY FOLLOWS THE STATE'S MEANING, and what is past it stays
     pub arm-follows : decodeSeats (armMemory xs firm text) ≡ left
     unfolding storedSeats encodeSeats
     arm-follows = ap decodeSeats left-stored ∙ all-again left (left-sound .first) (left-sound .second) (drop stateSize xs)
