@@ -17,7 +17,7 @@ fn is_short_of(m: &[u64], time: u64, places: u64) -> bool
     requires { Laid m.now × (are_ordered 0 time (decode m.now).log ≡ true) × (places ≤ 512) }
     ensures { result ≡ is_short_of (decode m.now) time places }
 {
-    !state::uses_less(m, time, log::PLACES as u64 + 1 - places)
+    !state::uses_less(m, time, daylog::PLACES as u64 + 1 - places)
 }
 
 // Whether an order to be sent away is not locked out, and finds fewer places free than it has reports.
@@ -36,7 +36,7 @@ fn is_full(m: &[u64], inside: Inside) -> bool
 {
     let read = inside.read;
     let kept = register::kept(&m[state::REGISTER..state::LOG]);
-    (0 < inside.window) & (log::PLACES as u64 <= read.passed as u64 + kept)
+    (0 < inside.window) & (daylog::PLACES as u64 <= read.passed as u64 + kept)
 }
 
 // An offer that is neither refused by its numbers nor locked out: the log may be full, else it is granted what every rule in force allows.

@@ -60,7 +60,7 @@ pub fn clear(m: &mut [u64]) -> Clearing
     if m.len() < state::SIZE {
         return Clearing::Refused(1);
     }
-    log::blank(&mut m[..state::SIZE]);
+    daylog::blank(&mut m[..state::SIZE]);
     Clearing::Done
 }
 

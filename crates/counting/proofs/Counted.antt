@@ -17,9 +17,9 @@ use Rattle.machine.specs.declared.Entry.{Entry}
 use Rattle.machine.specs.Entries.{entry_share}
 use Rattle.machine.specs.Offers.{counted}
 use Rattle.machine.specs.Remaining.{left_of}
-use Rattle.log.specs.Inner.Sieve.{sieve_of}
-use Rattle.log.specs.Inner.Memo.{recalled_of}
-use Rattle.log.specs.declared.Two.{Two}
+use Rattle.daylog.specs.Inner.Sieve.{sieve_of}
+use Rattle.daylog.specs.Inner.Memo.{recalled_of}
+use Rattle.daylog.specs.declared.Two.{Two}
 use Rattle.state.specs.State.{decode}
 use Rattle.state.specs.Inner.Laid.{Laid, account_in}
 use Rattle.state.proofs.Laid.{laid-measured}

@@ -7,12 +7,12 @@ ghost use Rattle.machine.specs.Offers.{counted};
 ghost use Rattle.rules.specs.Units.{is_unit_of};
 ghost use Rattle.machine.specs.State.{rules_in};
 ghost use Rattle.machine.specs.Remaining.{rule_numbered, account_for, left_of};
-ghost use Rattle.log.specs.Inner.Memo.{memo_sum, RightTwo};
+ghost use Rattle.daylog.specs.Inner.Memo.{memo_sum, RightTwo};
 ghost use Rattle.state.specs.State.{decode};
 ghost use Rattle.state.specs.Inner.Laid.{Laid, account_in};
 ghost use Rattle.counting.specs.Inner.Counting.{IsLogged, memos_after};
 
-use log::Two;
+use daylog::Two;
 use rules::{Amount, Kind, Rule};
 
 // What the log counts for a rule at a time, as far as the rule asks for it: an absolute rule does not.
@@ -22,7 +22,7 @@ fn logged(m: &[u64], rule: Rule, time: u64) -> Amount
 {
     let kind = rule.kind;
     match kind {
-        Kind::Rate(_) => log::counted(&m[state::LOG..state::SIZE], rule, time),
+        Kind::Rate(_) => daylog::counted(&m[state::LOG..state::SIZE], rule, time),
         Kind::Absolute => {
             let limit = rule.limit;
             limit.amount(0)
@@ -37,7 +37,7 @@ fn memos_for(m: &[u64], rule: Rule, time: u64, memos: Two) -> Two
 {
     let kind = rule.kind;
     match kind {
-        Kind::Rate(_) => log::recalled(&m[state::LOG..state::SIZE], rule, time, memos),
+        Kind::Rate(_) => daylog::recalled(&m[state::LOG..state::SIZE], rule, time, memos),
         Kind::Absolute => memos,
     }
 }
@@ -58,7 +58,7 @@ pub fn counted_by(m: &[u64], i: usize, rule: Rule, time: u64, memos: Two) -> Tol
     let total = state::total_in(m, i, limit);
     let next = memos_for(m, rule, time, memos);
     let last = next.last;
-    let amount = rule.counted(total, log::sum_in(limit, last));
+    let amount = rule.counted(total, daylog::sum_in(limit, last));
     Told {
         amount,
         memos: next,

@@ -2,26 +2,26 @@
 use mathlib.Core.Path.{refl}
 use Rattle.determined.specs.Determines.{Determines}
 use Rattle.laws.proofs.One.{alike}
-use Rattle.log.proofs.is_log.Kinds as is-log-kinds
-use Rattle.log.proofs.is_log.Reads as is-log-reads
-use Rattle.log.proofs.counted.Kinds as counted-kinds
-use Rattle.log.proofs.counted.Reads as counted-reads
-use Rattle.log.proofs.unflag.Kinds as unflag-kinds
-use Rattle.log.proofs.unflag.Reads as unflag-reads
-use Rattle.log.proofs.recent_entries.Kinds as recent-entries-kinds
-use Rattle.log.proofs.recent_entries.Reads as recent-entries-reads
-use Rattle.log.proofs.blank.Kinds as blank-kinds
-use Rattle.log.proofs.blank.Reads as blank-reads
-use Rattle.log.proofs.join.Kinds as join-kinds
-use Rattle.log.proofs.join.Reads as join-reads
-use Rattle.log.proofs.memos_of.Kinds as memos-of-kinds
-use Rattle.log.proofs.memos_of.Reads as memos-of-reads
-use Rattle.log.proofs.read_window.Kinds as read-window-kinds
-use Rattle.log.proofs.read_window.Reads as read-window-reads
-use Rattle.log.proofs.sum_in.Kinds as sum-in-kinds
-use Rattle.log.proofs.sum_in.Reads as sum-in-reads
-use Rattle.log.proofs.recalled.Kinds as recalled-kinds
-use Rattle.log.proofs.recalled.Reads as recalled-reads
+use Rattle.daylog.proofs.is_log.Kinds as is-log-kinds
+use Rattle.daylog.proofs.is_log.Reads as is-log-reads
+use Rattle.daylog.proofs.counted.Kinds as counted-kinds
+use Rattle.daylog.proofs.counted.Reads as counted-reads
+use Rattle.daylog.proofs.unflag.Kinds as unflag-kinds
+use Rattle.daylog.proofs.unflag.Reads as unflag-reads
+use Rattle.daylog.proofs.recent_entries.Kinds as recent-entries-kinds
+use Rattle.daylog.proofs.recent_entries.Reads as recent-entries-reads
+use Rattle.daylog.proofs.blank.Kinds as blank-kinds
+use Rattle.daylog.proofs.blank.Reads as blank-reads
+use Rattle.daylog.proofs.join.Kinds as join-kinds
+use Rattle.daylog.proofs.join.Reads as join-reads
+use Rattle.daylog.proofs.memos_of.Kinds as memos-of-kinds
+use Rattle.daylog.proofs.memos_of.Reads as memos-of-reads
+use Rattle.daylog.proofs.read_window.Kinds as read-window-kinds
+use Rattle.daylog.proofs.read_window.Reads as read-window-reads
+use Rattle.daylog.proofs.sum_in.Kinds as sum-in-kinds
+use Rattle.daylog.proofs.sum_in.Reads as sum-in-reads
+use Rattle.daylog.proofs.recalled.Kinds as recalled-kinds
+use Rattle.daylog.proofs.recalled.Reads as recalled-reads
 
 pub is-log : Determines 1 is-log-kinds.ps is-log-kinds.r is-log-reads.Asked is-log-reads.Learnt
 is-log κs args asked x y u v p q = (alike p q, refl)

@@ -17,10 +17,10 @@ use Rattle.packing.proofs.EntryPlace.{entry-valid}
 use Rattle.state.specs.Inner.Laid.{Laid, Fits, with_log}
 use Rattle.machine.specs.declared.Offer.{Offer}
 use Rattle.machine.proofs.Lists.{every-keep, every-join, keep-le}
-use Rattle.log.specs.Inner.Log.{last_of}
-use Rattle.log.specs.Inner.Memo.{IsRead}
-use Rattle.log.specs.Inner.Reading.{window_reading}
-use Rattle.log.proofs.Leaving.{window-read, recent-last}
+use Rattle.daylog.specs.Inner.Log.{last_of}
+use Rattle.daylog.specs.Inner.Memo.{IsRead}
+use Rattle.daylog.specs.Inner.Reading.{window_reading}
+use Rattle.daylog.proofs.Leaving.{window-read, recent-last}
 use Rattle.state.specs.State.{decode}
 use Rattle.state.proofs.Laid.{laid-held, laid-entries}
 use Rattle.machine.specs.declared.Entry.{Entry}

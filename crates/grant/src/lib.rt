@@ -4,7 +4,7 @@ ghost use Rattle.measures.specs.Ranges.{offers};
 ghost use Rattle.rules.specs.Rules.{level_of};
 ghost use Rattle.rules.specs.declared.Level.TheVariants.{Firm};
 ghost use Rattle.machine.specs.Offers.{same_level, joined_log, covers_offer};
-ghost use Rattle.log.specs.Inner.Memo.{IsRead, RightTwo};
+ghost use Rattle.daylog.specs.Inner.Memo.{IsRead, RightTwo};
 ghost use Rattle.machine.specs.Entries.{are_ordered};
 ghost use Rattle.machine.specs.State.{rules_in};
 ghost use Rattle.machine.specs.Remaining.{first_cell};
@@ -16,7 +16,7 @@ ghost use Rattle.grant.specs.Inner.Grant.{inside_of, Fillable, faced_by, Lowered
 mod crediting;
 
 use crediting::credit;
-use log::{Reading, Two};
+use daylog::{Reading, Two};
 use machine::{Entry, Offer};
 use measures::{Contracts, TenThousandths};
 use rules::{Rule, Scope};
@@ -55,7 +55,7 @@ pub fn inside_at(m: &[u64], time: u64) -> Inside
     ensures { result ≡ inside_of (decode m.now) time }
 {
     let window = state::longest_window(m);
-    let read = log::read_window(&m[state::LOG..state::SIZE], window, time);
+    let read = daylog::read_window(&m[state::LOG..state::SIZE], window, time);
     Inside { window, read }
 }
 
@@ -130,7 +130,7 @@ pub fn cuts_of(m: &[u64], o: Offer, read: Reading) -> Cuts
         root: o.contracts,
         firm: o.contracts,
     };
-    let mut memos = log::memos_of(read);
+    let mut memos = daylog::memos_of(read);
     let mut place: usize = 0;
     let mut i: usize = 0;
     while i < rules {
@@ -161,7 +161,7 @@ fn join_log(m: &mut [u64], o: Offer, grant: u64, inside: Inside)
         forfirm: true,
     };
     let read = inside.read;
-    log::join(&mut m[state::LOG..state::SIZE], read.passed, e);
+    daylog::join(&mut m[state::LOG..state::SIZE], read.passed, e);
 }
 
 // The clock and the trips.

@@ -13,7 +13,7 @@ use Rattle.machine.specs.Locks.{lifted, locked_out}
 use Rattle.machine.specs.Order.{unflagged_log, level_named, wiped}
 use Rattle.machine.specs.Step.{accounts_after, locks_after, log_after, part_after, after}
 use Rattle.machine.proofs.Effects.{totals-stay, log-stays}
-use Rattle.log.specs.Inner.Log.{entries_in, log_numbers}
+use Rattle.daylog.specs.Inner.Log.{entries_in, log_numbers}
 use Rattle.state.specs.State.{locks_numbers, stored, decode}
 use Rattle.state.specs.Inner.Laid.{Laid, with_clock, with_locks, with_accounts, with_log}
 use Rattle.state.specs.Inner.Tests.{locks_part, log_part, put_locks, put_log}

@@ -99,5 +99,5 @@ pub fn reset_state(m: &mut [u64], time: u64, root: u64, reset: u64)
         return;
     }
     wipe(m, root, effect);
-    log::unflag(&mut m[state::LOG..state::SIZE], root, effect);
+    daylog::unflag(&mut m[state::LOG..state::SIZE], root, effect);
 }

@@ -12,7 +12,7 @@ use Rattle.machine.specs.State.{State, rules_in}
 use Rattle.machine.specs.Entries.{are_ordered, recent, is_recent}
 use Rattle.machine.specs.Offers.{longest}
 use Rattle.machine.proofs.Lists.{keep-le}
-use Rattle.log.specs.Inner.Log.{HeldIn, entries_in, log_numbers, last_of}
+use Rattle.daylog.specs.Inner.Log.{HeldIn, entries_in, log_numbers, last_of}
 use Rattle.state.specs.State.{size, encode, stored, decode}
 use Rattle.state.specs.Sound.{is_sound}
 use Rattle.state.specs.Inner.Laid.{Laid, with_log}

@@ -47,5 +47,5 @@ pub(crate) fn clean(s: &mut [u64])
     if s[state::MARK] != 0 {
         return;
     }
-    log::blank(s);
+    daylog::blank(s);
 }

@@ -44,7 +44,7 @@ fn fit_together(a: &[u64], b: &[u64]) -> bool
     let names = a[state::FIRM] != b[state::FIRM];
     let entries = state::entries_in(a) + state::entries_in(b);
     let used = state::used_at(a, state::clock_in(a)) + state::used_at(b, state::clock_in(b));
-    names & (entries <= log::PLACES) & (used <= 512)
+    names & (entries <= daylog::PLACES) & (used <= 512)
 }
 
 // Whether the memory holds a sound state.
@@ -310,7 +310,7 @@ pub fn clear_firm(m: &mut [u64], firm: u64) -> Clearing
     }
     let at = firm as usize * state::SIZE;
     let end = at + state::SIZE;
-    log::blank(&mut m[at..end]);
+    daylog::blank(&mut m[at..end]);
     Clearing::Done
 }
 
@@ -322,6 +322,6 @@ pub fn clear(m: &mut [u64]) -> Clearing
     if m.len() < SIZE {
         return Clearing::Refused(1);
     }
-    log::blank(&mut m[..SIZE]);
+    daylog::blank(&mut m[..SIZE]);
     Clearing::Done
 }

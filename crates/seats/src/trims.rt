@@ -1,6 +1,6 @@
 // Old entries leave a firm's log by its own window and clock.
 ghost use Rattle.std.specs.Prelude.{◌≡◌, true, ◌≤◌, length};
-ghost use Rattle.log.specs.Inner.Log.{HeldLog, HeldIn, entries_of, entries_in, log_numbers, last_of, moved_log, Left};
+ghost use Rattle.daylog.specs.Inner.Log.{HeldLog, HeldIn, entries_of, entries_in, log_numbers, last_of, moved_log, Left};
 ghost use Rattle.state.specs.State.{stored, decode};
 ghost use Rattle.state.specs.Sound.{is_sound};
 ghost use Rattle.state.specs.State.{size};
@@ -28,7 +28,7 @@ fn keep_places(log: &mut [u64], k: usize, left: usize)
     keep(log, k, left);
     let from = left * 2;
     let end = k * 2;
-    log::blank(&mut log[from..end]);
+    daylog::blank(&mut log[from..end]);
 }
 
 // Of the entries of the log's table the last ones stay.
@@ -37,7 +37,7 @@ fn keep_last(log: &mut [u64], left: usize)
     ensures { log.new ≡ log_numbers (last_of left (entries_in log.old)) }
 {
     let k = log[0] as usize;
-    keep_places(&mut log[1..log::SIZE], k, left);
+    keep_places(&mut log[1..daylog::SIZE], k, left);
     log[0] = left as u64;
 }
 
@@ -48,7 +48,7 @@ fn trim(s: &mut [u64])
 {
     let window = state::longest_window(s);
     let time = state::clock_in(s);
-    let inside = log::recent_entries(&s[state::LOG..state::SIZE], window, time);
+    let inside = daylog::recent_entries(&s[state::LOG..state::SIZE], window, time);
     keep_last(&mut s[state::LOG..state::SIZE], inside);
 }
 

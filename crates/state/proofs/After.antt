@@ -6,7 +6,7 @@ use mathlib.Core.List.{List, ◌++◌}
 use lib.ListN.{length, take, drop, length-append, length-drop}
 use Rattle.machine.specs.declared.Entry.{Entry}
 use Rattle.machine.specs.State.{State, Locks, rules_in, roots_in, Fitting}
-use Rattle.log.specs.Inner.Log.{entries_in, log_numbers}
+use Rattle.daylog.specs.Inner.Log.{entries_in, log_numbers}
 use Rattle.state.specs.State.{size, encode, stored, decode}
 use Rattle.state.specs.Inner.Laid.{Fits, Laid, with_clock, with_locks, with_log, with_register}
 use Rattle.state.specs.Inner.Tests.{log_part, put_log, put_register}

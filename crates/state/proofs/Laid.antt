@@ -22,8 +22,8 @@ use Rattle.machine.specs.State.{State, cells_of, rules_in, roots_in, account_rul
 use Rattle.machine.specs.Entries.{is_entry}
 use Rattle.machine.specs.Remaining.{no_account, rule_numbered as rule_in}
 use Rattle.machine.proofs.Lists.{every-imp}
-use Rattle.log.specs.Inner.Log.{HeldIn, entries_in, log_numbers}
-use Rattle.log.proofs.Logs.{numbers-held, numbers-entries}
+use Rattle.daylog.specs.Inner.Log.{HeldIn, entries_in, log_numbers}
+use Rattle.daylog.proofs.Logs.{numbers-held, numbers-entries}
 use Rattle.given.specs.Parts.{totals_size}
 use Rattle.state.specs.State.{number, locks_numbers, stored, decode, log_at, register_at, totals_at}
 use Rattle.state.specs.Inner.Laid.{Fits, Laid, account_in, with_clock, with_total}

@@ -24,8 +24,8 @@ use Rattle.packing.proofs.Shapes.{rules-read, rules-tested, log-read, log-tested
 use Rattle.admission.specs.Admission.{are_in_order}
 use Rattle.given.specs.Given.{are_roots}
 use Rattle.given.specs.Parts.{names_hold, places_hold, roots_hold, rules_hold, totals_hold, totals_size}
-use Rattle.log.specs.Inner.Log.{log_holds}
-use Rattle.log.proofs.Logs.{are_logged, holds_parts}
+use Rattle.daylog.specs.Inner.Log.{log_holds}
+use Rattle.daylog.proofs.Logs.{are_logged, holds_parts}
 use Rattle.state.specs.State.{number, locks_of, locks_shape, totals_shape, accounts_of}
 use Rattle.state.specs.Inner.Tests.{locks_hold}
 use Rattle.machine.proofs.Cells.{cells-bound}

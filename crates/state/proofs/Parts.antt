@@ -20,8 +20,8 @@ use Rattle.machine.proofs.Totals.{is_paid}
 use Rattle.admission.specs.Admission.{are_in_order}
 use Rattle.given.specs.Given.{are_roots}
 use Rattle.given.specs.Parts.{roots_hold, rules_of, rules_hold, totals_hold, totals_size}
-use Rattle.log.specs.Inner.Log.{log_holds}
-use Rattle.log.proofs.Logs.{are_logged}
+use Rattle.daylog.specs.Inner.Log.{log_holds}
+use Rattle.daylog.proofs.Logs.{are_logged}
 use Rattle.state.specs.State.{size, number, locks_shape, totals_shape, accounts_of, locks_at, log_at, totals_at, register_at}
 use Rattle.state.specs.Inner.Tests.{roots_part, rules_part, totals_part, locks_part, log_part, locks_hold, register_part}
 use Rattle.state.proofs.Exact.{number-exact, totals-exact, locks-exact}

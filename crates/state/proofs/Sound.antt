@@ -23,8 +23,8 @@ use Rattle.admission.specs.Admission.{are_in_order}
 use Rattle.given.specs.Given.{are_roots}
 use Rattle.given.specs.Parts.{rules_of, rules_hold, totals_hold}
 use Rattle.given.proofs.Rates.{rate-told}
-use Rattle.log.specs.Inner.Log.{log_holds}
-use Rattle.log.proofs.Logs.{are_logged}
+use Rattle.daylog.specs.Inner.Log.{log_holds}
+use Rattle.daylog.proofs.Logs.{are_logged}
 use Rattle.state.specs.State.{size, number, locks_shape, totals_shape, accounts_of, locks_at, log_at, totals_at, register_at}
 use Rattle.state.specs.Sound.{is_sound}
 use Rattle.state.specs.Inner.Tests.{rules_part, totals_part, locks_part, log_part, front_holds, locks_hold, rules_paid, parts_hold, sound_parts, register_part, use_holds}

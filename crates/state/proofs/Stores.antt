@@ -19,7 +19,7 @@ use Rattle.packing.proofs.Shapes.{rules_exact, log-exact, rules-written, log-wri
 use Rattle.machine.specs.declared.Entry.{Entry}
 use Rattle.machine.specs.State.{State, Locks, roots_in, account_rule, Fitting}
 use Rattle.machine.specs.Remaining.{no_account}
-use Rattle.log.specs.Inner.Log.{log_numbers}
+use Rattle.daylog.specs.Inner.Log.{log_numbers}
 use Rattle.state.specs.State.{size, number, marks_of, locks_shape, locks_numbers, numbers_shape, numbers_of, encode, stored, locks_at, log_at, totals_at, register_at}
 use Rattle.state.specs.Inner.Laid.{Fits, with_clock, with_locks, with_log, with_accounts, with_register}
 use Rattle.state.proofs.Accounts.{map-length, map-set}

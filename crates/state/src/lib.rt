@@ -40,7 +40,7 @@ pub const REGISTER: usize = LOCKS + 4;
 
 pub const LOG: usize = REGISTER + register::SIZE;
 
-pub const SIZE: usize = LOG + log::SIZE;
+pub const SIZE: usize = LOG + daylog::SIZE;
 
 // Writes numbers over the front of others.
 pub fn copy(from: &[u64], to: &mut [u64])
@@ -65,7 +65,7 @@ pub fn write_armed(m: &mut [u64], firm: u64, roots: u64, rules: u64, names: &[u6
     let count = [rules];
     copy(&count, &mut m[RULES..]);
     copy(table, &mut m[RULES + 1..]);
-    log::blank(&mut m[TOTALS..SIZE]);
+    daylog::blank(&mut m[TOTALS..SIZE]);
 }
 
 // The longest window of the rules, 0 if none is a rate rule.
@@ -85,7 +85,7 @@ pub fn used_at(m: &[u64], time: u64) -> u64
     if longest == 0 {
         return 0;
     }
-    let inside = log::recent_entries(&m[LOG..SIZE], longest, time) as u64;
+    let inside = daylog::recent_entries(&m[LOG..SIZE], longest, time) as u64;
     inside + register::kept(&m[REGISTER..LOG])
 }
 

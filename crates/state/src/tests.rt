@@ -36,6 +36,6 @@ pub(crate) fn are_parts(m: &[u64], longest: u64) -> bool
     let entries = m[crate::LOG];
     are_locks(&m[crate::LOCKS..crate::REGISTER], roots)
         & ((0 < longest) | (entries == 0))
-        & log::is_log(&m[crate::LOG..crate::SIZE], roots, m[crate::CLOCK])
+        & daylog::is_log(&m[crate::LOG..crate::SIZE], roots, m[crate::CLOCK])
         & register::is_register(&m[crate::REGISTER..crate::LOG], roots)
 }

@@ -5,8 +5,8 @@ use Rattle.rules.specs.Amounts.{amount_in}
 use Rattle.laws.specs.Folds.{sum_of}
 use Rattle.machine.specs.Entries.{entry_share}
 use Rattle.machine.specs.declared.Entry.{Entry}
-use Rattle.log.specs.Inner.Sieve.{sieve_of}
-use Rattle.log.specs.Inner.Memo.{recalled_of}
+use Rattle.daylog.specs.Inner.Sieve.{sieve_of}
+use Rattle.daylog.specs.Inner.Memo.{recalled_of}
 use Rattle.state.specs.State.{decode}
 use Rattle.state.proofs.Laid.{laid-held, laid-entries}
 use Rattle.counting.proofs.Counted.{logged-so, logged-any, memos-rate, memos-absolute}

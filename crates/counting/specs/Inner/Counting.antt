@@ -7,9 +7,9 @@ use Rattle.rules.specs.declared.Amount.{Amount}
 use Rattle.rules.specs.declared.Rule.{Rule}
 use Rattle.machine.specs.declared.Entry.{Entry}
 use Rattle.machine.specs.Entries.{entry_share}
-use Rattle.log.specs.Inner.Sieve.{sieve_of}
-use Rattle.log.specs.Inner.Memo.{recalled_of}
-use Rattle.log.specs.declared.Two.{Two}
+use Rattle.daylog.specs.Inner.Sieve.{sieve_of}
+use Rattle.daylog.specs.Inner.Memo.{recalled_of}
+use Rattle.daylog.specs.declared.Two.{Two}
 
 -- the rule counts as much with this amount as with what the log counts for it at a time: an absolute rule asks for neither
 pub record IsLogged (log : List Entry) (rule : Rule) (time : ℕ) (amount : Amount) : Type 0 where

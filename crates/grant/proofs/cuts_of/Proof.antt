@@ -8,7 +8,7 @@ use Rattle.rules.specs.declared.Level.TheVariants.{Firm, Root}
 use Rattle.machine.specs.State.{rules_in, cells_of}
 use Rattle.machine.specs.Remaining.{first_cell}
 use Rattle.state.specs.State.{decode}
-use Rattle.log.specs.Inner.Memo.{RightTwo}
+use Rattle.daylog.specs.Inner.Memo.{RightTwo}
 use Rattle.state.proofs.Laid.{laid-few}
 use Rattle.state.proofs.Walked.{place-within, walked, next_place}
 use Rattle.grant.proofs.Cut.{Cut, cut-none, cut-done}

@@ -4,7 +4,7 @@ use mathlib.Core.Path.{◌≡◌, ap, ap₂, ◌∙◌}
 use mathlib.Core.List.{List}
 use Rattle.machine.specs.declared.Entry.{Entry}
 use Rattle.machine.specs.Entries.{are_ordered}
-use Rattle.log.specs.Inner.Reading.{window_reading}
+use Rattle.daylog.specs.Inner.Reading.{window_reading}
 use Rattle.state.proofs.Laid.{laid-held, laid-entries}
 use Rattle.grant.specs.Inner.Grant.{inside_of}
 use borrow.Author.Rules.{rules}

@@ -4,7 +4,7 @@ use mathlib.Core.Path.{◌≡◌, sym, ap, ◌∙◌, subst}
 use mathlib.Core.List.{List, [], ◌∷◌, ◌++◌}
 use Prim.Native.Nat.{ℕ, ◌≤◌}
 use lib.ListN.{length}
-use Rattle.log.specs.Inner.Log.{last_of, joined_entries}
+use Rattle.daylog.specs.Inner.Log.{last_of, joined_entries}
 use Rattle.machine.specs.declared.Entry.{Entry}
 use Rattle.machine.specs.Entries.{recent}
 use Rattle.machine.specs.Offers.{entry_of}

@@ -18,7 +18,7 @@ use Rattle.machine.specs.State.{State, rules_in}
 use Rattle.machine.specs.Offers.{counted, covers_offer, same_level, grant_of, level_trips, credited, longest}
 use Rattle.state.specs.State.{stored, decode}
 use Rattle.state.specs.Inner.Laid.{Laid, account_in, with_clock, with_locks, with_accounts}
-use Rattle.log.specs.Inner.Reading.{window_reading}
+use Rattle.daylog.specs.Inner.Reading.{window_reading}
 use Rattle.locks.specs.Inner.Locks.{tripping}
 use Rattle.register.specs.Register.{sent_at_place}
 use Rattle.machine.specs.declared.Offer.{Offer}

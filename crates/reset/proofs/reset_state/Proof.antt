@@ -15,7 +15,7 @@ use Rattle.reset.proofs.reset_state.Tie as tie
 use Rattle.reset.proofs.reset_state.Reads as reads
 use Rattle.reset.proofs.reset_state.Lts as lts
 use Rattle.locks.proofs.lift.Reads as lift-reads
-use Rattle.log.proofs.unflag.Reads as unflag-reads
+use Rattle.daylog.proofs.unflag.Reads as unflag-reads
 use Rattle.reset.proofs.effect_of.Reads as effect-of-reads
 use Rattle.reset.proofs.wipe.Reads as wipe-reads
 use Rattle.state.proofs.put_clock.Reads as put-clock-reads

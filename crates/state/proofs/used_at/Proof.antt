@@ -8,7 +8,7 @@ use lib.ListN.{length}
 use Rattle.machine.specs.declared.Entry.{Entry}
 use Rattle.machine.specs.declared.Sent.{Sent}
 use Rattle.machine.specs.Entries.{are_ordered, recent, is_recent}
-use Rattle.log.specs.Inner.Log.{entries_in}
+use Rattle.daylog.specs.Inner.Log.{entries_in}
 use Rattle.state.specs.Inner.Tests.{log_part}
 use Rattle.machine.specs.Register.{kept_places}
 use Rattle.machine.proofs.Lists.{keep-le}

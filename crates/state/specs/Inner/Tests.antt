@@ -5,7 +5,7 @@ use Rattle.rules.specs.Valid.{has_rate}
 use Rattle.machine.specs.State.{cells_of}
 use Rattle.given.specs.Names.{is_name_number}
 use Rattle.given.specs.Parts.{roots_hold, rules_of, rules_hold, totals_hold, totals_size}
-use Rattle.log.specs.Inner.Log.{log_holds}
+use Rattle.daylog.specs.Inner.Log.{log_holds}
 use Rattle.state.specs.State.{locks_at, log_at, totals_at, register_at, decode}
 use Rattle.register.specs.Register.{register_holds}
 use Rattle.machine.specs.Refusals.{used}
