@@ -1,4 +1,6 @@
 // The calls that keep the day's account: each applies an event to a unit's memory and counts it in an account, or refuses it and changes neither.
+#![tactic(auto)]
+
 ghost use Rattle.std.specs.Prelude.{◌≡◌};
 ghost use Rattle.accounted.specs.Accounted.{call_of, accounted_answer, accounted_memory, account_after_call};
 

@@ -1,4 +1,6 @@
 // One rule more in a profile: whether it may join those before it, and how many there are with it.
+#![tactic(auto)]
+
 ghost use Rattle.std.specs.Prelude.{◌≡◌, List, ℕ, ◌+◌, ◌≤◌, ◌<◌, max};
 ghost use Rattle.rules.specs.declared.Rule.{Rule};
 ghost use Rattle.admission.specs.Inner.Counting.{SoFar, CountsSome, Follows, Numbered, RootIs, FewIn, over_in, covered_in};

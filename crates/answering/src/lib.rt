@@ -1,4 +1,6 @@
 // The program's lines: what arming and each event record of an input print, and the memory that they leave.
+#![tactic(auto)]
+
 ghost use Rattle.std.specs.Prelude.{◌≡◌, ◌+◌, ◌*◌, ◌≤◌, ◌<◌, length};
 ghost use Rattle.std.proofs.lemmas.List.Edits.{sets};
 ghost use Rattle.calls.specs.Calls.{arm_answer, arm_memory, call_answer, call_memory};

@@ -1,4 +1,6 @@
 // The public calls over lent memory.
+#![tactic(auto)]
+
 ghost use Rattle.std.specs.Prelude.{◌≡◌};
 ghost use Rattle.machine.specs.Calls.{Call};
 ghost use Rattle.calls.specs.Calls.{memory_refusal, call_answer, call_memory, arm_answer, arm_memory, clear_answer, clear_memory, text_answer, text_memory};

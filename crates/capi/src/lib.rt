@@ -1,4 +1,6 @@
 // The library for C and Rust: numbers and slices in, each answer as a row of numbers, the refusal first. Here the calls on a unit's memory.
+#![tactic(auto)]
+
 ghost use Rattle.std.specs.Prelude.{◌≡◌};
 ghost use Rattle.machine.specs.Calls.{Call};
 ghost use Rattle.machine.specs.Judge.{numbers};

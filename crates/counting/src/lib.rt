@@ -1,4 +1,6 @@
 // What an account has counted at a time, and what remains of its limit.
+#![tactic(auto)]
+
 ghost use Rattle.std.specs.Prelude.{◌≡◌, true, ◌<◌, length};
 ghost use Rattle.rules.specs.Amounts.{amount_in};
 ghost use Rattle.rules.specs.Valid.{is_rule};

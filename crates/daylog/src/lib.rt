@@ -1,4 +1,6 @@
 // The log: its entries in their places, in order of time.
+#![tactic(auto)]
+
 ghost use Rattle.std.specs.Prelude.{◌≡◌, true, List, ◌≤◌, ◌<◌, length};
 ghost use Rattle.machine.specs.declared.Entry.{Entry};
 ghost use Rattle.machine.specs.Effects.{zeroing};

@@ -1,1 +1,2 @@
 // That every contract determines what a call gives. No code.
+#![tactic(auto)]

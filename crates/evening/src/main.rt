@@ -1,5 +1,7 @@
 // Prints the table of a day: arms the state from the file `profile`, applies the event records of standard input, and prints a line for each root and
 // one for the firm.
+#![tactic(auto)]
+
 ghost use Rattle.io.specs.Counts.{IsPrefixLen};
 
 use libc::{STDIN_FILENO, STDOUT_FILENO};

@@ -1,4 +1,6 @@
 // The day's account: what each event was to it, the eight figures of a row, and the rows in lent memory.
+#![tactic(auto)]
+
 ghost use Rattle.std.specs.Prelude.{◌≡◌, length};
 ghost use Rattle.figures.specs.Account.{account_after, is_account};
 ghost use Rattle.figures.specs.Inner.Rows.{Counting, greatest_of, are_low, bound_of};

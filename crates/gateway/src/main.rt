@@ -1,4 +1,6 @@
 // Arms a unit from the file `profile`, answers the event records of standard input, and prints a line for each.
+#![tactic(auto)]
+
 ghost use Rattle.std.specs.Prelude.{◌≤◌, length};
 ghost use Rattle.io.specs.Counts.{IsPrefixLen};
 

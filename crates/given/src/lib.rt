@@ -1,4 +1,6 @@
 // The tests of a state's roots, rules and totals: whether they are such as some accepted profile gives.
+#![tactic(auto)]
+
 ghost use Rattle.std.specs.Prelude.{◌≡◌, ◌&&◌, ◌*◌, ◌≤◌, ◌<◌, length, drop};
 ghost use Rattle.tables.specs.Inner.Tables.{places};
 ghost use Rattle.packing.specs.RulePlace.{rule_at};

@@ -1,4 +1,6 @@
 // An offer's grant: what the rules of each level allow of it, and what a fill leaves in memory, be it granted or reported from away.
+#![tactic(auto)]
+
 ghost use Rattle.std.specs.Prelude.{◌≡◌, true, ◌≤◌, ◌<◌, length};
 ghost use Rattle.measures.specs.Ranges.{offers};
 ghost use Rattle.rules.specs.Rules.{level_of};

@@ -1,4 +1,6 @@
 // One line of a profile: the rule that it says, or the refusal number of its fault.
+#![tactic(auto)]
+
 ghost use Rattle.std.specs.Prelude.{◌≡◌, ◌≤◌, ◌<◌, length};
 ghost use Rattle.line.specs.Line.{firm_in, level_clash, unit_clash, scope_of, line_of, any_line};
 

@@ -1,4 +1,6 @@
 // The locks in lent memory, four numbers: how they change, and what they tell.
+#![tactic(auto)]
+
 ghost use Rattle.std.specs.Prelude.{◌≡◌, ◌<◌};
 ghost use Rattle.machine.specs.Effects.{lifting};
 ghost use Rattle.machine.specs.Locks.{verdict_of, lifted, tripped_by, locked_out};

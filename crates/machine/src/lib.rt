@@ -1,4 +1,6 @@
 // What the machine of specs/ speaks of, by value: an entry of the log, an order sent away, an offered fill, and what a call is answered.
+#![tactic(auto)]
+
 use bits::Standing;
 use measures::{Contracts, TenThousandths};
 

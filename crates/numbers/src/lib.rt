@@ -1,4 +1,6 @@
 // Numbers: the lesser and the greater of two, one of two by a test, and a byte as a number.
+#![tactic(auto)]
+
 ghost use Rattle.std.specs.Prelude.{◌≡◌, cond, min, max};
 
 // The lesser of two numbers.

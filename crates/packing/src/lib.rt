@@ -1,4 +1,6 @@
 // How a rule and a log entry stand in two numbers each.
+#![tactic(auto)]
+
 ghost use Rattle.std.specs.Prelude.{◌≡◌, ◌%◌, ◌&&◌, [], ◌∷◌, nat_lt};
 ghost use Rattle.measures.specs.Ranges.{is_in, premiums, offers};
 ghost use Rattle.packing.specs.RulePlace.{limit_number, root_number, rule_at, is_rule_place, rule_place};

@@ -1,4 +1,6 @@
 // A profile's text read line by line: a thin reader over the lent bytes, which are never copied.
+#![tactic(auto)]
+
 ghost use Rattle.std.specs.Prelude.{◌≡◌};
 ghost use Rattle.reader.specs.Lines.{line_from};
 

@@ -1,4 +1,6 @@
 // Event records of 12 and of 16 bytes: an event from its record, the record of an event, and a record moved to the other form.
+#![tactic(auto)]
+
 ghost use Rattle.std.specs.Prelude.{◌≡◌, true, length};
 ghost use Rattle.bits.specs.Fields.{fields_of};
 ghost use Rattle.records.specs.Form.{accepts, written, wrote_values, written_values};

@@ -1,4 +1,6 @@
 // The register of orders sent away: its orders in their places, in the order of their sending.
+#![tactic(auto)]
+
 ghost use Rattle.std.specs.Prelude.{◌≡◌, true, not, [], ◌∷◌, ◌++◌, map, ◌≤◌, ◌<◌, length};
 ghost use Rattle.laws.specs.Folds.{keep};
 ghost use Rattle.machine.specs.Register.{has_identity, used_up, kept_places, is_sent, are_different};

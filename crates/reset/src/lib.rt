@@ -1,4 +1,6 @@
 // What an order's reset and a lockout do to lent memory.
+#![tactic(auto)]
+
 ghost use Rattle.std.specs.Prelude.{◌≡◌, true, map, ◌+◌, ◌<◌, length};
 ghost use Rattle.laws.specs.Folds.{every};
 ghost use Rattle.rules.specs.Rules.{level_of};

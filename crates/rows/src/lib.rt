@@ -1,4 +1,6 @@
 // Rows of five numbers, as document 01 gives answers: the refusal first.
+#![tactic(auto)]
+
 ghost use Rattle.std.specs.Prelude.{◌≡◌, cond, [], ◌∷◌};
 ghost use Rattle.machine.specs.Judge.{numbers};
 

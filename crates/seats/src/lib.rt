@@ -1,4 +1,6 @@
 // The state in lent memory: two seats side by side, each as the memory of one firm was. The test of the whole, and a firm's calls on its own seat.
+#![tactic(auto)]
+
 ghost use Rattle.std.specs.Prelude.{◌≡◌, true, ◌≤◌, length};
 ghost use Rattle.machine.specs.Calls.{Call};
 ghost use Rattle.state.specs.State.{size, decode};

@@ -1,4 +1,6 @@
 // The state in lent memory: where each number stands, and whether what stands there is sound.
+#![tactic(auto)]
+
 ghost use Rattle.std.specs.Prelude.{◌≡◌, [], ◌∷◌, ◌++◌, ◌≤◌, ◌<◌, length, get_or, drop, true, ltb};
 ghost use Rattle.tables.specs.Inner.Tables.{zeros};
 ghost use Rattle.rules.specs.Units.{is_unit_of};

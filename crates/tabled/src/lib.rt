@@ -1,4 +1,6 @@
 // The day's table: each record of an input is applied and counted, and the rows of the account are written with the names of their roots.
+#![tactic(auto)]
+
 ghost use Rattle.std.specs.Prelude.{◌≡◌, ◌++◌, ◌+◌, ◌≤◌, length};
 ghost use Rattle.std.proofs.lemmas.List.Edits.{sets};
 ghost use Rattle.text.specs.Digits.{name_bytes};

@@ -1,5 +1,7 @@
 // Reads event records of 16 bytes from standard input, writes each event again, and moves it to 12 bytes and back. Prints a line for each: its
 // place, the refusal number, what it is, and whether it came back.
+#![tactic(auto)]
+
 use libc::{STDIN_FILENO, STDOUT_FILENO};
 use records::{Event16, Moving, Reading16};
 

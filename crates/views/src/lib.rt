@@ -1,4 +1,6 @@
 // The public calls that read an armed unit's profile: a root's number by its name, a root's name by its number, a rule by its number, and the whole as text.
+#![tactic(auto)]
+
 ghost use Rattle.std.specs.Prelude.{◌≡◌, ◌+◌, ◌≤◌};
 ghost use Rattle.text.specs.declared.Number.TheVariants.{Is};
 ghost use Rattle.packing.specs.RulePlace.{limit_number, measure_number, window_number};

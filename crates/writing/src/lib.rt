@@ -1,4 +1,6 @@
 // A profile as text again: how many bytes its text has, and the text in a lent room, a line for each rule.
+#![tactic(auto)]
+
 ghost use Rattle.std.specs.Prelude.{◌≡◌, cond, ◌||◌, ◌∷◌, [], ◌++◌, ◌+◌, ◌≤◌, eqb, ltb, length, drop};
 ghost use Rattle.std.proofs.lemmas.List.Edits.{sets};
 ghost use Rattle.text.specs.Digits.{name_bytes};
