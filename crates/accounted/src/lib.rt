@@ -11,7 +11,7 @@ mod plain;
 use machine::{Answer, Offer};
 
 // An event that an account is kept of, with its numbers.
-#[derive(Drop)]
+#[derive(Clone, Copy)]
 pub enum Event {
     Order {
         time: u64,

@@ -8,7 +8,7 @@ ghost use Rattle.admission.specs.Inner.Counting.{SoFar, CountsSome, Follows, Num
 use rules::{Rule, Scope};
 
 // How many rules there are, how many roots have appeared in them, and how many are firm rules.
-#[derive(Drop)]
+#[derive(Clone, Copy)]
 pub struct Tally {
     pub rules: u64,
     pub seen: u64,
@@ -16,7 +16,7 @@ pub struct Tally {
 }
 
 // A rule after those before it: with it there are so many, or it is one too many or its root is not the next.
-#[derive(Drop)]
+#[derive(Clone, Copy)]
 pub enum Admitted {
     With(Tally),
     TooMany,

@@ -23,14 +23,14 @@ pub const RECORD_BYTES: usize = records::BYTES16;
 const PART: usize = RECORD_BYTES - 1;
 
 // Whether the unit is armed, and how many bytes the line about it has.
-#[derive(Drop)]
+#[derive(Clone, Copy)]
 pub struct Opened {
     pub armed: bool,
     pub bytes: usize,
 }
 
 // How many records were answered, and how many bytes their lines have.
-#[derive(Drop)]
+#[derive(Clone, Copy)]
 pub struct Ran {
     pub records: u64,
     pub bytes: usize,

@@ -17,14 +17,14 @@ use profile::Reading;
 pub const SIZE: usize = state::SIZE;
 
 // What Clear answers.
-#[derive(Drop)]
+#[derive(Clone, Copy)]
 pub enum Clearing {
     Done,
     Refused(u64),
 }
 
 // What Text answers: how many bytes it wrote, or a refusal.
-#[derive(Drop)]
+#[derive(Clone, Copy)]
 pub enum Wording {
     Written(u64),
     Refused(u64),

@@ -45,7 +45,7 @@ fn memos_for(m: &[u64], rule: Rule, time: u64, memos: Two) -> Two
 }
 
 // What an account has counted, and the memos after the log was asked for it.
-#[derive(Drop)]
+#[derive(Clone, Copy)]
 pub struct Told {
     pub amount: Amount,
     pub memos: Two,

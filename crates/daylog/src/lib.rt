@@ -67,7 +67,7 @@ pub fn is_log(log: &[u64], roots: u64, clock: u64) -> bool
 }
 
 // A first time, and how many of the log's entries are not before it.
-#[derive(Drop)]
+#[derive(Clone, Copy)]
 pub struct Reading {
     pub from: u64,
     pub passed: usize,
@@ -87,7 +87,7 @@ pub fn read_window(log: &[u64], window: u64, time: u64) -> Reading
 }
 
 // What the entries that pass a sieve count in each measure, and how many are not before its time.
-#[derive(Drop)]
+#[derive(Clone, Copy)]
 pub struct Memo {
     pub mask: u64,
     pub want: u64,
@@ -99,7 +99,7 @@ pub struct Memo {
 }
 
 // The memos of the last sieve and of the one before it, and a reading.
-#[derive(Drop)]
+#[derive(Clone, Copy)]
 pub struct Two {
     pub last: Memo,
     pub other: Memo,

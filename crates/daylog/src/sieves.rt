@@ -14,7 +14,7 @@ use rules::{Kind, Rule, Scope};
 
 // What counts for a rule at a time: the digits of an entry's first number under a mask, which hold its root, its unit and the flag of the rule's level as
 // far as the rule asks for them, are those that are wanted, and the entry is not before a first time.
-#[derive(Drop)]
+#[derive(Clone, Copy)]
 pub(crate) struct Sieve {
     mask: u64,
     want: u64,

@@ -24,7 +24,7 @@ pub const MOST: u64 = TenThousandths::TOTAL_MOST;
 pub const ADDED_MOST: u64 = TenThousandths::PREMIUM_MOST * Contracts::OFFER_MOST;
 
 // A row of the account. What has a measure keeps it, so that no figure is added to another's.
-#[derive(Drop)]
+#[derive(Clone, Copy)]
 pub struct Figures {
     pub accepted: u64,
     pub rejected: u64,
@@ -38,7 +38,7 @@ pub struct Figures {
 
 // What an event was to the account: counted nowhere; an order or a sending by its verdict; an offer that was not locked out, by what was offered and
 // granted and what tripped; or a report from an away market, by what tripped.
-#[derive(Drop)]
+#[derive(Clone, Copy)]
 pub enum Happening {
     Uncounted,
     Ordered {

@@ -25,7 +25,7 @@ pub const RULES_SIZE: usize = 1 + 2 * 256;
 pub const TOTALS_SIZE: usize = 4 * 256;
 
 // What the test of rules and totals tells: they hold, and this is the rules' longest window, 0 if none is a rate rule; or they do not.
-#[derive(Drop)]
+#[derive(Clone, Copy)]
 pub enum Tested {
     Hold(u64),
     Fail,

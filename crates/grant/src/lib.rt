@@ -24,28 +24,28 @@ use measures::{Contracts, TenThousandths};
 use rules::{Rule, Scope};
 
 // The least that the rules of the offer's root allow of it, and the least that those of the firm do.
-#[derive(Drop)]
+#[derive(Clone, Copy)]
 pub struct Cuts {
     pub root: u64,
     pub firm: u64,
 }
 
 // Whether an absolute rule of the offer's root stands at its limit, and whether one of the firm does.
-#[derive(Drop)]
+#[derive(Clone, Copy)]
 pub struct Reached {
     pub root: bool,
     pub firm: bool,
 }
 
 // Whether a fill trips the offer's root, and whether it trips the firm.
-#[derive(Drop)]
+#[derive(Clone, Copy)]
 pub struct Trips {
     pub root: bool,
     pub firm: bool,
 }
 
 // The longest window of the rules, 0 if none is a rate rule, and its reading at a time.
-#[derive(Drop)]
+#[derive(Clone, Copy)]
 pub struct Inside {
     pub window: u64,
     pub read: Reading,
@@ -74,7 +74,7 @@ pub(crate) fn is_firm(rule: Rule) -> bool
 }
 
 // The cuts after some rules, and the memos after these.
-#[derive(Drop)]
+#[derive(Clone, Copy)]
 struct Lowering {
     cuts: Cuts,
     memos: Two,

@@ -9,7 +9,7 @@ use crate::limits::type_at;
 use text::{Number, Taken};
 
 // What the first four fields say, whether they are there and well formed, and the place after them.
-#[derive(Drop)]
+#[derive(Clone, Copy)]
 pub(crate) struct Head {
     pub(crate) well: bool,
     pub(crate) firm: u64,
@@ -20,7 +20,7 @@ pub(crate) struct Head {
 }
 
 // What the last four fields say, and whether they are well formed and no field comes after them.
-#[derive(Drop)]
+#[derive(Clone, Copy)]
 pub(crate) struct Tail {
     pub(crate) well: bool,
     pub(crate) time: u64,
@@ -30,7 +30,7 @@ pub(crate) struct Tail {
 }
 
 // Which letter a field holds, and the place after the field and its comma.
-#[derive(Drop)]
+#[derive(Clone, Copy)]
 pub(crate) struct Letter {
     pub(crate) which: u64,
     pub(crate) next: usize,

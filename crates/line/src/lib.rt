@@ -12,7 +12,7 @@ use measures::Time;
 use rules::{Rule, Scope};
 
 // The six types of limit that a profile names.
-#[derive(Drop)]
+#[derive(Clone, Copy)]
 pub enum LimitType {
     RateNtnl,
     RateVol,
@@ -22,14 +22,14 @@ pub enum LimitType {
     AbsCount,
 }
 
-#[derive(Drop)]
+#[derive(Clone, Copy)]
 pub enum TypeRead {
     Known(LimitType),
     Unknown,
 }
 
 // What a line comes to: a rule whose scope has its root's name for a number, or a refusal.
-#[derive(Drop)]
+#[derive(Clone, Copy)]
 pub enum Line {
     Is(Rule),
     Refused(u64),

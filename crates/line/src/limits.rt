@@ -9,14 +9,14 @@ use measures::{Contracts, ContractsRead, Dollars, DollarsRead, Executions, Execu
 use rules::{Kind, Limit};
 
 // A limit, or that its number is out of range.
-#[derive(Drop)]
+#[derive(Clone, Copy)]
 pub(crate) enum LimitRead {
     Is(Limit),
     Out,
 }
 
 // What type a field names, and the place after the field and its comma.
-#[derive(Drop)]
+#[derive(Clone, Copy)]
 pub(crate) struct TypeTaken {
     pub(crate) named: TypeRead,
     pub(crate) next: usize,

@@ -5,7 +5,7 @@ use bits::Standing;
 use measures::{Contracts, TenThousandths};
 
 // An entry of the log: a fill, and whether it counts for its root and for the firm.
-#[derive(Drop)]
+#[derive(Clone, Copy)]
 pub struct Entry {
     pub time: u64,
     pub root: u64,
@@ -17,7 +17,7 @@ pub struct Entry {
 }
 
 // An order sent away: the contracts that it has open, and the reports that it is still allowed.
-#[derive(Drop)]
+#[derive(Clone, Copy)]
 pub struct Sent {
     pub identity: u64,
     pub root: u64,
@@ -28,7 +28,7 @@ pub struct Sent {
 }
 
 // What a reset does: it zeroes the counters of the order's root or of the firm, and takes away the trip and the lockout of either.
-#[derive(Drop)]
+#[derive(Clone, Copy)]
 pub struct Effect {
     pub zeroroot: bool,
     pub zerofirm: bool,
@@ -37,7 +37,7 @@ pub struct Effect {
 }
 
 // An offered fill: so many contracts of a unit of a root, at a premium.
-#[derive(Drop)]
+#[derive(Clone, Copy)]
 pub struct Offer {
     pub time: u64,
     pub root: u64,
@@ -48,7 +48,7 @@ pub struct Offer {
 
 // An answer: a refusal by its number; the verdict on an order, a lockout, an offer or an order sent away, with the grant and the trips; what remains
 // of a limit; or how the roots stand.
-#[derive(Drop)]
+#[derive(Clone, Copy)]
 pub enum Answer {
     Refused(u64),
     Judged {

@@ -17,7 +17,7 @@ use line::Line;
 use rules::{Rule, Scope};
 
 // What reading a profile answers: the firm's name and how many rules and roots there are, or a refusal and the line, from 1, that it is for.
-#[derive(Drop)]
+#[derive(Clone, Copy)]
 pub enum Reading {
     Accepted { firm: u64, rules: u64, roots: u64 },
     Refused { number: u64, line: u64 },

@@ -16,7 +16,7 @@ pub use moves::{narrow, widen};
 pub use sixteen::{event16_in, read16, read16_numbers, values16_of, write16, write16_values};
 
 // An event: each kind holds what it uses, and nothing else.
-#[derive(Drop)]
+#[derive(Clone, Copy)]
 pub enum Event {
     Order {
         time: u64,
@@ -38,7 +38,7 @@ pub enum Event {
 }
 
 // An event of a 16-byte record: its time is in microseconds, resets go up to 6, and orders may be sent away.
-#[derive(Drop)]
+#[derive(Clone, Copy)]
 pub enum Event16 {
     Order {
         time: u64,
@@ -78,20 +78,20 @@ pub enum Event16 {
 }
 
 // What reading a record answers: its event, or that it is faulty.
-#[derive(Drop)]
+#[derive(Clone, Copy)]
 pub enum Reading {
     Is(Event),
     Faulty,
 }
 
-#[derive(Drop)]
+#[derive(Clone, Copy)]
 pub enum Reading16 {
     Is(Event16),
     Faulty,
 }
 
 // What writing a record answers: that it is written, that the event is faulty, or that the room is short.
-#[derive(Drop)]
+#[derive(Clone, Copy)]
 pub enum Writing {
     Done,
     Faulty,
@@ -99,7 +99,7 @@ pub enum Writing {
 }
 
 // What moving a record to the other form answers: that it is moved, that it is faulty, that it does not fit the old form, or that the room is short.
-#[derive(Drop)]
+#[derive(Clone, Copy)]
 pub enum Moving {
     Done,
     Faulty,

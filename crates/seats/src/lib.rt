@@ -18,7 +18,7 @@ use machine::{Answer, Offer};
 use profile::Reading;
 
 // What a question for the use of the log is answered: the use and the places that the firm may use in all, or a refusal.
-#[derive(Drop)]
+#[derive(Clone, Copy)]
 pub enum Using {
     Places { used: u64, places: u64 },
     Refused(u64),

@@ -12,7 +12,7 @@ use machine::{Answer, Offer};
 use measures::{Contracts, TenThousandths, Time};
 
 // What a call on a firm's own seat is answered, and whether an entry joined the log.
-#[derive(Drop)]
+#[derive(Clone, Copy)]
 pub struct Called {
     pub answer: Answer,
     pub joined: bool,

@@ -7,14 +7,14 @@ ghost use Rattle.text.specs.Inner.Taking.{field_at, Near, run_read, is_end, is_n
 use crate::{Number, find};
 
 // What a field is read as, and the place after it and its comma.
-#[derive(Drop)]
+#[derive(Clone, Copy)]
 pub struct Taken {
     pub number: Number,
     pub next: usize,
 }
 
 // What bytes side by side stand for, and the place after them.
-#[derive(Drop)]
+#[derive(Clone, Copy)]
 pub(crate) struct Run {
     pub(crate) value: u64,
     pub(crate) end: usize,

@@ -12,7 +12,7 @@ use fields::name_run;
 pub use fields::{Taken, digits_at, is_field, name_at};
 
 // What a field is read as: a number, or nothing that may stand there.
-#[derive(Drop)]
+#[derive(Clone, Copy)]
 pub enum Number {
     Is(u64),
     Bad,

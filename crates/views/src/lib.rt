@@ -14,14 +14,14 @@ use rules::{Kind, Limit, Rule, Scope};
 use text::Number;
 
 // What a name is answered: the number of its root, or a refusal.
-#[derive(Drop)]
+#[derive(Clone, Copy)]
 pub enum Found {
     Root(u64),
     Refused(u64),
 }
 
 // What a rule's number is answered: the rule as numbers, or a refusal.
-#[derive(Drop)]
+#[derive(Clone, Copy)]
 pub enum Told {
     Rule {
         ruletype: u64,
@@ -34,7 +34,7 @@ pub enum Told {
 }
 
 // What writing the profile answers: the size that was written; the size that is needed where the room is short, which is refusal 1; or a refusal.
-#[derive(Drop)]
+#[derive(Clone, Copy)]
 pub enum Listing {
     Written(u64),
     Short(u64),
