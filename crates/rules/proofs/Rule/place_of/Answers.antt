@@ -1,0 +1,15 @@
+-- `rules::Rule::place_of` meets its contract: the arm tells the scope. Assumes nothing.
+use Rattle.rules.specs.Units.{place_in}
+use Rattle.rules.proofs.Rule.place_of.Goals as goal
+
+pub returns-in-EveryFill : goal.returns-in-EveryFill
+unfolding place_in
+returns-in-EveryFill c = rw c.enum_told-1.given.1
+
+pub returns-in-WholeRoot : goal.returns-in-WholeRoot
+unfolding place_in
+returns-in-WholeRoot c = rw c.enum_told-in-WholeRoot-1.given.1
+
+pub returns-in-OneUnit : goal.returns-in-OneUnit
+unfolding place_in
+returns-in-OneUnit c = rw c.enum_told-in-OneUnit-1.given.1
