@@ -11,7 +11,6 @@ use native.Mathlib.Nat.{add-zero, sub_self, pow-zero, pow-suc, pow-le-pow_right,
 use native.Mathlib.Omega.{arith}
 use Rattle.text.specs.Text.{all, numeral}
 use Rattle.text.specs.Inner.Taking.{front, run_read}
-use Rattle.text.specs.declared.fields.Run.{Run}
 use Rattle.laws.proofs.Lists.{from, ended}
 
 module _ (p : ℕ → Bool) where
