@@ -6,12 +6,12 @@ use Rattle.rules.proofs.Amount.number.Goals as goal
 
 pub returns-in-Notional : goal.returns-in-Notional
 unfolding number_of
-returns-in-Notional c = rw c.self-1.given.1
+returns-in-Notional c = rw c.in-Notional.is
 
 pub returns-in-Volume : goal.returns-in-Volume
 unfolding number_of
-returns-in-Volume c = rw c.self-in-Volume-1.given.1
+returns-in-Volume c = rw c.in-Volume.is
 
 pub returns-in-Count : goal.returns-in-Count
 unfolding number_of
-returns-in-Count c = rw c.self-in-Count-1.given.1
+returns-in-Count c = rw c.in-Count.is

@@ -6,12 +6,12 @@ use Rattle.rules.proofs.Limit.amount.Goals as goal
 
 pub returns-in-Notional : goal.returns-in-Notional
 unfolding amount_in
-returns-in-Notional c = rw c.enum_told-1.given.1
+returns-in-Notional c = rw c.in-Notional.is
 
 pub returns-in-Volume : goal.returns-in-Volume
 unfolding amount_in
-returns-in-Volume c = rw c.enum_told-in-Volume-1.given.1
+returns-in-Volume c = rw c.in-Volume.is
 
 pub returns-in-Count : goal.returns-in-Count
 unfolding amount_in
-returns-in-Count c = rw c.enum_told-in-Count-1.given.1
+returns-in-Count c = rw c.in-Count.is

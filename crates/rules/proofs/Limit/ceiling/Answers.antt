@@ -8,16 +8,16 @@ use Rattle.rules.proofs.Limit.ceiling.Goals as goal
 
 pub ten_thousandths-requires : goal.ten_thousandths-requires
 unfolding InRange
-ten_thousandths-requires c = let range = rw c.self-1.given.1 at c.requires in range.1
+ten_thousandths-requires c = let range = rw c.in-Notional.is at c.requires in range.1
 
 pub returns-in-Notional : goal.returns-in-Notional
 unfolding amount_in ceiling
-returns-in-Notional c = rw (c.self-1.given.1, c.ten_thousandths.ensures)
+returns-in-Notional c = rw (c.in-Notional.is, c.ten_thousandths.ensures)
 
 pub returns-in-Volume : goal.returns-in-Volume
 unfolding amount_in ceiling
-returns-in-Volume c = rw c.self-in-Volume-1.given.1
+returns-in-Volume c = rw c.in-Volume.is
 
 pub returns-in-Count : goal.returns-in-Count
 unfolding amount_in ceiling
-returns-in-Count c = rw c.self-in-Count-1.given.1
+returns-in-Count c = rw c.in-Count.is

@@ -4,12 +4,12 @@ use Rattle.rules.proofs.Rule.accounts.Goals as goal
 
 pub returns-in-EveryFill : goal.returns-in-EveryFill
 unfolding units_of
-returns-in-EveryFill c = rw c.enum_told-1.given.1
+returns-in-EveryFill c = rw c.in-EveryFill.is
 
 pub returns-in-WholeRoot : goal.returns-in-WholeRoot
 unfolding units_of
-returns-in-WholeRoot c = rw c.enum_told-in-WholeRoot-1.given.1
+returns-in-WholeRoot c = rw c.in-WholeRoot.is
 
 pub returns-in-OneUnit : goal.returns-in-OneUnit
 unfolding units_of
-returns-in-OneUnit c = rw c.enum_told-in-OneUnit-1.given.1
+returns-in-OneUnit c = rw c.in-OneUnit.is

@@ -4,13 +4,13 @@ use Rattle.rules.proofs.Laws.{allowed-money, allowed-lots, allowed-none, allowed
 use Rattle.rules.proofs.Rule.allowance.Goals as goal
 
 pub returns-in-Notional : goal.returns-in-Notional
-returns-in-Notional c = rw c.least.ensures (allowed-money _ _ _ _ _ (sym c.money-1.given.1 ∙ c.left.ensures) c.requires.2)
+returns-in-Notional c = rw c.least.ensures (allowed-money _ _ _ _ _ (sym c.in-Notional.is ∙ c.left.ensures) c.requires.2)
 
 pub returns-in-Volume : goal.returns-in-Volume
-returns-in-Volume c = rw c.least-in-Volume.ensures (allowed-lots _ _ _ _ _ (sym c.contracts-1.given.1 ∙ c.left.ensures))
+returns-in-Volume c = rw c.least-in-Volume.ensures (allowed-lots _ _ _ _ _ (sym c.in-Volume.is ∙ c.left.ensures))
 
 pub returns-then-executions-eq0 : goal.returns-then-executions-eq0
-returns-then-executions-eq0 c = allowed-none _ _ _ _ _ (sym c.executions-1.given.1 ∙ c.left.ensures) c.if-executions-eq0.true
+returns-then-executions-eq0 c = allowed-none _ _ _ _ _ (sym c.in-Count.is ∙ c.left.ensures) c.if-executions-eq0.true
 
 pub returns-else-executions-eq0 : goal.returns-else-executions-eq0
-returns-else-executions-eq0 c = allowed_all _ _ _ _ _ (sym c.executions-1.given.1 ∙ c.left.ensures) c.if-executions-eq0.false
+returns-else-executions-eq0 c = allowed_all _ _ _ _ _ (sym c.in-Count.is ∙ c.left.ensures) c.if-executions-eq0.false

@@ -6,8 +6,8 @@ use Rattle.rules.proofs.Rule.counted.Goals as goal
 
 pub returns-in-Rate : goal.returns-in-Rate
 unfolding counted_of
-returns-in-Rate c = rw c.enum_told-1.given.1
+returns-in-Rate c = rw c.in-Rate.is
 
 pub returns-in-Absolute : goal.returns-in-Absolute
 unfolding counted_of
-returns-in-Absolute c = rw c.enum_told-in-Absolute-1.given.1
+returns-in-Absolute c = rw c.in-Absolute.is

@@ -5,12 +5,12 @@ use Rattle.rules.proofs.Rule.counts_for.Goals as goal
 
 pub returns-in-EveryFill : goal.returns-in-EveryFill
 unfolding is_unit_of
-returns-in-EveryFill c = rw c.enum_told-1.given.1
+returns-in-EveryFill c = rw c.in-EveryFill.is
 
 pub returns-in-WholeRoot : goal.returns-in-WholeRoot
 unfolding is_unit_of
-returns-in-WholeRoot c = c.is_in.ensures ∙ rw c.enum_told-in-WholeRoot-1.given.1
+returns-in-WholeRoot c = c.is_in.ensures ∙ rw c.in-WholeRoot.is
 
 pub returns-in-OneUnit : goal.returns-in-OneUnit
 unfolding is_unit_of
-returns-in-OneUnit c = rw c.scope-1.given.1
+returns-in-OneUnit c = rw c.in-OneUnit.is

@@ -4,12 +4,12 @@ use Rattle.rules.proofs.Scope.for_unit.Goals as goal
 
 pub returns-in-EveryFill : goal.returns-in-EveryFill
 unfolding scope_for
-returns-in-EveryFill c = rw c.enum_told-1.given.1
+returns-in-EveryFill c = rw c.in-EveryFill.is
 
 pub returns-in-WholeRoot : goal.returns-in-WholeRoot
 unfolding scope_for
-returns-in-WholeRoot c = rw c.self-1.given.1
+returns-in-WholeRoot c = rw c.in-WholeRoot.is
 
 pub returns-in-OneUnit : goal.returns-in-OneUnit
 unfolding scope_for
-returns-in-OneUnit c = rw c.self-in-OneUnit-1.given.1
+returns-in-OneUnit c = rw c.in-OneUnit.is
