@@ -1,5 +1,5 @@
 -- What gaps tell, one by one and joined. Assumes nothing.
-use Rattle.std.proofs.Common.{◌≡◌, ℕ, ◌+◌, ◌/◌, ◌%◌, ◌<◌, min, Bool, true, false, ◌&&◌, ltb, leb, sym, refl, ◌∙◌, ap₂, arith, ltb-false, ltb-true, le-ltb, lt-ltb, le-leb, leb-false, leb-true}
+use Rattle.std.proofs.Common.{◌≡◌, ℕ, ◌+◌, ◌/◌, ◌%◌, ◌<◌, min, Bool, true, false, ◌&&◌, ltb, leb, refl, ◌∙◌, ap₂, arith, ltb-false, ltb-true, le-ltb, lt-ltb, le-leb, leb-false, leb-true}
 use lib.Bits.{bit_or, or_add_and, and_le_l, and_le_r, or_lt}
 use Rattle.laws.proofs.Tests.{same_test}
 use Rattle.measures.specs.Ranges.{Range, is_in, premiums, offers}

@@ -1,7 +1,6 @@
 -- The tests of a rule's two numbers, part by part, as code runs them. Assumes nothing.
 use Rattle.std.proofs.Common.{◌≡◌, ℕ, zero, suc, ◌+◌, ◌-◌, ◌/◌, ◌%◌, ◌^◌, ◌<◌, ◌≤◌, Bool, true, false, cond, ◌&&◌, eqb, ltb, leb, List, [], ◌∷◌, length, get_or, drop, sym, refl, ap, ◌∙◌, ap₂, zero-le, le_trans, le_refl, lt_of_le_of_lt, mod-lt, arith, pow_pos, eq-eqb, ne_eqb, eqb-true, le-leb, leb-false, leb-true}
 use mathlib.Core.Bool.{and-true, and_comm}
-use lib.Dec.{leb-suc-suc}
 use borrow.Author.Tests.{lt-leb}
 use Rattle.laws.proofs.Tests.{and_l, and_r, and_i, same_test}
 use Rattle.laws.specs.Lists.{same}

@@ -1,5 +1,5 @@
 -- The tables of rules and entries are exact, and their numbers are a count and the places. Assumes nothing.
-use Rattle.std.proofs.Common.{◌≡◌, ℕ, ◌*◌, ◌≤◌, Bool, true, ◌&&◌, leb, List, ◌∷◌, length, get_or, take, drop, refl}
+use Rattle.std.proofs.Common.{◌≡◌, ℕ, ◌*◌, ◌≤◌, ◌&&◌, leb, List, ◌∷◌, length, get_or, take, drop, refl}
 use Rattle.shapes.specs.Shape.{Exact, cell, coded, both, named, rows, table as counted}
 use Rattle.shapes.proofs.Exact.{coded-exact, table-exact}
 use Rattle.rules.specs.declared.Rule.{Rule}

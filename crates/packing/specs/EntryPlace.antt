@@ -1,6 +1,6 @@
 -- A log entry in two numbers. Assumes nothing.
 use Rattle.std.specs.Prelude.{ℕ, ◌/◌, ◌%◌, Bool, cond, ◌&&◌, List, [], ◌∷◌, ◌==◌, nat_lt, slice_index}
-use Rattle.measures.specs.Ranges.{is_in, times, units, premiums, offers}
+use Rattle.measures.specs.Ranges.{is_in, premiums, offers}
 use Rattle.bits.specs.Fields.{packed, unpacked}
 use Rattle.machine.specs.Entries.{is_entry}
 use Rattle.machine.specs.declared.Entry.{Entry}

@@ -3,23 +3,20 @@ use Rattle.std.proofs.Common.{le_refl, arith}
 use Rattle.bits.specs.Fields.{total, packed, Fit}
 use Rattle.packing.specs.EntryPlace.{amount_widths, amount_values}
 use Rattle.packing.proofs.EntryPlace.{amount-fit}
-use Rattle.packing.proofs.words.amount_word.Statement.{statement}
-use Rattle.packing.proofs.words.amount_word.Tie as tie
+use Rattle.packing.proofs.words.amount_word.Goals.{Start}
+use Rattle.packing.proofs.words.amount_word.Goals as goal
 
-fit : (c : tie.Start) → Fit amount_widths (amount_values c.args.e)
+fit : (c : Start) → Fit amount_widths (amount_values c.args.e)
 fit c = amount-fit 64 c.args.e (le_refl 64) c.requires
 
-mul-result : tie.Need-overflow-mul-result
+pub overflow_mul-result : goal.overflow_mul-result
 unfolding Fit amount_values
-mul-result c = omega (arith, fit c.before)
+overflow_mul-result c = omega (arith, fit (goal.at.overflow_mul-result c).Start)
 
-add-result : tie.Need-overflow-add-result
+pub overflow_add-result : goal.overflow_add-result
 unfolding Fit amount_values
-add-result c = omega (arith, fit c.before.before)
+overflow_add-result c = omega (arith, fit (goal.at.overflow_add-result c).Start)
 
-returns : tie.Need-returns
+pub returns : goal.returns
 unfolding packed total amount_values
 returns c = omega arith
-
-pub amount-word-spec : {M : Type 1} → statement M
-amount-word-spec = tie.close (tie.spec mul-result add-result returns)
