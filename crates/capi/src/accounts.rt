@@ -18,8 +18,7 @@ fn put_applied(m: &mut [u64], account: &mut [u64], e: Event, row: &mut [u64; 5])
 }
 
 // An order: refusal, verdict.
-#[unsafe(no_mangle)]
-pub extern "C" fn mbrumzheg_accounted_order(
+pub fn mbrumzheg_accounted_order(
     m: &mut [u64],
     account: &mut [u64],
     time: u64,
@@ -36,8 +35,7 @@ pub extern "C" fn mbrumzheg_accounted_order(
 }
 
 // A lockout: refusal, verdict.
-#[unsafe(no_mangle)]
-pub extern "C" fn mbrumzheg_accounted_lockout(
+pub fn mbrumzheg_accounted_lockout(
     m: &mut [u64],
     account: &mut [u64],
     time: u64,
@@ -54,8 +52,7 @@ pub extern "C" fn mbrumzheg_accounted_lockout(
 }
 
 // An offered fill: refusal, verdict, grant, root trip, firm trip.
-#[unsafe(no_mangle)]
-pub extern "C" fn mbrumzheg_accounted_offer(
+pub fn mbrumzheg_accounted_offer(
     m: &mut [u64],
     account: &mut [u64],
     time: u64,
@@ -81,8 +78,7 @@ pub extern "C" fn mbrumzheg_accounted_offer(
 }
 
 // An order to be sent away: refusal, verdict.
-#[unsafe(no_mangle)]
-pub extern "C" fn mbrumzheg_accounted_send(
+pub fn mbrumzheg_accounted_send(
     m: &mut [u64],
     account: &mut [u64],
     time: u64,
@@ -114,8 +110,7 @@ pub extern "C" fn mbrumzheg_accounted_send(
 }
 
 // A fill that came back from an away market: refusal, verdict, grant, root trip, firm trip.
-#[unsafe(no_mangle)]
-pub extern "C" fn mbrumzheg_accounted_report(
+pub fn mbrumzheg_accounted_report(
     m: &mut [u64],
     account: &mut [u64],
     time: u64,
@@ -136,8 +131,7 @@ pub extern "C" fn mbrumzheg_accounted_report(
 }
 
 // The order of an identity is closed: refusal, verdict.
-#[unsafe(no_mangle)]
-pub extern "C" fn mbrumzheg_accounted_close(
+pub fn mbrumzheg_accounted_close(
     m: &mut [u64],
     account: &mut [u64],
     time: u64,

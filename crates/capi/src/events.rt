@@ -10,8 +10,7 @@ ghost use Rattle.capi.specs.Rows.{event_fields, fields16_of, writing_row, moving
 use records::{Moving, Writing};
 
 // Reads an event record: refusal, kind, time, root, unit, premium, contracts, reset, level.
-#[unsafe(no_mangle)]
-pub extern "C" fn mbrumzheg_read_record(s: &[u8], row: &mut [u64; 9])
+pub fn mbrumzheg_read_record(s: &[u8], row: &mut [u64; 9])
     ensures { row.new ≡ event_row (read_of s.now) }
 {
     records::read_numbers(s, row)
@@ -19,8 +18,7 @@ pub extern "C" fn mbrumzheg_read_record(s: &[u8], row: &mut [u64; 9])
 
 // Reads an event record of 16 bytes: refusal, kind, time in microseconds, root, unit, premium, contracts, reset, level, identity, reports, and two
 // that are 0.
-#[unsafe(no_mangle)]
-pub extern "C" fn mbrumzheg_read_record16(s: &[u8], row: &mut [u64; 13])
+pub fn mbrumzheg_read_record16(s: &[u8], row: &mut [u64; 13])
     ensures { row.new ≡ event16_row (read16_of s.now) }
 {
     records::read16_numbers(s, row)
@@ -38,8 +36,7 @@ fn put_writing(writing: Writing, row: &mut [u64; 5])
 }
 
 // Writes the record of an event, given by its numbers, to the front of a room: refusal.
-#[unsafe(no_mangle)]
-pub extern "C" fn mbrumzheg_write_record(
+pub fn mbrumzheg_write_record(
     kind: u64,
     time: u64,
     root: u64,
@@ -60,8 +57,7 @@ pub extern "C" fn mbrumzheg_write_record(
 }
 
 // Writes the 16-byte record of an event, given by its numbers, to the front of a room: refusal.
-#[unsafe(no_mangle)]
-pub extern "C" fn mbrumzheg_write_record16(
+pub fn mbrumzheg_write_record16(
     kind: u64,
     time: u64,
     root: u64,
@@ -98,8 +94,7 @@ fn put_moving(moving: Moving, row: &mut [u64; 5])
 }
 
 // Moves a record of 12 bytes to the front of a room, as one of 16: refusal.
-#[unsafe(no_mangle)]
-pub extern "C" fn mbrumzheg_widen(s: &[u8], room: &mut [u8], row: &mut [u64; 5])
+pub fn mbrumzheg_widen(s: &[u8], room: &mut [u8], row: &mut [u64; 5])
     ensures room_after { room.new ≡ moved widening s.now room.old }
     ensures row_after { row.new ≡ moving_row (moving_of widening s.now (length room.old)) }
 {
@@ -108,8 +103,7 @@ pub extern "C" fn mbrumzheg_widen(s: &[u8], room: &mut [u8], row: &mut [u64; 5])
 }
 
 // Moves a record of 16 bytes to the front of a room, as one of 12: refusal.
-#[unsafe(no_mangle)]
-pub extern "C" fn mbrumzheg_narrow(s: &[u8], room: &mut [u8], row: &mut [u64; 5])
+pub fn mbrumzheg_narrow(s: &[u8], room: &mut [u8], row: &mut [u64; 5])
     ensures room_after { room.new ≡ moved narrowing s.now room.old }
     ensures row_after { row.new ≡ moving_row (moving_of narrowing s.now (length room.old)) }
 {

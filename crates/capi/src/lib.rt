@@ -1,4 +1,4 @@
-// The library for C and Rust: numbers and slices in, each answer as a row of numbers, the refusal first. Here the calls on a unit's memory.
+// The calls for C and Rust: numbers and slices in, each answer as a row of numbers, the refusal first. Here the calls on a unit's memory.
 #![tactic(auto)]
 
 ghost use Rattle.std.specs.Prelude.{◌≡◌};
@@ -16,8 +16,7 @@ use machine::Offer;
 use profile::Reading;
 
 // Arms memory from a profile: refusal, line, firm, rules, roots.
-#[unsafe(no_mangle)]
-pub extern "C" fn mbrumzheg_arm(m: &mut [u64], text: &[u8], row: &mut [u64; 5])
+pub fn mbrumzheg_arm(m: &mut [u64], text: &[u8], row: &mut [u64; 5])
     ensures m_after { m.new ≡ arm_memory m.old text.now }
     ensures row_after { row.new ≡ arm_row (arm_answer m.old text.now) }
 {
@@ -29,8 +28,7 @@ pub extern "C" fn mbrumzheg_arm(m: &mut [u64], text: &[u8], row: &mut [u64; 5])
 }
 
 // Sets the state to zeros: refusal.
-#[unsafe(no_mangle)]
-pub extern "C" fn mbrumzheg_clear(m: &mut [u64], row: &mut [u64; 5])
+pub fn mbrumzheg_clear(m: &mut [u64], row: &mut [u64; 5])
     ensures m_after { m.new ≡ clear_memory m.old }
     ensures row_after { row.new ≡ clear_row (clear_answer m.old) }
 {
@@ -42,8 +40,7 @@ pub extern "C" fn mbrumzheg_clear(m: &mut [u64], row: &mut [u64; 5])
 }
 
 // How the roots stand: refusal, tripped, locked by the user, locked at all, the lowest locked root.
-#[unsafe(no_mangle)]
-pub extern "C" fn mbrumzheg_status(m: &[u64], row: &mut [u64; 5])
+pub fn mbrumzheg_status(m: &[u64], row: &mut [u64; 5])
     ensures { row.new ≡ numbers (call_answer m.now Call.status) }
 {
     let answer = calls::status(m);
@@ -61,8 +58,7 @@ pub(crate) fn put_wording(wording: Wording, row: &mut [u64; 5])
 }
 
 // Writes the text for a verdict: refusal, how many bytes.
-#[unsafe(no_mangle)]
-pub extern "C" fn mbrumzheg_text(verdict: u64, room: &mut [u8], row: &mut [u64; 5])
+pub fn mbrumzheg_text(verdict: u64, room: &mut [u8], row: &mut [u64; 5])
     ensures room_after { room.new ≡ text_memory verdict room.old }
     ensures row_after { row.new ≡ text_row (text_answer verdict room.old) }
 {
@@ -71,14 +67,7 @@ pub extern "C" fn mbrumzheg_text(verdict: u64, room: &mut [u8], row: &mut [u64; 
 }
 
 // An order: refusal, verdict.
-#[unsafe(no_mangle)]
-pub extern "C" fn mbrumzheg_order(
-    m: &mut [u64],
-    time: u64,
-    root: u64,
-    reset: u64,
-    row: &mut [u64; 5],
-)
+pub fn mbrumzheg_order(m: &mut [u64], time: u64, root: u64, reset: u64, row: &mut [u64; 5])
     ensures m_after { m.new ≡ call_memory m.old (Call.order time root reset) }
     ensures row_after { row.new ≡ numbers (call_answer m.old (Call.order time root reset)) }
 {
@@ -87,8 +76,7 @@ pub extern "C" fn mbrumzheg_order(
 }
 
 // An offered fill: refusal, verdict, grant, root trip, firm trip.
-#[unsafe(no_mangle)]
-pub extern "C" fn mbrumzheg_offer(
+pub fn mbrumzheg_offer(
     m: &mut [u64],
     time: u64,
     root: u64,
@@ -112,14 +100,7 @@ pub extern "C" fn mbrumzheg_offer(
 }
 
 // A lockout: refusal, verdict.
-#[unsafe(no_mangle)]
-pub extern "C" fn mbrumzheg_lockout(
-    m: &mut [u64],
-    time: u64,
-    level: u64,
-    root: u64,
-    row: &mut [u64; 5],
-)
+pub fn mbrumzheg_lockout(m: &mut [u64], time: u64, level: u64, root: u64, row: &mut [u64; 5])
     ensures m_after { m.new ≡ call_memory m.old (Call.lockout time level root) }
     ensures row_after { row.new ≡ numbers (call_answer m.old (Call.lockout time level root)) }
 {
@@ -128,14 +109,7 @@ pub extern "C" fn mbrumzheg_lockout(
 }
 
 // What remains of a rule's limit: refusal, the number.
-#[unsafe(no_mangle)]
-pub extern "C" fn mbrumzheg_remaining(
-    m: &[u64],
-    time: u64,
-    rule: u64,
-    unit: u64,
-    row: &mut [u64; 5],
-)
+pub fn mbrumzheg_remaining(m: &[u64], time: u64, rule: u64, unit: u64, row: &mut [u64; 5])
     ensures { row.new ≡ numbers (call_answer m.now (Call.remaining time rule unit)) }
 {
     let answer = calls::remaining(m, time, rule, unit);
@@ -143,8 +117,7 @@ pub extern "C" fn mbrumzheg_remaining(
 }
 
 // An order to be sent away: refusal, verdict.
-#[unsafe(no_mangle)]
-pub extern "C" fn mbrumzheg_send(
+pub fn mbrumzheg_send(
     m: &mut [u64],
     time: u64,
     root: u64,
@@ -170,14 +143,7 @@ pub extern "C" fn mbrumzheg_send(
 }
 
 // A fill that came back from an away market: refusal, verdict, grant, root trip, firm trip.
-#[unsafe(no_mangle)]
-pub extern "C" fn mbrumzheg_report(
-    m: &mut [u64],
-    time: u64,
-    identity: u64,
-    contracts: u64,
-    row: &mut [u64; 5],
-)
+pub fn mbrumzheg_report(m: &mut [u64], time: u64, identity: u64, contracts: u64, row: &mut [u64; 5])
     ensures m_after { m.new ≡ call_memory m.old (Call.report time identity contracts) }
     ensures row_after { row.new ≡ numbers (call_answer m.old (Call.report time identity contracts)) }
 {
@@ -186,8 +152,7 @@ pub extern "C" fn mbrumzheg_report(
 }
 
 // The order of an identity is closed: refusal, verdict.
-#[unsafe(no_mangle)]
-pub extern "C" fn mbrumzheg_close(m: &mut [u64], time: u64, identity: u64, row: &mut [u64; 5])
+pub fn mbrumzheg_close(m: &mut [u64], time: u64, identity: u64, row: &mut [u64; 5])
     ensures m_after { m.new ≡ call_memory m.old (Call.close time identity) }
     ensures row_after { row.new ≡ numbers (call_answer m.old (Call.close time identity)) }
 {

@@ -7,8 +7,7 @@ use crate::put_wording;
 use views::{Found, Listing, Told};
 
 // The number of the root that has a name: refusal, the root.
-#[unsafe(no_mangle)]
-pub extern "C" fn mbrumzheg_root_named(m: &[u64], name: &[u8], row: &mut [u64; 5])
+pub fn mbrumzheg_root_named(m: &[u64], name: &[u8], row: &mut [u64; 5])
     ensures { row.new ≡ found_row (root_named m.now name.now) }
 {
     let found = views::root_named(m, name);
@@ -19,8 +18,7 @@ pub extern "C" fn mbrumzheg_root_named(m: &[u64], name: &[u8], row: &mut [u64; 5
 }
 
 // Writes the name of a root: refusal, how many bytes.
-#[unsafe(no_mangle)]
-pub extern "C" fn mbrumzheg_root_name(m: &[u64], root: u64, room: &mut [u8], row: &mut [u64; 5])
+pub fn mbrumzheg_root_name(m: &[u64], root: u64, room: &mut [u8], row: &mut [u64; 5])
     ensures room_after { room.new ≡ root_name_room m.now root room.old }
     ensures row_after { row.new ≡ text_row (root_name m.now root room.old) }
 {
@@ -40,8 +38,7 @@ fn put_listing(listing: Listing, row: &mut [u64; 5])
 }
 
 // Writes the profile that the unit runs as text: refusal, the size written, or with 1 for room the size needed.
-#[unsafe(no_mangle)]
-pub extern "C" fn mbrumzheg_profile(m: &[u64], room: &mut [u8], row: &mut [u64; 5])
+pub fn mbrumzheg_profile(m: &[u64], room: &mut [u8], row: &mut [u64; 5])
     ensures room_after { room.new ≡ profile_room m.now room.old }
     ensures row_after { row.new ≡ listing_row (profile_answer m.now room.old) }
 {
@@ -50,8 +47,7 @@ pub extern "C" fn mbrumzheg_profile(m: &[u64], room: &mut [u8], row: &mut [u64; 
 }
 
 // A rule by its number: refusal, type, limit, window, root, unit.
-#[unsafe(no_mangle)]
-pub extern "C" fn mbrumzheg_rule(m: &[u64], rule: u64, row: &mut [u64; 6])
+pub fn mbrumzheg_rule(m: &[u64], rule: u64, row: &mut [u64; 6])
     ensures { row.new ≡ rule_row (rule_told m.now rule) }
 {
     let told = views::rule(m, rule);
