@@ -94,7 +94,7 @@ module _ {A : Type 0} where
   -- some element of a list passes a test
   pub any-by : (p : A → Bool) (xs : List A) → (any_of p xs ≡ true) ↔ ((x : A) × Memᴰ x xs × (p x ≡ true))
   unfolding any_of
-  any-by p xs = (find xs, λ w. held xs w.0 w.1 w.2)
+  any-by p xs = (find xs, λ w. held w.0 xs w.1 w.2)
     where
       find : (xs : List A) → any_of p xs ≡ true → (x : A) × Memᴰ x xs × (p x ≡ true)
       find [] e = absurd (false≢true e)
@@ -105,9 +105,9 @@ module _ {A : Type 0} where
           go true ex ih e = (x, Memᴰ.head refl, ex)
           go false ex ih e = let w = ih e in (w.0, Memᴰ.tail w.1, w.2)
 
-      held : (xs : List A) (x : A) → Memᴰ x xs → p x ≡ true → any_of p xs ≡ true
-      held xs x (Memᴰ.head e) h = rw (← e, h)
-      held xs x (Memᴰ.tail {x = y} {xs = ys} m) h = rw (held ys x m h) (or-true (p y))
+      held : (x : A) (xs : List A) → Memᴰ x xs → p x ≡ true → any_of p xs ≡ true
+      held x xs (Memᴰ.head e) h = rw (← e, h)
+      held x xs (Memᴰ.tail {x = y} {xs = ys} m) h = rw (held x ys m h) (or-true (p y))
 
   pub all-get : (P : A → Type 0) (xs : List A) (i : ℕ) (d : A) → i < length xs → All P xs → P (get_or xs i d)
   all-get P [] i d h a = absurd (omega arith)

@@ -59,20 +59,25 @@ module _ (deeds : List Deed) (o : Offer) (n : ℕ) where
       → covers_offer o rule ≡ true
       → counted_in (of_unit rule o.unit) (filling granted o n ∷ deeds) o.time ≤ ceiling rule.limit
   unfolding keep
-  granted-within rules keeps rule (Memᴰ.head {x = first} {xs = rest} e) covered =
-      let its : covers_offer o first ≡ true = ap (covers_offer o) (sym e) ∙ covered in
-      let kept = rw its at keeps in
-      subst⁻¹ (λ (r : Rule). counted_in (of_unit r o.unit) (filling granted o n ∷ deeds) o.time ≤ ceiling r.limit) e
-      (omega (arith, counted-then first, kept.0))
-  granted-within rules keeps rule (Memᴰ.tail {x = first} {xs = rest} m) covered =
-      granted-within rest (go (covers_offer o first) (keep (covers_offer o) rest) keeps) rule m covered
+  granted-within rules keeps rule m covered = each rule rules keeps m covered
     where
       limit : Rule → Limit × ℕ
       limit r = (r.limit, counted_in (of_unit r o.unit) deeds o.time)
 
-      go : (b : Bool) (more : List Rule) → KeepsAll (map limit (cond b (first ∷ more) more)) o.premium n → KeepsAll (map limit more) o.premium n
-      go true more h = h.1
-      go false more h = h
+      go : (first : Rule) (b : Bool) (more : List Rule) → KeepsAll (map limit (cond b (first ∷ more) more)) o.premium n → KeepsAll (map limit more) o.premium n
+      go first true more h = h.1
+      go first false more h = h
+
+      each : (rule : Rule) (rules : List Rule) → KeepsAll (limits_in rules deeds o) o.premium n → Memᴰ rule rules
+          → covers_offer o rule ≡ true
+          → counted_in (of_unit rule o.unit) (filling granted o n ∷ deeds) o.time ≤ ceiling rule.limit
+      each rule rules keeps (Memᴰ.head {x = first} {xs = rest} e) covered =
+          let its : covers_offer o first ≡ true = ap (covers_offer o) (sym e) ∙ covered in
+          let kept = rw its at keeps in
+          subst⁻¹ (λ (r : Rule). counted_in (of_unit r o.unit) (filling granted o n ∷ deeds) o.time ≤ ceiling r.limit) e
+          (omega (arith, counted-then first, kept.0))
+      each rule rules keeps (Memᴰ.tail {x = first} {xs = rest} m) covered =
+          each rule rest (go first (covers_offer o first) (keep (covers_offer o) rest) keeps) m covered
 
 -- a grant trips a level
 abbrev tripped : List Rule → List Deed → Offer → ℕ → Level → Bool
