@@ -1,7 +1,7 @@
 -- An event's values in the other form: they are an event's there, and come back as they were. Assumes nothing.
 use Prim.Native.Nat.{ℕ, ◌*◌, ◌/◌, ◌%◌, ◌≤◌, zero-le}
 use mathlib.Core.Path.{◌≡◌, refl, ◌∙◌}
-use mathlib.Core.Bool.{true, false, false≢true}
+use mathlib.Core.Bool.{true, false≢true}
 use native.Mathlib.Nat.{mul-mod_left, mul-div_cancel, div-add-mod'}
 use native.Mathlib.Omega.{arith}
 use lib.ListN.{get_or}

@@ -7,8 +7,6 @@ use lib.ListN.{length, get_or, drop}
 use borrow.Author.Tests.{le-leb, lt-leb}
 use Rattle.bits.specs.Fields.{fields_of, bytes_of}
 use Rattle.records.specs.Form.{accepts, event_at, stands}
-use Rattle.records.specs.declared.Event.{Event}
-use Rattle.records.specs.declared.Event16.{Event16}
 use Rattle.records.specs.declared.Moving.TheVariants.{Done, Faulty, Unfit, Short}
 use Rattle.records.specs.Event.{widths, event_of, form}
 use Rattle.records.specs.Event16.{widths16, values16_of, is_valid16, form16}

@@ -6,6 +6,7 @@ ghost use Rattle.records.specs.Event16.{event16_of, away_event_of};
 use crate::{Event, Event16};
 
 // The event that the values of the fields stand for, by their kind.
+#[tactic(auto, unfolding(crate::specs::Event::event_of))]
 pub(crate) fn event_of(v: &[u64; 9]) -> Event
     ensures { result ≡ event_of v.now }
 {
@@ -34,6 +35,7 @@ pub(crate) fn event_of(v: &[u64; 9]) -> Event
 }
 
 // The event that the values of 16 bytes' fields stand for, by their kind.
+#[tactic(auto, unfolding(crate::specs::Event16::event16_of, crate::specs::Event16::away_event_of))]
 pub(crate) fn event16_of(v: &[u64; 11]) -> Event16
     ensures { result ≡ event16_of v.now }
 {
@@ -66,6 +68,7 @@ pub(crate) fn event16_of(v: &[u64; 11]) -> Event16
 }
 
 // The same of what goes away: a sending, its report, its closing.
+#[tactic(auto, unfolding(crate::specs::Event16::away_event_of))]
 fn away(
     kind: u64,
     time: u64,

@@ -119,6 +119,7 @@ pub(crate) const WIDTHS: [u64; 9] = [2, 27, 6, 2, 27, 20, 2, 1, 9];
 const FAULTY: [u64; 9] = [16, 0, 0, 0, 0, 0, 0, 0, 0];
 
 // The values of an event's fields.
+#[tactic(auto, unfolding(crate::specs::Event::values_of))]
 pub fn values_of(e: Event) -> [u64; 9]
     ensures { result ≡ values_of e }
 {

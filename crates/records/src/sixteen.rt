@@ -14,6 +14,7 @@ pub(crate) const WIDTHS16: [u64; 11] = [4, 37, 6, 2, 27, 20, 4, 1, 16, 5, 6];
 const FAULTY16: [u64; 13] = [16, 0, 0, 0, 0, 0, 0, 0, 0, 0, 0, 0, 0];
 
 // The values of an event's fields.
+#[tactic(auto, unfolding(crate::specs::Event16::values16_of))]
 pub fn values16_of(e: Event16) -> [u64; 11]
     ensures { result ≡ values16_of e }
 {
