@@ -1,12 +1,11 @@
 -- The entries inside a window, in order of time: the last ones, which go to the front. Assumes nothing.
-use Prim.Native.Nat.{ℕ, ◌+◌, ◌*◌, ◌-◌, ◌≤◌, ◌<◌}
+use Prim.Native.Nat.{ℕ, ◌+◌, ◌*◌, ◌-◌, ◌≤◌}
 use mathlib.Core.Path.{◌≡◌, refl, sym, ap, ◌∙◌}
 use mathlib.Core.Bool.{true}
 use mathlib.Core.List.{List, [], ◌∷◌, ◌++◌, append_assoc, append-nil}
-use native.Mathlib.Numerals.{add-one}
 use native.Mathlib.Omega.{arith}
-use lib.ListN.{length, get_or, take, drop, set, length-append, length-drop, take-append-drop, drop_of_length-le}
-use lib.Seq.{take_at, drop_at, take-suc, length-take-le, get_or-append-add, get_or-drop}
+use lib.ListN.{length, take, drop, length-append, length-drop, take-append-drop, drop_of_length-le}
+use lib.Seq.{take_at, drop_at, length-take-le}
 use Rattle.laws.proofs.Tests.{and_l, and_r}
 use Rattle.tables.specs.Inner.Tables.{zeros, flat, table_numbers}
 use Rattle.packing.specs.EntryPlace.{entry_numbers, log_table}
@@ -28,7 +27,7 @@ use Rattle.daylog.proofs.Logs.{codec, held-valid, held-table}
 use Rattle.daylog.proofs.Newest.{newest-many, newest-kept, few-looked-at}
 use Rattle.daylog.proofs.Readings.{keep-many}
 use Rattle.daylog.proofs.Sifting.{still-counts}
-use Rattle.daylog.proofs.Turns.{flat_append, more}
+use Rattle.daylog.proofs.Turns.{flat_append}
 
 -- the entries that still count for a kind at a time are those that are not before the first time that does
 counts-since : (kind : Kind) (time : ℕ) (es : List Entry) → every (is_entry 64) es ≡ true → keep (λ e. counts kind e.time time) es ≡ keep (is_since (first_time kind time)) es

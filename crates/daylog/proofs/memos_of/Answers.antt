@@ -2,15 +2,11 @@
 use mathlib.Core.Path.{refl}
 use Rattle.daylog.specs.Inner.Memo.{no_memo}
 use Rattle.daylog.proofs.Memos.{none_right, none_passed}
-use Rattle.daylog.proofs.memos_of.Statement.{statement}
-use Rattle.daylog.proofs.memos_of.Tie as tie
+use Rattle.daylog.proofs.memos_of.Goals as goal
 
-returns : tie.Need-returns
+pub returns : goal.returns
 unfolding no_memo
 returns c = (
   λ es is. record { last = none_right es; other = none_right es; last-passed = none_passed es; other-passed = none_passed es; read = is },
   refl,
 )
-
-pub memos-of-spec : {M : Type 1} → statement M
-memos-of-spec = tie.close (tie.spec returns)

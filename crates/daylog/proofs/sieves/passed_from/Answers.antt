@@ -14,9 +14,7 @@ use Rattle.daylog.specs.Newest.{newest}
 use Rattle.daylog.specs.Inner.Log.{entries_of}
 use Rattle.daylog.specs.Inner.Memo.{reading_since, Passed}
 use Rattle.daylog.proofs.Memos.{passed-many}
-use borrow.Author.Rules.{rules}
-use Rattle.daylog.proofs.sieves.passed_from.Statement.{statement}
-use Rattle.daylog.proofs.sieves.passed_from.Tie as tie
+use Rattle.daylog.proofs.sieves.passed_from.Goals as goal
 
 -- a memo with the first time says so
 told : (es : List Entry) (clock : ℕ) → are_ordered 0 clock es ≡ true → (m : Memo) (from : ℕ) → Passed es m → {b : Bool} → b ≡ (ltb 0 m.mask && eqb m.from from)
@@ -27,44 +25,20 @@ told es clock ordered m from right is taken =
     let same = eqb-true m.from from (and_r (ltb 0 m.mask) (eqb m.from from) both) in
     right some ∙ ap (λ (n : ℕ). reading_since n es) same ∙ passed-many from clock es ordered
 
-returns : tie.Need-returns
-returns c =
-    let s = c.before.before.before.before.before.before in
+pub returns-then-read-from : goal.returns-then-read-from
+returns-then-read-from c =
+    let s = c in
     let es = entries_of s.args.k s.args.log.now in
-    s.requires.2.read ∙ ap (λ (n : ℕ). reading_since n es) c.if1.true ∙ passed-many s.args.from s.requires.3.0 es s.requires.3.1
+    s.requires.2.read ∙ ap (λ (n : ℕ). reading_since n es) c.if-read-from.true ∙ passed-many s.args.from s.requires.3.0 es s.requires.3.1
 
-has-read-requires : tie.Need-has-read-requires
-has-read-requires c κs = search rules
-
-returns-2 : tie.Need-returns-2
-returns-2 c =
-    let s = c.before.before.before.before.before.before.before.before in
+pub returns-then-has_read : goal.returns-then-has_read
+returns-then-has_read c =
+    let s = c in
     let es = entries_of s.args.k s.args.log.now in
-    told es s.requires.3.0 s.requires.3.1 s.args.before.last s.args.from s.requires.2.last-passed c.before.has-read.ensures c.if2.true
+    told es s.requires.3.0 s.requires.3.1 s.args.before.last s.args.from s.requires.2.last-passed c.has_read.ensures c.if-has_read.true
 
-has-read-requires-2 : tie.Need-has-read-requires-2
-has-read-requires-2 c κs = search rules
-
-returns-3 : tie.Need-returns-3
-returns-3 c =
-    let s = c.before.before.before.before.before.before.before.before.before.before in
+pub returns-then-has_read-2 : goal.returns-then-has_read-2
+returns-then-has_read-2 c =
+    let s = c in
     let es = entries_of s.args.k s.args.log.now in
-    told es s.requires.3.0 s.requires.3.1 s.args.before.other s.args.from s.requires.2.other-passed c.before.has-read2.ensures c.if3.true
-
-since-requires : tie.Need-since-requires
-since-requires c κs = search rules
-
-returns-4 : tie.Need-returns-4
-returns-4 c = search rules
-
-pub passed-from-spec : {M : Type 1} → statement M
-passed-from-spec =
-    tie.close
-    (tie.spec
-    returns
-    has-read-requires
-    returns-2
-    has-read-requires-2
-    returns-3
-    since-requires
-    returns-4)
+    told es s.requires.3.0 s.requires.3.1 s.args.before.other s.args.from s.requires.2.other-passed c.has_read-2.ensures c.if-has_read-2.true
