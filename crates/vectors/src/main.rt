@@ -2,34 +2,14 @@
 // place, the refusal number, what it is, and whether it came back.
 #![tactic(auto)]
 
-use libc::{STDIN_FILENO, STDOUT_FILENO};
 use records::{Event16, Moving, Reading16};
+use std::io;
+use std::io::Read;
 
-fn print(text: &[u8]) -> bool {
-    io::write_all(STDOUT_FILENO, text)
-}
-
-// A space, a word, a space and a number.
-fn print_field(name: &[u8], n: u64) -> bool {
-    print(b" ") & print(name) & print(b" ") & io::print_decimal(STDOUT_FILENO, n)
-}
-
-// What an offer and an order sent away both have.
-fn print_trade(time: u64, root: u64, unit: u64, premium: u64, contracts: u64) -> bool {
-    print_field(b"time", time)
-        & print_field(b"root", root)
-        & print_field(b"unit", unit)
-        & print_field(b"premium", premium)
-        & print_field(b"contracts", contracts)
-}
-
-fn print_event(e: Event16) -> bool {
+fn print_event(rt: &impl Print, e: Event16) -> io::Result<()> {
     match e {
         Event16::Order { time, root, reset } => {
-            print(b" order")
-                & print_field(b"time", time)
-                & print_field(b"root", root)
-                & print_field(b"reset", reset)
+            print!(rt; " order time {time} root {root} reset {reset}")
         }
         Event16::Offer {
             time,
@@ -37,12 +17,13 @@ fn print_event(e: Event16) -> bool {
             unit,
             premium,
             contracts,
-        } => print(b" offer") & print_trade(time, root, unit, premium, contracts),
+        } => {
+            print!(rt;
+                " offer time {time} root {root} unit {unit} premium {premium} contracts {contracts}"
+            )
+        }
         Event16::Lockout { time, level, root } => {
-            print(b" lockout")
-                & print_field(b"time", time)
-                & print_field(b"level", level)
-                & print_field(b"root", root)
+            print!(rt; " lockout time {time} level {level} root {root}")
         }
         Event16::Sending {
             time,
@@ -53,85 +34,86 @@ fn print_event(e: Event16) -> bool {
             identity,
             reports,
         } => {
-            print(b" sending")
-                & print_trade(time, root, unit, premium, contracts)
-                & print_field(b"identity", identity)
-                & print_field(b"reports", reports)
+            print!(rt;
+                " sending time {time} root {root} unit {unit} premium {premium} contracts {contracts}"
+            )?;
+            print!(rt; " identity {identity} reports {reports}")
         }
         Event16::Report {
             time,
             identity,
             contracts,
-        } => {
-            print(b" report")
-                & print_field(b"time", time)
-                & print_field(b"identity", identity)
-                & print_field(b"contracts", contracts)
-        }
+        } => print!(rt; " report time {time} identity {identity} contracts {contracts}"),
         Event16::Closing { time, identity } => {
-            print(b" closing") & print_field(b"time", time) & print_field(b"identity", identity)
+            print!(rt; " closing time {time} identity {identity}")
         }
     }
 }
 
 // Prints whether an event's record is the bytes that it was read from.
-fn print_again(e: Event16, s: &[u8]) -> bool {
+fn print_again(rt: &impl Print, e: Event16, s: &[u8]) -> io::Result<()> {
     let mut again = [0u8; records::BYTES16];
     records::write16(e, &mut again);
-    if check::same(s, &again) {
-        print(b", written again as the same bytes")
+    if s == again.as_slice() {
+        print!(rt; ", written again as the same bytes")
     } else {
-        print(b", NOT written again as the same bytes")
+        print!(rt; ", NOT written again as the same bytes")
     }
 }
 
 // Prints whether a record of 12 bytes that s was moved to comes back as s.
-fn print_back(old: &[u8], s: &[u8]) -> bool {
+fn print_back(rt: &impl Print, old: &[u8], s: &[u8]) -> io::Result<()> {
     let mut again = [0u8; records::BYTES16];
     records::widen(old, &mut again);
-    if check::same(s, &again) {
-        print(b", moved to 12 bytes and back\n")
+    if s == again.as_slice() {
+        println!(rt; ", moved to 12 bytes and back")
     } else {
-        print(b", NOT moved to 12 bytes and back\n")
+        println!(rt; ", NOT moved to 12 bytes and back")
     }
 }
 
 // Moves a record to 12 bytes and back, or prints the number by which that is refused.
-fn print_moved(s: &[u8]) -> bool {
+fn print_moved(rt: &impl Print, s: &[u8]) -> io::Result<()> {
     let mut old = [0u8; records::BYTES];
     let moving = records::narrow(s, &mut old);
     match moving {
-        Moving::Done => print_back(&old, s),
-        Moving::Faulty => print(b", 16 when moved\n"),
-        Moving::Unfit => print(b", 20 when moved\n"),
-        Moving::Short => print(b", 1 when moved\n"),
+        Moving::Done => print_back(rt, &old, s),
+        Moving::Faulty => println!(rt; ", 16 when moved"),
+        Moving::Unfit => println!(rt; ", 20 when moved"),
+        Moving::Short => println!(rt; ", 1 when moved"),
     }
 }
 
-fn print_line(place: u64, s: &[u8]) -> bool {
-    if !io::print_decimal(STDOUT_FILENO, place) {
-        return false;
-    }
+fn print_line(rt: &impl Print, place: u64, s: &[u8]) -> io::Result<()> {
     let reading = records::read16(s);
     match reading {
-        Reading16::Is(e) => print(b" 0") & print_event(e) & print_again(e, s) & print_moved(s),
-        Reading16::Faulty => print(b" 16 no record of a valid event") & print_moved(s),
+        Reading16::Is(e) => {
+            print!(rt; "{place} 0")?;
+            print_event(rt, e)?;
+            print_again(rt, e, s)?;
+        }
+        Reading16::Faulty => print!(rt; "{place} 16 no record of a valid event")?,
     }
+    print_moved(rt, s)
 }
 
 // Reads one record and prints its line; answers whether there may be another.
-fn next(place: u64) -> bool {
+fn next(rt: &impl Print, input: &mut impl Read, place: u64) -> io::Result<bool> {
     let mut s = [0u8; records::BYTES16];
-    let n = io::read_full(STDIN_FILENO, &mut s);
+    let n = inputs::read_full(input, &mut s)?;
     if n == 0 {
-        return false;
+        return Ok(false);
     }
-    print_line(place, &s[..n])
+    print_line(rt, place, &s[..n])?;
+    Ok(true)
 }
 
-fn main() {
-    let mut place: u64 = 1;
-    while place < u64::MAX && next(place) {
-        place += 1;
+fn main(rt: HostRuntime) -> io::Result<()> {
+    let mut input = rt.stdin();
+    for place in 1..u64::MAX {
+        if !next(&rt, &mut input, place)? {
+            break;
+        }
     }
+    Ok(())
 }
