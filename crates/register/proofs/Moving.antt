@@ -1,11 +1,10 @@
 -- Numbers that have gone two places up, and the two that become 0. Assumes nothing.
-use Prim.Native.Nat.{ℕ, suc, ◌+◌, ◌-◌, ◌<◌}
+use Prim.Native.Nat.{ℕ, ◌+◌}
 use mathlib.Core.Path.{◌≡◌, sym, ap, ◌∙◌}
 use mathlib.Core.List.{List, [], ◌∷◌, ◌++◌}
-use native.Mathlib.Numerals.{add-one}
 use native.Mathlib.Omega.{arith}
 use lib.ListN.{length, get_or, take, drop, set, length-append, length-drop, drop_of_length-le}
-use lib.Seq.{take_all, take-suc, drop-cons, append_snoc, set_at, get_or-append-add, get_or-drop, length-take-le}
+use lib.Seq.{take_all, append_snoc, set_at}
 use Rattle.tables.specs.Inner.Tables.{zeros}
 use Rattle.packing.proofs.Parts.{two}
 

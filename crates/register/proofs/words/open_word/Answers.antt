@@ -5,23 +5,20 @@ use Rattle.bits.specs.Fields.{total, packed, Fit}
 use Rattle.packing.specs.EntryPlace.{amount_widths}
 use Rattle.register.specs.SentPlace.{open_values}
 use Rattle.register.proofs.SentPlace.{open-fit}
-use Rattle.register.proofs.words.open_word.Statement.{statement}
-use Rattle.register.proofs.words.open_word.Tie as tie
+use Rattle.register.proofs.words.open_word.Goals.{Start}
+use Rattle.register.proofs.words.open_word.Goals as goal
 
-fit : (c : tie.Start) → Fit amount_widths (open_values c.args.sent)
+fit : (c : Start) → Fit amount_widths (open_values c.args.sent)
 fit c = open-fit 64 c.args.sent (le_refl 64) c.requires
 
-mul-result : tie.Need-overflow-mul-result
+pub overflow_mul-result : goal.overflow_mul-result
 unfolding Fit open_values
-mul-result c = omega (arith, fit c.before)
+overflow_mul-result c = omega (arith, fit (goal.at.overflow_mul-result c).Start)
 
-add-result : tie.Need-overflow-add-result
+pub overflow_add-result : goal.overflow_add-result
 unfolding Fit open_values
-add-result c = omega (arith, fit c.before.before)
+overflow_add-result c = omega (arith, fit (goal.at.overflow_add-result c).Start)
 
-returns : tie.Need-returns
+pub returns : goal.returns
 unfolding packed total open_values
 returns c = omega arith
-
-pub open-word-spec : {M : Type 1} → statement M
-open-word-spec = tie.close (tie.spec mul-result add-result returns)

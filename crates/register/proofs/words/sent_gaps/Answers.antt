@@ -1,0 +1,9 @@
+-- `register::words::sent_gaps` meets its contract: a gap for each test, joined. Assumes nothing.
+use Rattle.register.specs.SentPlace.{sent_gaps}
+use Rattle.register.proofs.words.sent_gaps.Goals as goal
+
+pub returns : goal.returns
+unfolding sent_gaps
+returns c =
+    let third = c in
+    rw (third.gap.ensures, third.gap-2.ensures, third.gap-3.ensures, c.gap-4.ensures, c.gap-5.ensures, c.gap-6.ensures, third.few.ensures)
