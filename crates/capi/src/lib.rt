@@ -1,4 +1,4 @@
-// The calls for C and Rust: numbers and slices in, each answer as a row of numbers, the refusal first. Here the calls on a unit's memory.
+// The calls for C and Rust, which `capi_c` exports: numbers and slices in, each answer as a row of numbers, the refusal first. Here the calls on a unit's memory.
 #![tactic(auto)]
 
 ghost use Rattle.std.specs.Prelude.{◌≡◌};
