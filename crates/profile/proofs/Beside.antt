@@ -1,5 +1,5 @@
 -- What a text gives beside a firm that has a name already. Assumes nothing.
-use Prim.Native.Nat.{ℕ, zero, suc, ◌+◌}
+use Prim.Native.Nat.{ℕ}
 use native.Mathlib.Omega.{arith}
 use mathlib.Core.Path.{◌≡◌, refl, sym, ap, ◌∙◌}
 use mathlib.Core.Bool.{Bool, true, false, not, cond, false≢true}
@@ -9,15 +9,13 @@ use lib.Dec.{eqb, leb}
 use borrow.Author.Tests.{eq-eqb, ne_eqb, eqb-true, leb-true}
 use Rattle.laws.proofs.Tests.{and_l}
 use Rattle.measures.specs.Ranges.{◌to◌, is_in}
-use Rattle.rules.specs.declared.Rule.{Rule}
 use Rattle.text.specs.Text.{lines}
 use Rattle.line.specs.Line.{firm_in, type_in, limit_in, time_in, root_in, is_firm_level, call_put, month, malformed, other_firm, out_of_range, level_clash, unit_clash, fault_of, rule_of, line_of}
 use Rattle.line.specs.declared.Line.TheVariants.{Is, Refused as Faulty}
 use Rattle.text.proofs.Lists.{line-here}
 use Rattle.text.proofs.Numerals.{name-zero}
 use Rattle.text.specs.Text.{is_name, made}
-use Rattle.profile.specs.Profile.{Outcome, after_line, read_on, start_of, outcome_of, reading_of, roots_table, scan_of, firm_beside, outcome_beside, scan_beside}
-use Rattle.profile.specs.declared.Scan.{Scan}
+use Rattle.profile.specs.Profile.{Outcome, after_line, read_on, start_of, outcome_of, scan_of, firm_beside, outcome_beside, scan_beside}
 use Rattle.profile.specs.Inner.Lawful.{IsNameNumber}
 use Rattle.profile.proofs.Laws.{first-named, accepted-firm}
 

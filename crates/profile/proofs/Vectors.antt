@@ -45,7 +45,7 @@ texts =
     ∷ (bytes "ABCD,abs_vol,XYZ,1000,0\n", Accepted 0x41424344 1 1)
     ∷ (bytes "ABCD,abs_vol,XYZ,1000,0\n\n", Refused 6 2)
     ∷ (bytes "\n", Refused 6 1)
-    ∷ (bytes "\n_a,abs_vol,Q,5", Refused 6 1)
+    ∷ (bytes "\nA,abs_vol,Q,5", Refused 6 1)
     -- 5: no byte, and one too many
     ∷ ([], Refused 5 0)
     ∷ (replicate 65_537 10, Refused 5 0)
@@ -60,24 +60,24 @@ texts =
     ∷ (bytes "A,abs_vol,Q,5,\r\n", Accepted 65 1 1)
     ∷ (bytes "A,rate_vol,Q,5,\r\n", Refused 6 1)
     -- 7: the firm of a later line
-    ∷ (bytes "A,abs_vol,Q,5\n_b,abs_vol,Q,5\n_b,abs_vol,Q,5", Refused 7 2)
-    ∷ (bytes "A,abs_vol,Q,5\n_a,abs_vol,Q,5\n_aa,abs_vol,Q,0", Refused 7 3)
-    ∷ (bytes "A,abs_vol,Q,5\n_b,abs_vol,Q,x", Refused 6 2)
+    ∷ (bytes "A,abs_vol,Q,5\nB,abs_vol,Q,5\nB,abs_vol,Q,5", Refused 7 2)
+    ∷ (bytes "A,abs_vol,Q,5\nA,abs_vol,Q,5\nAA,abs_vol,Q,0", Refused 7 3)
+    ∷ (bytes "A,abs_vol,Q,5\nB,abs_vol,Q,x", Refused 6 2)
     -- 8: limits and windows
     ∷ (bytes "A,abs_vol,Q,0", Refused 8 1)
     ∷ (bytes "A,abs_count,Q,1000000001", Refused 8 1)
-    ∷ (bytes "A,abs_ntnl,Q,100000000000\n_a,abs_ntnl,Q,100000000001", Refused 8 2)
-    ∷ (bytes "A,rate_vol,Q,5,86400000\n_a,rate_vol,Q,5,86400001", Refused 8 2)
+    ∷ (bytes "A,abs_ntnl,Q,100000000000\nA,abs_ntnl,Q,100000000001", Refused 8 2)
+    ∷ (bytes "A,rate_vol,Q,5,86400000\nA,rate_vol,Q,5,86400001", Refused 8 2)
     -- 9 and 10: levels and units; the first faulty line decides, and the lowest number in it
     ∷ (bytes "A,abs_vol,Q,5,,T", Refused 9 1)
     ∷ (bytes "A,abs_vol,,5,,F", Refused 9 1)
     ∷ (bytes "A,abs_vol,Q,5,,T,C", Refused 9 1)
-    ∷ (bytes "A,abs_vol,Q,5,,,C\n_a,abs_vol", Refused 10 1)
-    ∷ (bytes "A,abs_vol,Q,5\n_a,abs_vol,,5,,T,C,F", Refused 10 2)
+    ∷ (bytes "A,abs_vol,Q,5,,,C\nA,abs_vol", Refused 10 1)
+    ∷ (bytes "A,abs_vol,Q,5\nA,abs_vol,,5,,T,C,F", Refused 10 2)
     -- equal rules, rules of the firm alone, and roots by first appearance
-    ∷ (bytes "A,abs_vol,Q,5\n_a,abs_vol,Q,5", Accepted 65 2 1)
+    ∷ (bytes "A,abs_vol,Q,5\nA,abs_vol,Q,5", Accepted 65 2 1)
     ∷ (bytes "A,abs_vol,,5,,T", Accepted 65 1 0)
-    ∷ (bytes "A,abs_vol,Q,5\n_a,abs_vol,P,5\n_a,abs_vol,Q,5", Accepted 65 3 2)
+    ∷ (bytes "A,abs_vol,Q,5\nA,abs_vol,P,5\nA,abs_vol,Q,5", Accepted 65 3 2)
     -- 11: firm rules
     ∷ (times 10 "A,abs_vol,,5,,T\n", Accepted 65 10 0)
     ∷ (times 11 "A,abs_vol,,5,,T\n", Refused 11 11)
@@ -98,7 +98,7 @@ texts =
 
 -- the rules of the roots Q and P and of the firm, in this order
 abbrev mixed : List ℕ
-mixed = bytes "A,abs_vol,Q,5\n_a,abs_vol,,5,,T\n_a,abs_vol,P,5,,,P,T\n_a,abs_vol,Q,5,,,C,F"
+mixed = bytes "A,abs_vol,Q,5\nA,abs_vol,,5,,T\nA,abs_vol,P,5,,,P,T\nA,abs_vol,Q,5,,,C,F"
 
 right : (map (λ t. reading_of (outcome_of t.0)) texts ≡ map (λ t. t.1) texts)
     × (map (λ rule. rule.scope) (outcome_of mixed).profile.rules ≡ WholeRoot 0 ∷ EveryFill ∷ OneUnit 1 3 ∷ OneUnit 0 0 ∷ [])

@@ -29,7 +29,7 @@ example = record {
       ∷ [];
 }
 
-written : text_of example ≡ bytes "ABCD,abs_vol,XYZ,1000\n_abcd,rate_ntnl,Q1,1000,60000,,P,T\n_abcd,abs_count,XYZ,10,,,C,F\n_abcd,rate_count,,10,100,T\n"
+written : text_of example ≡ bytes "ABCD,abs_vol,XYZ,1000\nABCD,rate_ntnl,Q1,1000,60000,,P,T\nABCD,abs_count,XYZ,10,,,C,F\nABCD,rate_count,,10,100,T\n"
 unfolding numeral digits_up_to name_bytes decimal type_name limit_text window_text root_text level_text call_put_text month_text field_texts before_fields trimmed with_commas line_text lines_text text_of
 written = refl
 
