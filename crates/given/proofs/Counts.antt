@@ -1,11 +1,11 @@
 -- The tests of the roots' and the rules' tables, by the count in front of them. Assumes nothing.
 use Prim.Native.Nat.{ℕ, ◌≤◌, ◌<◌}
 use mathlib.Core.Path.{◌≡◌, sym, ap, ◌∙◌}
-use mathlib.Core.Bool.{Bool, true, false, not, ◌&&◌}
+use mathlib.Core.Bool.{Bool, true, false, ◌&&◌}
 use mathlib.Core.List.{List}
 use lib.ListN.{get_or, take, drop}
 use lib.Dec.{leb}
-use borrow.Author.Tests.{leb-true, lt-leb, le-leb, not-true, not-false}
+use borrow.Author.Tests.{leb-true, lt-leb, le-leb}
 use Rattle.laws.proofs.Tests.{and_r}
 use Rattle.measures.specs.Ranges.{◌to◌, is_in}
 use Rattle.machine.specs.State.{cells_of}
@@ -29,13 +29,13 @@ module _ (n : ℕ) (xs amounts : List ℕ) (inside : Bool) (is : inside ≡ is_i
   abbrev answer : Bool → Tested
   answer b = tested_of (b && totals_hold (cells_of (rules_of xs)) amounts) (longest (rules_of xs))
 
-  pub rules-out : not inside ≡ true → Fail ≡ answer (rules_hold n xs)
+  pub rules-out : inside ≡ false → Fail ≡ answer (rules_hold n xs)
   unfolding rules_hold
-  rules-out h = ap (λ (a : Bool). answer (a && places_hold n (get_or xs 0 0) (places_of xs))) (sym (sym is ∙ not-true inside h))
+  rules-out h = ap (λ (a : Bool). answer (a && places_hold n (get_or xs 0 0) (places_of xs))) (sym (sym is ∙ h))
 
-  pub rules-few : not inside ≡ false → get_or xs 0 0 ≤ 256
-  rules-few h = leb-true _ _ (and_r (leb 1 (get_or xs 0 0)) _ (sym is ∙ not-false inside h))
+  pub rules-few : inside ≡ true → get_or xs 0 0 ≤ 256
+  rules-few h = leb-true _ _ (and_r (leb 1 (get_or xs 0 0)) _ (sym is ∙ h))
 
-  pub rules-in : not inside ≡ false → (t : Tested) → t ≡ answer (places_hold n (get_or xs 0 0) (places_of xs)) → t ≡ answer (rules_hold n xs)
+  pub rules-in : inside ≡ true → (t : Tested) → t ≡ answer (places_hold n (get_or xs 0 0) (places_of xs)) → t ≡ answer (rules_hold n xs)
   unfolding rules_hold
-  rules-in h t e = e ∙ ap (λ (a : Bool). answer (a && places_hold n (get_or xs 0 0) (places_of xs))) (sym (sym is ∙ not-false inside h))
+  rules-in h t e = e ∙ ap (λ (a : Bool). answer (a && places_hold n (get_or xs 0 0) (places_of xs))) (sym (sym is ∙ h))

@@ -9,7 +9,6 @@ use lib.ListN.{length, get_or, take, drop, length-drop, length-map}
 use lib.Seq.{take_all, drop-drop}
 use lib.Dec.{eqb}
 use Rattle.laws.proofs.Lists.{from, ended}
-use Rattle.rules.specs.Rules.{is_rate}
 use Rattle.rules.specs.Units.{units_of, of_unit}
 use Rattle.rules.specs.declared.Scope.TheVariants.{WholeRoot}
 use Rattle.rules.specs.declared.Rule.{Rule}
@@ -21,7 +20,7 @@ use Rattle.packing.specs.RulePlace.{rule_at}
 use Rattle.tables.proofs.Passing.{places-on}
 use Rattle.given.specs.Given.{is_fresh, are_roots}
 use Rattle.given.specs.Parts.{names_hold, own_hold, totals_hold}
-use Rattle.rules.specs.Valid.{is_total_number, has_rate}
+use Rattle.rules.specs.Valid.{is_total_number}
 
 -- the part of a slice from a place to its end
 pub to_end : (n : ℕ) (xs : List ℕ) → take (length xs - n) (drop n xs) ≡ drop n xs

@@ -1,6 +1,6 @@
 -- There is a rate rule just where the longest window is not 0, since no window is. Assumes nothing.
-use Prim.Native.Nat.{ℕ, zero, suc, ◌≤◌, max}
-use mathlib.Core.Path.{◌≡◌, refl, ap, ◌∙◌}
+use Prim.Native.Nat.{ℕ, zero, suc, max}
+use mathlib.Core.Path.{◌≡◌, refl}
 use mathlib.Core.Bool.{Bool, true, ◌&&◌, ◌||◌}
 use mathlib.Core.List.{List, []}
 use native.Mathlib.Omega.{arith}
@@ -15,7 +15,7 @@ use Rattle.rules.specs.Valid.{is_limit, is_kind, is_scope, is_rule, has_rate}
 use Rattle.rules.specs.declared.Kind.{Kind}
 use Rattle.rules.specs.declared.Kind.TheVariants.{Rate, Absolute}
 use Rattle.machine.specs.Offers.{window_of, longest}
-use Rattle.tables.specs.Inner.Tables.{all_zero, places, is_place, places_pass}
+use Rattle.tables.specs.Inner.Tables.{places, is_place, places_pass}
 use Rattle.packing.specs.RulePlace.{rule_at, rule_numbers, is_rule_place}
 use Rattle.admission.specs.Admission.{are_in_order}
 use Rattle.given.specs.Parts.{places_hold, places_of, rules_of, rules_hold}
