@@ -92,7 +92,7 @@ unfoldable pub account_rows : List AccountRow
 account_rows =
     -- two roots: fills at $3 and $2, a cut that trips its root, orders accepted and rejected; a locked-out offer, a lockout and refused calls count nowhere
     record {
-      text = "ABCD,abs_vol,XYZ,100\n_abcd,abs_vol,QRS,50";
+      text = "ABCD,abs_vol,XYZ,100\nABCD,abs_vol,QRS,50";
       before = [];
       account = zeros account_size;
       day =
@@ -120,7 +120,7 @@ account_rows =
     }
     -- a firm trip is the firm's alone; a verdict of 1 is a rejection
     ∷ record {
-      text = "ABCD,abs_vol,XYZ,100\n_abcd,abs_vol,,10,,T";
+      text = "ABCD,abs_vol,XYZ,100\nABCD,abs_vol,,10,,T";
       before = [];
       account = zeros account_size;
       day = offers 0 0 1 10 (grants 10 0 1) ∷ orders 1 0 0 1 ∷ orders 2 0 5 0 ∷ [];
@@ -129,7 +129,7 @@ account_rows =
     -- sendings count as orders; reports in their own column and as trips of the root that was sent, each time that they trip, not as fills; closings and
     -- refused reports nowhere
     ∷ record {
-      text = "ABCD,abs_vol,XYZ,100\n_abcd,abs_vol,QRS,50\n_abcd,abs_vol,,60,,T";
+      text = "ABCD,abs_vol,XYZ,100\nABCD,abs_vol,QRS,50\nABCD,abs_vol,,60,,T";
       before = [];
       account = zeros account_size;
       day =
@@ -147,7 +147,7 @@ account_rows =
     }
     -- an account that was begun later: a report's root is that of the register it was begun beside, and an identity that was freed is sent anew
     ∷ record {
-      text = "ABCD,abs_vol,XYZ,100\n_abcd,abs_vol,QRS,50";
+      text = "ABCD,abs_vol,XYZ,100\nABCD,abs_vol,QRS,50";
       before = send (record { time = 0; root = 1; unit = 0; premium = 1; contracts = 9 }) 7 2 ∷ [];
       account = zeros account_size;
       day = back 1 7 4 (grants 4 0 0) ∷ closes 2 7 ∷ sends 3 0 9 7 0 ∷ back 4 7 4 (grants 4 0 0) ∷ [];
@@ -163,7 +163,7 @@ account_rows =
     }
     -- the firm's row alone, and the root's alone, are reason enough; a root that the event is not of is none
     ∷ record {
-      text = "ABCD,abs_vol,XYZ,100\n_abcd,abs_vol,QRS,50";
+      text = "ABCD,abs_vol,XYZ,100\nABCD,abs_vol,QRS,50";
       before = [];
       account = rows ((Root 1, row full 0 0 0 0 0 0 0) ∷ (Firm, row 0 0 0 0 full 0 0 0) ∷ []);
       day = (Order 1 1 0, refusal 21) ∷ orders 1 0 0 0 ∷ offers 2 0 1 1 (refusal 21) ∷ [];
@@ -171,7 +171,7 @@ account_rows =
     }
     -- only what the event itself adds is looked at: an offer that does not trip is counted beside a full figure of trips, one that would is not applied
     ∷ record {
-      text = "ABCD,abs_vol,XYZ,100\n_abcd,abs_vol,,10,,T";
+      text = "ABCD,abs_vol,XYZ,100\nABCD,abs_vol,,10,,T";
       before = [];
       account = rows ((Firm, row 0 0 0 0 0 0 full 0) ∷ []);
       day = offers 0 0 1 5 (grants 5 0 0) ∷ offers 1 0 1 5 (refusal 21) ∷ offers 1 0 1 4 (grants 4 0 0) ∷ offers 1 0 1 2 (refusal 21) ∷ [];

@@ -68,7 +68,7 @@ away_rows =
     }
     -- a rate rule trips above its limit, not at it; the firm's rules count what came back too
     ∷ record {
-      text = "ABCD,rate_vol,XYZ,100,1000\n_abcd,abs_vol,,500,,T";
+      text = "ABCD,rate_vol,XYZ,100,1000\nABCD,abs_vol,,500,,T";
       windows = 1000 ∷ 0 ∷ [];
       day =
           goes 0 100 1 1
@@ -97,7 +97,7 @@ away_rows =
     }
     -- a sending is judged as an order without reset: locked out, it enters nothing; a report finds its order through any lock and any reset
     ∷ record {
-      text = "ABCD,abs_vol,XYZ,10\n_abcd,abs_vol,,20,,T";
+      text = "ABCD,abs_vol,XYZ,10\nABCD,abs_vol,,20,,T";
       windows = 0 ∷ 0 ∷ [];
       day =
           goes 0 10 1 2

@@ -14,7 +14,7 @@ rewrites =
     ∷ record { text = "AB,abs_vol,XYZ,10,whatever,,,\n"; written = "AB,abs_vol,XYZ,10\n" }
     -- the rules keep their order, the firm rule its level, the rule of one unit its call/put and month
     ∷ record {
-      text = "AB,abs_count,Q1,010,,,P,F\n_ab,rate_count,,5,86400000,T,\n_ab,rate_ntnl,XYZ,100000000000,1";
-      written = "AB,abs_count,Q1,10,,,P,F\n_ab,rate_count,,5,86400000,T\n_ab,rate_ntnl,XYZ,100000000000,100\n";
+      text = "AB,abs_count,Q1,010,,,P,F\nAB,rate_count,,5,86400000,T,\nAB,rate_ntnl,XYZ,100000000000,1";
+      written = "AB,abs_count,Q1,10,,,P,F\nAB,rate_count,,5,86400000,T\nAB,rate_ntnl,XYZ,100000000000,100\n";
     }
     ∷ []

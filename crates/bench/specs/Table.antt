@@ -72,7 +72,7 @@ bench_table =
     }
     -- B2: 400, 19,000 and $25,000 counted; 100 of 200 at $1; SYMBOL zeroes all three
     ∷ record {
-      text = "ABCD,rate_vol,MSFT,500,1000\n_abcd,rate_vol,MSFT,20000,60000\n_abcd,abs_ntnl,MSFT,100000";
+      text = "ABCD,rate_vol,MSFT,500,1000\nABCD,rate_vol,MSFT,20000,60000\nABCD,abs_ntnl,MSFT,100000";
       windows = 1000 ∷ 60_000 ∷ 0 ∷ [];
       day =
           steady 37
@@ -112,19 +112,19 @@ bench_table =
     }
     -- B9: the root and the firm have 5 left
     ∷ record {
-      text = "ABCD,rate_vol,XYZ,100,1000\n_abcd,rate_vol,,100,1000,T";
+      text = "ABCD,rate_vol,XYZ,100,1000\nABCD,rate_vol,,100,1000,T";
       windows = 1000 ∷ 1000 ∷ [];
       day = at 0 10_000 95 (grants 95 0 0) ∷ at 1 10_000 8 (grants 5 1 1) ∷ [];
     }
     -- B10: the firm has 7
     ∷ record {
-      text = "ABCD,rate_vol,XYZ,100,1000\n_abcd,rate_vol,,102,1000,T";
+      text = "ABCD,rate_vol,XYZ,100,1000\nABCD,rate_vol,,102,1000,T";
       windows = 1000 ∷ 1000 ∷ [];
       day = at 0 10_000 95 (grants 95 0 0) ∷ at 1 10_000 8 (grants 5 1 0) ∷ [];
     }
     -- B11: windows of 100, 100, 100 and 101, and what they count at 100 ms
     ∷ record {
-      text = "ABCD,rate_vol,R0,1\n_abcd,rate_vol,R1,1,0\n_abcd,rate_vol,R2,1,99\n_abcd,rate_vol,R3,1,101";
+      text = "ABCD,rate_vol,R0,1\nABCD,rate_vol,R1,1,0\nABCD,rate_vol,R2,1,99\nABCD,rate_vol,R3,1,101";
       windows = 100 ∷ 100 ∷ 100 ∷ 101 ∷ [];
       day =
           fill 0 0 0 1 1 (grants 1 0 0)
@@ -166,7 +166,7 @@ examples =
     }
     -- $100 a second, $5,000 in five minutes, 10,000 executions: the burst is cut first
     ∷ record {
-      text = "ABCD,rate_ntnl,XYZ,100,1000\n_abcd,rate_ntnl,XYZ,5000,300000\n_abcd,abs_count,XYZ,10000";
+      text = "ABCD,rate_ntnl,XYZ,100,1000\nABCD,rate_ntnl,XYZ,5000,300000\nABCD,abs_count,XYZ,10000";
       windows = 1000 ∷ 300_000 ∷ 0 ∷ [];
       day = at 0 10_000 60 (grants 60 0 0) ∷ at 1 10_000 60 (grants 40 1 0) ∷ leaves 2 1 49_000_000 ∷ leaves 2 2 9998 ∷ [];
     }
@@ -178,7 +178,7 @@ examples =
     }
     -- slip: a SYMBOL reset that hides root fills from firm rules
     ∷ record {
-      text = "ABCD,rate_vol,XYZ,10,1000\n_abcd,rate_vol,,10,1000,T";
+      text = "ABCD,rate_vol,XYZ,10,1000\nABCD,rate_vol,,10,1000,T";
       windows = 1000 ∷ 1000 ∷ [];
       day = at 0 10_000 6 (grants 6 0 0) ∷ order_row 1 1 0 ∷ leaves 1 0 10 ∷ leaves 1 1 4 ∷ at 1 10_000 6 (grants 4 0 1) ∷ [];
     }

@@ -14,7 +14,7 @@ use Rattle.bench.specs.Away.{away_rows}
 -- a root that is full and a firm that is locked out, orders at one time, and what is left of the two root rules and of the firm's; nothing is locked then
 abbrev cleaned : List (Call × List ℕ) → ℕ → ℕ → ℕ → Row
 cleaned orders total logged firm = record {
-  text = "ABCD,abs_vol,XYZ,10\n_abcd,rate_vol,XYZ,50,1000\n_abcd,abs_vol,,15,,T";
+  text = "ABCD,abs_vol,XYZ,10\nABCD,rate_vol,XYZ,50,1000\nABCD,abs_vol,,15,,T";
   windows = 0 ∷ 1000 ∷ 0 ∷ [];
   day = at 0 1 10 (grants 10 1 0) ∷ lockout_row 1 1 ∷ orders ++ (leaves 5 0 total ∷ leaves 5 1 logged ∷ leaves 5 2 firm ∷ standing_row 0 0 0 64 ∷ []);
 }
@@ -22,7 +22,7 @@ cleaned orders total logged firm = record {
 -- two full roots and a locked firm, orders at one time, and how the roots stand then
 abbrev apart : List (Call × List ℕ) → Row
 apart orders = record {
-  text = "ABCD,abs_vol,XYZ,10\n_abcd,abs_vol,QRS,10";
+  text = "ABCD,abs_vol,XYZ,10\nABCD,abs_vol,QRS,10";
   windows = 0 ∷ 0 ∷ [];
   day =
       fill 0 0 0 1 10 (grants 10 1 0)
@@ -70,7 +70,7 @@ tried =
     }
     -- FIRM zeroes the firm's counter and leaves the root as it is; BOTH zeroes both; a locked firm comes before a locked root
     ∷ record {
-      text = "ABCD,abs_vol,XYZ,10\n_abcd,abs_vol,,15,,T";
+      text = "ABCD,abs_vol,XYZ,10\nABCD,abs_vol,,15,,T";
       windows = 0 ∷ 0 ∷ [];
       day =
           at 0 1 10 (grants 10 1 0)
@@ -113,7 +113,7 @@ tried =
     }
     -- E does so for the firm, and leaves the root locked; 6 is both
     ∷ record {
-      text = "ABCD,abs_vol,XYZ,20\n_abcd,abs_vol,,15,,T";
+      text = "ABCD,abs_vol,XYZ,20\nABCD,abs_vol,,15,,T";
       windows = 0 ∷ 0 ∷ [];
       day =
           at 0 1 15 (grants 15 0 1)
@@ -144,7 +144,7 @@ tried =
     ∷ apart ((order 5 1 1, verdict_row 1) ∷ (order 5 0 1, verdict_row 1) ∷ [])
     -- lockouts at both levels, and how two roots stand
     ∷ record {
-      text = "ABCD,abs_vol,XYZ,10\n_abcd,abs_vol,QRS,10";
+      text = "ABCD,abs_vol,XYZ,10\nABCD,abs_vol,QRS,10";
       windows = 0 ∷ 0 ∷ [];
       day =
           standing_row 0 0 0 64
@@ -214,13 +214,13 @@ refused_texts =
     record { text = ""; number = 5; line = 0 }
     ∷ record { text = "\n"; number = 6; line = 1 }
     ∷ record { text = "ABCD,abs_volume,XYZ,10"; number = 6; line = 1 }
-    ∷ record { text = "ABCD,abs_vol,XYZ,10\n_abce,abs_vol,XYZ,10"; number = 7; line = 2 }
+    ∷ record { text = "ABCD,abs_vol,XYZ,10\nABCE,abs_vol,XYZ,10"; number = 7; line = 2 }
     ∷ record { text = "ABCD,abs_vol,XYZ,0"; number = 8; line = 1 }
     ∷ record { text = "ABCD,rate_vol,XYZ,1,86400001"; number = 8; line = 1 }
     ∷ record { text = "ABCD,abs_vol,XYZ,10,,T"; number = 9; line = 1 }
     ∷ record { text = "ABCD,abs_vol,,10"; number = 9; line = 1 }
     ∷ record { text = "ABCD,abs_vol,XYZ,10,,,C"; number = 10; line = 1 }
-    ∷ record { text = "A,abs_vol,X,1\n_a,abs_vol,X,1\n_a,abs_vol,X,1\n_a,abs_vol,X,1\n_a,abs_vol,X,1\n_a,abs_vol,X,1\n_a,abs_vol,X,1"; number = 11; line = 7 }
+    ∷ record { text = "A,abs_vol,X,1\nA,abs_vol,X,1\nA,abs_vol,X,1\nA,abs_vol,X,1\nA,abs_vol,X,1\nA,abs_vol,X,1\nA,abs_vol,X,1"; number = 11; line = 7 }
     ∷ []
 
 -- a library refuses a text so, and leaves the memory as it was
