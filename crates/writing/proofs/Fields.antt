@@ -10,7 +10,7 @@ use native.Mathlib.Nat.{max-eq_right}
 use native.Mathlib.Omega.{arith}
 use Rattle.laws.proofs.Tests.{and_i, tests}
 use Rattle.laws.specs.Lists.{same}
-use Rattle.measures.specs.Ranges.{Range, is_in, dollar_limits, number_limits, units}
+use Rattle.measures.specs.Ranges.{Range, is_in, dollar_limits, number_limits}
 use Rattle.rules.specs.Rules.{is_rate}
 use Rattle.rules.specs.declared.Scope.{Scope}
 use Rattle.rules.specs.declared.Scope.TheVariants.{EveryFill, WholeRoot, OneUnit}
