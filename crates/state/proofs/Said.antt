@@ -7,7 +7,7 @@ use mathlib.Core.List.{List, []}
 use lib.ListN.{length, get_or, drop, length-drop}
 use lib.Dec.{eqb, ltb, leb}
 use borrow.Author.Tests.{le-leb}
-use Rattle.laws.proofs.Tests.{and_i, tests, and_r}
+use Rattle.laws.proofs.Tests.{and_i, tests}
 use Rattle.laws.specs.Folds.{every}
 use Rattle.measures.specs.Ranges.{is_in, times}
 use Rattle.shapes.specs.Shape.{coded, table}

@@ -30,7 +30,7 @@ use Rattle.state.specs.Sound.{is_sound}
 use Rattle.state.specs.Inner.Tests.{rules_part, totals_part, locks_part, log_part, front_holds, locks_hold, rules_paid, parts_hold, sound_parts, register_part, use_holds}
 use Rattle.state.proofs.Map.{roots_told, rules_told, roots-told}
 use Rattle.state.proofs.Parts.{roots-held, rules-held, rules-are, totals-held, locks-held, log-held, log-many, register-held}
-use Rattle.state.proofs.Said.{Said, sound-said, said-sound, few-told, rules-few, Parted}
+use Rattle.state.proofs.Said.{sound-said, said-sound, few-told, rules-few, Parted}
 use Rattle.register.specs.Register.{register_shape, register_holds}
 use Rattle.machine.specs.Register.{are_different}
 

@@ -1,14 +1,12 @@
 -- The use of the log: the entries inside the longest window and the places kept for orders sent away. Assumes nothing.
-use Prim.Native.Nat.{ℕ, ◌+◌, ◌*◌, ◌≤◌, ◌<◌}
+use Prim.Native.Nat.{ℕ, ◌+◌, ◌≤◌}
 use native.Mathlib.Omega.{arith}
-use mathlib.Core.Path.{◌≡◌, sym, ap, ◌∙◌}
+use mathlib.Core.Path.{◌≡◌}
 use mathlib.Core.Bool.{Bool, true, false, cond}
-use mathlib.Core.List.{List}
 use lib.ListN.{length}
 use lib.Dec.{leb, ltb}
 use borrow.Author.Tests.{lt-ltb, le-ltb, ltb-true, le-leb, leb-true}
 use Rattle.laws.proofs.Tests.{same_test}
-use Rattle.laws.specs.Folds.{every}
 use Rattle.rules.specs.Valid.{has_rate}
 use Rattle.machine.specs.State.{State, rules_in, roots_in}
 use Rattle.machine.specs.Entries.{recent, is_recent}
