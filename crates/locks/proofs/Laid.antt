@@ -1,8 +1,8 @@
 -- The locks of a memory in which a state is laid out. Assumes nothing.
 use Prim.Native.Nat.{ℕ}
 use mathlib.Core.Path.{◌≡◌, sym, ap, ◌∙◌}
-use mathlib.Core.List.{List, ◌++◌}
-use lib.ListN.{length, take, drop}
+use mathlib.Core.List.{List}
+use lib.ListN.{length}
 use Rattle.shapes.specs.Shape.{both, named, word, flag, cell}
 use Rattle.machine.specs.State.{Locks}
 use Rattle.state.specs.State.{number, locks_of, locks_shape, locks_numbers, stored, decode}
