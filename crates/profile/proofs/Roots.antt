@@ -77,8 +77,8 @@ module _ (name : ℕ) (roots : List ℕ) where
       go (yes h) = absurd (d (ap length (with-old h)))
       go (no h) = with-new (omega arith)
 
-  with-get_d : (root : ℕ) → root < length roots → get_or (with_root name roots) root 0 ≡ get_or roots root 0
-  with-get_d root k = go (dec_lt (index_of name roots) (length roots))
+  with-get_or : (root : ℕ) → root < length roots → get_or (with_root name roots) root 0 ≡ get_or roots root 0
+  with-get_or root k = go (dec_lt (index_of name roots) (length roots))
     where
       go : Dec (index_of name roots < length roots) → get_or (with_root name roots) root 0 ≡ get_or roots root 0
       go (yes h) = rw (with-old h)
@@ -109,11 +109,11 @@ module _ (name : ℕ) (roots : List ℕ) where
   pub with-named : ((root : ℕ) → root < length roots → IsNameNumber 1 6 (get_or roots root 0)) → IsNameNumber 1 6 name
       → (root : ℕ) → root < length (with_root name roots) → IsNameNumber 1 6 (get_or (with_root name roots) root 0)
   with-named old new =
-      with_cases (λ root. IsNameNumber 1 6 (get_or (with_root name roots) root 0)) (λ root h. rw (with-get_d root h) (old root h)) (rw with_at new)
+      with_cases (λ root. IsNameNumber 1 6 (get_or (with_root name roots) root 0)) (λ root h. rw (with-get_or root h) (old root h)) (rw with_at new)
 
   pub with-placed : ((root : ℕ) → root < length roots → index_of (get_or roots root 0) roots ≡ root)
       → (root : ℕ) → root < length (with_root name roots) → index_of (get_or (with_root name roots) root 0) (with_root name roots) ≡ root
   with-placed old =
       with_cases (λ root. index_of (get_or (with_root name roots) root 0) (with_root name roots) ≡ root)
-      (λ root h. rw (with-get_d root h) (with-keeps (get_or roots root 0) (rw (old root h) h) ∙ old root h))
+      (λ root h. rw (with-get_or root h) (with-keeps (get_or roots root 0) (rw (old root h) h) ∙ old root h))
       (rw with_at with-index)

@@ -38,9 +38,9 @@ record Joins (roots : List ℕ) (scope : Scope) (seen : ℕ) : Type 0 where
 module _ (roots : List ℕ) (h : are_roots roots ≡ true) where
   -- with the name of a root that has appeared, or of the next one, the first roots are the roots up to it
   module _ (r seen : ℕ) (l : r < length roots) (near : r ≤ seen) (within : seen ≤ length roots) where
-    with_root_lem : with_root (get_or roots r 0) (take seen roots) ≡ take (max seen (suc r)) roots
+    root-grown : with_root (get_or roots r 0) (take seen roots) ≡ take (max seen (suc r)) roots
     unfolding with_root
-    with_root_lem = rw (root-index roots r seen h l, length-take-le seen roots within) (go (dec_lt r seen))
+    root-grown = rw (root-index roots r seen h l, length-take-le seen roots within) (go (dec_lt r seen))
       where
         go : Dec (r < seen) → cond (ltb (min r seen) seen) (take seen roots) (take seen roots ++ (get_or roots r 0 ∷ [])) ≡ take (max seen (suc r)) roots
         go (yes k) = rw (lt-ltb (min r seen) seen (omega arith), max-eq_left k)
@@ -58,11 +58,11 @@ module _ (roots : List ℕ) (h : are_roots roots ≡ true) where
   joins (WholeRoot root) seen w s n =
       let l : root < length roots = search tests in
       let k : root ≤ seen = search tests in
-      record { grown = with_root_lem root seen l k w; back = ap WholeRoot (root-back root seen l k w); within = omega arith }
+      record { grown = root-grown root seen l k w; back = ap WholeRoot (root-back root seen l k w); within = omega arith }
   joins (OneUnit root unit) seen w s n =
       let l : root < length roots = search tests in
       let k : root ≤ seen = search tests in
-      record { grown = with_root_lem root seen l k w; back = ap (λ x. OneUnit x unit) (root-back root seen l k w); within = omega arith }
+      record { grown = root-grown root seen l k w; back = ap (λ x. OneUnit x unit) (root-back root seen l k w); within = omega arith }
 
 -- the profile of the rules so far, in which so many roots have appeared
 abbrev so_far : ℕ → List ℕ → ℕ → List Rule → Profile
