@@ -14,69 +14,44 @@ use Rattle.state.specs.Inner.Laid.{with_log}
 use Rattle.state.proofs.Laid.{laid-held, laid-entries}
 use Rattle.state.proofs.After.{log-after}
 use Rattle.grant.proofs.Joined.{window-is, passed_is, laid-last, inside-most, joined-off, joined-on, grant-some, room_for, entry_in_lem}
-use borrow.Author.Rules.{rules}
-use Rattle.grant.proofs.join_log.Statement.{statement}
-use Rattle.grant.proofs.join_log.Tie as tie
+use mathlib.Core.Bool.{not}
+use Rattle.grant.proofs.join_log.Goals as goal
 
-returns : tie.Need-returns
-returns c =
-    let start = c.before.before.before in
+pub returns-then-not-inside-grant : goal.returns-then-not-inside-grant
+returns-then-not-inside-grant c =
+    let start = c in
     let laid = start.requires.0.laid in
     let s = decode start.args.m.now in
-    laid.is ∙ ap (λ (l : List Entry). stored (with_log s l) start.args.m.now) (sym (joined-off s laid.fits (window-is s start.args.o.time start.requires.3) start.args.o start.args.grant c.if1.true))
+    laid.is ∙ ap (λ (l : List Entry). stored (with_log s l) start.args.m.now) (sym (joined-off s laid.fits (window-is s start.args.o.time start.requires.3) start.args.o start.args.grant (ap not c.if-not-inside-grant.true)))
 
-sub-join : tie.Need-overflow-sub-join
-sub-join c = search rules
-
-part-join-start : tie.Need-slice-bounds-join-start
-part-join-start c = search rules
-
-part-join-end : tie.Need-slice-bounds-join-end
-part-join-end c = search rules
-
-join-requires : tie.Need-join-requires
+pub join-requires : goal.join-requires
 unfolding entry_of roots_in
-join-requires c κs =
-    let start = c.before.before.before.before.before in
+join-requires c =
+    let start = c in
     let args = start.args in
     let p = start.requires in
     let laid = p.0.laid in
     let s = decode args.m.now in
     let is = window-is s args.o.time p.3 in
     let many = passed_is s args.o.time p.3 in
-    let some = c.before.before.if1.false in (
+    let some = (ap not c.if-not-inside-grant.false) in (
       laid-held laid,
       subst (λ (l : List Entry). args.inside.read.passed ≤ length l) (sym (laid-entries laid)) (omega (arith, many, inside-most args.inside.window args.o.time s.log)),
       omega (arith, many, room_for s laid.fits is args.o args.grant some p.2),
       entry_in_lem 64 p.0 (omega (arith, p.0.root, laid.fits.roots)) (grant-some s laid.fits is args.o args.grant some) p.1,
     )
 
-same_length : tie.Need-same-length
-same_length c = search rules
-
-returns-2 : tie.Need-returns-2
+pub returns : goal.returns
 unfolding entry_of
-returns-2 c =
-    let start = c.before.before.before.before.before.before.before.before in
+returns c =
+    let start = c in
     let args = start.args in
     let p = start.requires in
     let laid = p.0.laid in
     let s = decode args.m.now in
     let e = entry_of args.o args.grant in
-    let on = joined-on s laid.fits (window-is s args.o.time p.3) args.o args.grant c.before.before.before.before.before.if1.false in
+    let on = joined-on s laid.fits (window-is s args.o.time p.3) args.o args.grant (ap not c.if-not-inside-grant.false) in
     let last : recent args.inside.window args.o.time s.log ≡ last_of args.inside.read.passed s.log =
     laid-last laid args.o.time args.inside.window p.0.ordered ∙ ap (λ (n : ℕ). last_of n s.log) (sym (passed_is s args.o.time p.3)) in
-    log-after laid (joined_entries args.inside.read.passed e) c.before.before.join.ensures
+    log-after laid (joined_entries args.inside.read.passed e) c.join.ensures
     ∙ ap (λ (l : List Entry). stored (with_log s l) args.m.now) (sym (on ∙ ap (λ (l : List Entry). l ++ (e ∷ [])) last))
-
-pub join-log-spec : {M : Type 1} → statement M
-join-log-spec =
-    tie.close
-    (tie.spec
-    returns
-    sub-join
-    part-join-start
-    part-join-end
-    join-requires
-    same_length
-    returns-2)
