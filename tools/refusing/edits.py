@@ -7,6 +7,7 @@ from pathlib import Path
 ROOT = Path(__file__).resolve().parents[2]
 CRATES = ROOT / "crates"
 OPEN = r'(?:pub(?:\([a-z]+\))? )?(?:extern "C" )?'
+HEAD = re.compile(rf"^( *){OPEN}fn (\w+)", re.M)
 
 
 class BadEdit(Exception):
@@ -38,45 +39,59 @@ class Edit:
 
 
 def read_edit(path):
-    """An edit's replacements, as rt's own must-fail edits are written: a 'file:' line holds for the 'old:' and 'new:' pairs after it."""
-    edit, file, old = Edit(path), "", ""
+    """An edit's replacements, as rt's own must-fail edits are written: a 'file:' line holds for the 'old:' and 'new:' pairs after it, and a pair
+    applies to what those before it made."""
+    edit, file, old, texts, bodies = Edit(path), "", "", {}, set()
     for line in path.read_text().splitlines():
         if line.startswith("file: "):
-            file = line[6:]
+            file = line[6:].strip()
         elif line.startswith("old: "):
             old = line[5:]
         elif line.startswith("new:"):
+            whole = CRATES / edit.crate / file
+            if file not in texts:
+                texts[file] = whole.read_text() if whole.is_file() else ""
+            found = texts[file].count(old) if old else 0
+            if found != 1 or not file.startswith(("src/", "specs/")):
+                raise BadEdit(f"{edit.name}: an 'old:' text is {found} times in {file}")
             edit.pairs.append((file, old, line[4:].removeprefix(" ")))
+            bodies.add(body_of(edit.crate, file, texts[file], old))
+            texts[file] = texts[file].replace(old, edit.pairs[-1][2])
+            old = ""
     if not edit.pairs:
         raise BadEdit(f"{edit.name}: it has no 'old:' and 'new:' pair")
-    for file, old, _ in edit.pairs:
-        whole = CRATES / edit.crate / file
-        found = whole.read_text().count(old) if old and whole.is_file() else 0
-        if found != 1 or not file.startswith(("src/", "specs/")):
-            raise BadEdit(f"{edit.name}: an 'old:' text is {found} times in {file}")
-    bodies = {body_of(edit.crate, file, old) for file, old, _ in edit.pairs}
     edit.function = bodies.pop() if len(bodies) == 1 else ""
     return edit
 
 
-def body_of(crate, file, old):
-    """The function in whose body a text stands, as the check names it; '' if it stands anywhere else."""
-    if not file.endswith(".rt"):
-        return ""
-    text = (CRATES / crate / file).read_text()
-    at = text.index(old)
-    heads = list(re.finditer(rf"^( *){OPEN}fn (\w+)", text[: at + len(old)], re.M))
-    if not heads:
-        return ""
-    head = heads[-1]
-    opened = re.compile(rf"^{head[1]}\{{$|^{head[1]}{OPEN}fn [^\n]*\{{$", re.M).search(text, head.start())
-    closed = re.compile(rf"^{head[1]}\}}$", re.M).search(text, head.start())
-    if not opened or not closed or not opened.end() <= at or at + len(old) > closed.start():
-        return ""
+def name_of(crate, file, text, head):
+    """A function as the check names it, by the place of its head in its file."""
     place = [crate] + ([] if file in ("src/lib.rt", "src/main.rt") else [Path(file).stem])
     if head[1]:
         place.append(re.findall(r"^impl(?:<[^>]*>)? (\w+)", text[: head.start()], re.M)[-1])
     return "::".join(place + [head[2]])
+
+
+def body_of(crate, file, text, old):
+    """The function in whose body a text stands, as the check names it; '' if it stands anywhere else."""
+    if not file.endswith(".rt"):
+        return ""
+    at = text.index(old)
+    heads = list(HEAD.finditer(text[: at + len(old)]))
+    if not heads:
+        return ""
+    head = heads[-1]
+    opened = re.compile(rf"^{head[1]}\{{$|^{head[1]}\)[^\n]*\{{$|^{head[1]}{OPEN}fn [^\n]*\{{$", re.M).search(text, head.start())
+    closed = re.compile(rf"^{head[1]}\}}$", re.M).search(text, head.start())
+    if not opened or not closed or not opened.end() <= at or at + len(old) > closed.start():
+        return ""
+    return name_of(crate, file, text, head)
+
+
+def function_at(crate, file, text, line):
+    """The function whose head or body has a line of a file, as the check names it; '' if there is none."""
+    heads = [head for head in HEAD.finditer(text) if text.count("\n", 0, head.start()) < line]
+    return name_of(crate, file, text, heads[-1]) if heads else ""
 
 
 def named(path):
@@ -86,8 +101,9 @@ def named(path):
 
 
 def edit_files(names):
-    """Every file below crates/ that is an edit, or those that are asked for by name."""
-    return [path for path in sorted(CRATES.rglob("*.edit")) if not names or named(path) & set(names)]
+    """Every file below crates/ that is an edit, or those that are asked for by name; what a build has made is none."""
+    found = [path for path in sorted(CRATES.rglob("*.edit")) if path.relative_to(CRATES).parts[1] != "out"]
+    return [path for path in found if not names or named(path) & set(names)]
 
 
 def read_edits(paths):
@@ -102,16 +118,3 @@ def read_edits(paths):
             print(f"wrong {fault}")
             unread.append(path)
     return edits, unread
-
-
-def files_of(place):
-    """The texts of a crate's files."""
-    return {path.relative_to(place): path.read_text() for part in ("src", "specs", "proofs") for path in (place / part).rglob("*") if path.is_file()}
-
-
-def edited(files, edit):
-    """The texts of a crate's files after an edit."""
-    after = dict(files)
-    for file, old, new in edit.pairs:
-        after[Path(file)] = after[Path(file)].replace(old, new, 1)
-    return after
