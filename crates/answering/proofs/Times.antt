@@ -2,7 +2,7 @@
 use Prim.Native.Nat.{ℕ, ◌/◌}
 use mathlib.Core.Path.{◌≡◌, refl, sym, ap, ◌∙◌}
 use mathlib.Core.Bool.{cond}
-use mathlib.Core.List.{List, [], ◌∷◌}
+use mathlib.Core.List.{List, ◌∷◌}
 use lib.ListN.{get_or, drop}
 use lib.Dec.{eqb}
 use Rattle.bits.specs.Fields.{fields_of}
@@ -16,7 +16,7 @@ use Rattle.records.specs.declared.Reading16.TheVariants.{Is}
 use Rattle.records.proofs.Moved.{fields16-are}
 use Rattle.records.proofs.Promises16.{picked}
 use Rattle.answering.specs.Run.{record_call, reading_answer, memory_of, record_answer, record_memory}
-use Rattle.answering.specs.Times.{call_time, stamp_of, whole_fields, RemainderDropped}
+use Rattle.answering.specs.Times.{call_time, whole_fields, RemainderDropped}
 
 -- the values of a record that is read as an event are its fields
 fields-of : (s : List ℕ) (e : Event16) → read16_of s ≡ Is e → fields_of widths16 s ≡ values16_of e

@@ -2,7 +2,7 @@
 // one for the firm.
 #![tactic(auto)]
 
-ghost use Rattle.io.specs.Counts.{IsPrefixLen};
+ghost use Rattle.std.specs.Prelude.{◌≡◌, ◌≤◌, length, take};
 
 use std::io;
 use std::io::Read;
@@ -11,7 +11,8 @@ use std::rt::Files;
 // Reads the file `profile`, up to one byte more than a profile may have, and answers how many bytes that are: none where it is missing or
 // cannot be read to its end.
 fn read_profile(rt: &impl Files, text: &mut [u8]) -> usize
-    ensures { IsPrefixLen result text.new }
+    ensures within { result ≤ length text.new }
+    ensures prefix { result ≡ length (take result text.new) }
 {
     match inputs::read_file(rt, "profile", text) {
         Ok(n) => n,
