@@ -2,6 +2,7 @@
 //! there is none, and the feature `prove` or MBRUMZHEG_PROVE=1 asks for it, the repository around this crate proves and makes one.
 
 use std::env;
+use std::fs;
 use std::path::{Path, PathBuf};
 use std::process::{exit, Command};
 
@@ -85,10 +86,13 @@ fn made() -> Result<PathBuf, String> {
     let root = PathBuf::from(env::var_os("CARGO_MANIFEST_DIR").ok_or("cargo names no crate")?).join("..");
     let folder = PathBuf::from(env::var_os("OUT_DIR").ok_or("cargo names no folder for output")?);
     let tool = root.join("tools/native-archive");
-    for part in ["crates", "crates.txt", "tools/native-archive"] {
-        println!("cargo:rerun-if-changed={}", root.join(part).display());
+    let crates = fs::read_dir(root.join("crates")).into_iter().flatten().flatten();
+    // what the kit makes stands beside these
+    let read = crates.flat_map(|entry| ["src", "specs", "proofs"].map(|part| entry.path().join(part))).filter(|part| part.exists());
+    for part in read.chain(["crates.txt", "tools/native-archive"].map(|part| root.join(part))) {
+        println!("cargo:rerun-if-changed={}", part.display());
     }
-    match Command::new(&tool).arg("capi").arg(&folder).status() {
+    match Command::new(&tool).arg("capi_c").arg(&folder).status() {
         Ok(status) if status.success() => with_library(&folder),
         Ok(status) => Err(format!("{} ended with {status}", tool.display())),
         Err(error) => {

@@ -144,7 +144,7 @@ fn programs() -> Vec<Vec<PathBuf>> {
         true => all.push(vec![second]),
         false => skipped::skipped("the desk beside the second program's evening table, since it is not built"),
     }
-    match top.join("target/bin/evening").exists() {
+    match top.join("crates/evening/out/evening").exists() {
         true => all.push(vec![top.join("tools/program"), PathBuf::from("evening")]),
         false => skipped::skipped("the desk beside the proved program's evening table, since it is not built"),
     }

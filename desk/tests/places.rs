@@ -80,8 +80,8 @@ fn check_page(page: &str, json: &str, lines: &[&str]) -> usize {
 #[test]
 fn page_replay_and_program_agree() {
     let program = repository().join("tools/program");
-    if !repository().join("target/bin/gateway").exists() || Command::new("rt").arg("version").output().is_err() {
-        skipped::skipped("the desk beside the program gateway, which is not built, or the kit is not on the path to run it");
+    if !repository().join("crates/gateway/out/gateway").exists() {
+        skipped::skipped("the desk beside the program gateway, which is not built");
         return;
     }
     let place = std::env::temp_dir().join(format!("desk-places-{}", std::process::id()));

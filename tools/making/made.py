@@ -2,6 +2,7 @@
 
 import hashlib
 import json
+import re
 import shutil
 import subprocess
 import sys
@@ -23,6 +24,16 @@ def kit():
     if not rt:
         raise Unbuilt("there is no Rattle kit (rt) on the path")
     return Path(rt).resolve().parent.parent
+
+
+@cache
+def version():
+    """The kit's own name."""
+    kit()
+    ran = subprocess.run(["rt", "version"], capture_output=True, text=True)
+    if ran.returncode:
+        raise Unbuilt("the kit's rt does not say its version")
+    return ran.stdout
 
 
 @cache
@@ -63,7 +74,7 @@ def own_sum(crate):
 
 def sum_of(crate):
     """A sum of all that is proved of a crate: the kit, its files and those of the crates below."""
-    return hashlib.sha256(repr(((kit() / "KIT-ID").read_text(), [own_sum(name) for name in (*below(crate), crate)])).encode()).hexdigest()
+    return hashlib.sha256(repr((version(), [own_sum(name) for name in (*below(crate), crate)])).encode()).hexdigest()
 
 
 def is_program(crate):
@@ -136,9 +147,7 @@ def has_program(crate):
     """Has a program in crates/CRATE/out of the files as they are now."""
     if holds(crate):
         return
-    if not rt(crate, "check"):
-        raise Unbuilt(f"{crate} is not proved")
-    # it is run once, on nothing, since rt has no command that only builds it
-    subprocess.run(["rt", "run"], cwd=CRATES / crate, stdin=subprocess.DEVNULL, capture_output=True)
-    if not seen(crate):
-        raise Unbuilt(f"{crate} is not built: rt run in crates/{crate} says why")
+    # it is run once, on nothing, since rt has no command that only builds it; so its own status says nothing
+    ran = subprocess.run(["rt", "run"], cwd=CRATES / crate, stdin=subprocess.DEVNULL, stdout=subprocess.DEVNULL, stderr=subprocess.PIPE, text=True, errors="replace")
+    if not re.search(r"^logic=proved|^rt: nothing has changed since the last proved build", ran.stderr, re.M):
+        raise Unbuilt(f"{crate} is not proved or not built:\n{ran.stderr}")

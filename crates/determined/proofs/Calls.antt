@@ -5,7 +5,7 @@ use Rattle.laws.proofs.One.{alike}
 use Rattle.calls.proofs.arm.Kinds as arm-kinds
 use Rattle.calls.proofs.arm.Reads as arm-reads
 use Rattle.calls.proofs.clear.Kinds as clear-kinds
-use Rattle.calls.proofs.clear.Reads as clear_reads
+use Rattle.calls.proofs.clear.Reads as clear-reads
 use Rattle.calls.proofs.memory_refusal.Kinds as memory-refusal-kinds
 use Rattle.calls.proofs.memory_refusal.Reads as memory-refusal-reads
 use Rattle.calls.proofs.status.Kinds as status-kinds
@@ -56,7 +56,7 @@ use Rattle.calls.proofs.refusals.report_refusal.Reads as report-refusal-reads
 pub arm : Determines 2 arm-kinds.ps arm-kinds.r arm-reads.Asked arm-reads.Learnt
 arm κs args asked x y u v p q = (alike p.0 q.0, λ i. (alike p.1 q.1 i, v.1))
 
-pub clear : Determines 1 clear-kinds.ps clear-kinds.r clear_reads.Asked clear_reads.Learnt
+pub clear : Determines 1 clear-kinds.ps clear-kinds.r clear-reads.Asked clear-reads.Learnt
 clear κs args asked x y u v p q = (alike p.0 q.0, λ i. (alike p.1 q.1 i, v.1))
 
 pub memory-refusal : Determines 1 memory-refusal-kinds.ps memory-refusal-kinds.r memory-refusal-reads.Asked memory-refusal-reads.Learnt

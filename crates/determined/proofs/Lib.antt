@@ -12,7 +12,7 @@ pub mod Line
 pub mod Profile
 pub mod Given
 pub mod Writing
-pub mod Log
+pub mod Daylog
 pub mod Register
 pub mod State
 pub mod Locks

@@ -12,7 +12,7 @@ use Rattle.packing.proofs.rule_place.Kinds as rule-place-kinds
 use Rattle.packing.proofs.rule_place.Reads as rule-place-reads
 use Rattle.packing.proofs.entry_of.Kinds as entry-of-kinds
 use Rattle.packing.proofs.entry_of.Reads as entry-of-reads
-use Rattle.packing.proofs.gap.Kinds as gap_kinds
+use Rattle.packing.proofs.gap.Kinds as gap-kinds
 use Rattle.packing.proofs.gap.Reads as gap-reads
 use Rattle.packing.proofs.entry_gaps.Kinds as entry-gaps-kinds
 use Rattle.packing.proofs.entry_gaps.Reads as entry-gaps-reads
@@ -35,17 +35,17 @@ is-rule κs args asked x y u v p q = (alike p q, refl)
 pub rule-place : Determines 0 rule-place-kinds.ps rule-place-kinds.r rule-place-reads.Asked rule-place-reads.Learnt
 rule-place κs args asked x y u v p q = (alike p q, refl)
 
-pub entry_of : Determines 0 entry-of-kinds.ps entry-of-kinds.r entry-of-reads.Asked entry-of-reads.Learnt
-entry_of κs args asked x y u v p q = (alike p q, refl)
+pub entry-of : Determines 0 entry-of-kinds.ps entry-of-kinds.r entry-of-reads.Asked entry-of-reads.Learnt
+entry-of κs args asked x y u v p q = (alike p q, refl)
 
-pub gap : Determines 0 gap_kinds.ps gap_kinds.r gap-reads.Asked gap-reads.Learnt
+pub gap : Determines 0 gap-kinds.ps gap-kinds.r gap-reads.Asked gap-reads.Learnt
 gap κs args asked x y u v p q = (alike p q, refl)
 
 pub entry-gaps : Determines 0 entry-gaps-kinds.ps entry-gaps-kinds.r entry-gaps-reads.Asked entry-gaps-reads.Learnt
 entry-gaps κs args asked x y u v p q = (alike p q, refl)
 
-pub entry_place : Determines 0 entry-place-kinds.ps entry-place-kinds.r entry-place-reads.Asked entry-place-reads.Learnt
-entry_place κs args asked x y u v p q = (alike p q, refl)
+pub entry-place : Determines 0 entry-place-kinds.ps entry-place-kinds.r entry-place-reads.Asked entry-place-reads.Learnt
+entry-place κs args asked x y u v p q = (alike p q, refl)
 
 pub limit-number : Determines 0 limit-number-kinds.ps limit-number-kinds.r limit-number-reads.Asked limit-number-reads.Learnt
 limit-number κs args asked x y u v p q = (alike p q, refl)

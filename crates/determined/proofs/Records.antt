@@ -30,7 +30,7 @@ use Rattle.records.proofs.event16_in.Kinds as event16-in-kinds
 use Rattle.records.proofs.event16_in.Reads as event16-in-reads
 use Rattle.records.proofs.widen.Kinds as widen-kinds
 use Rattle.records.proofs.widen.Reads as widen-reads
-use Rattle.records.proofs.narrow.Kinds as narrow_kinds
+use Rattle.records.proofs.narrow.Kinds as narrow-kinds
 use Rattle.records.proofs.narrow.Reads as narrow-reads
 
 pub is-valid : Determines 0 is-valid-kinds.ps is-valid-kinds.r is-valid-reads.Asked is-valid-reads.Learnt
@@ -42,8 +42,8 @@ read κs args asked x y u v p q = (alike p q, refl)
 pub write : Determines 1 write-kinds.ps write-kinds.r write-reads.Asked write-reads.Learnt
 write κs args asked x y u v p q = (alike p.0 q.0, λ i. (v.0, (alike p.1 q.1 i, v.1.1)))
 
-pub values_of : Determines 0 values-of-kinds.ps values-of-kinds.r values-of-reads.Asked values-of-reads.Learnt
-values_of κs args asked x y u v p q = (alike p q, refl)
+pub values-of : Determines 0 values-of-kinds.ps values-of-kinds.r values-of-reads.Asked values-of-reads.Learnt
+values-of κs args asked x y u v p q = (alike p q, refl)
 
 pub event-in : Determines 1 event-in-kinds.ps event-in-kinds.r event-in-reads.Asked event-in-reads.Learnt
 event-in κs args asked x y u v p q = (alike p q, refl)
@@ -75,5 +75,5 @@ event16-in κs args asked x y u v p q = (alike p q, refl)
 pub widen : Determines 2 widen-kinds.ps widen-kinds.r widen-reads.Asked widen-reads.Learnt
 widen κs args asked x y u v p q = (alike p.0 q.0, λ i. (v.0, (alike p.1 q.1 i, v.1.1)))
 
-pub narrow : Determines 2 narrow_kinds.ps narrow_kinds.r narrow-reads.Asked narrow-reads.Learnt
+pub narrow : Determines 2 narrow-kinds.ps narrow-kinds.r narrow-reads.Asked narrow-reads.Learnt
 narrow κs args asked x y u v p q = (alike p.0 q.0, λ i. (v.0, (alike p.1 q.1 i, v.1.1)))

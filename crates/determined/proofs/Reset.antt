@@ -15,5 +15,5 @@ lock-out κs args asked x y u v p q = (refl, λ i. (alike p q i, v.1))
 pub reset-state : Determines 1 reset-state-kinds.ps reset-state-kinds.r reset-state-reads.Asked reset-state-reads.Learnt
 reset-state κs args asked x y u v p q = (refl, λ i. (alike p q i, v.1))
 
-pub effect_of : Determines 0 effect-of-kinds.ps effect-of-kinds.r effect-of-reads.Asked effect-of-reads.Learnt
-effect_of κs args asked x y u v p q = (alike p q, refl)
+pub effect-of : Determines 0 effect-of-kinds.ps effect-of-kinds.r effect-of-reads.Asked effect-of-reads.Learnt
+effect-of κs args asked x y u v p q = (alike p q, refl)

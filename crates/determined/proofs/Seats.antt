@@ -35,7 +35,7 @@ use Rattle.seats.proofs.remaining.Reads as remaining-reads
 use Rattle.seats.proofs.clear_firm.Kinds as clear-firm-kinds
 use Rattle.seats.proofs.clear_firm.Reads as clear-firm-reads
 use Rattle.seats.proofs.clear.Kinds as clear-kinds
-use Rattle.seats.proofs.clear.Reads as clear_reads
+use Rattle.seats.proofs.clear.Reads as clear-reads
 use Rattle.seats.proofs.offers.own_offer.Kinds as own-offer-kinds
 use Rattle.seats.proofs.offers.own_offer.Reads as own-offer-reads
 use Rattle.seats.proofs.sends.own_send.Kinds as own-send-kinds
@@ -88,7 +88,7 @@ remaining κs args asked x y u v p q = (alike p q, refl)
 pub clear-firm : Determines 1 clear-firm-kinds.ps clear-firm-kinds.r clear-firm-reads.Asked clear-firm-reads.Learnt
 clear-firm κs args asked x y u v p q = (alike p.0 q.0, λ i. (alike p.1 q.1 i, v.1))
 
-pub clear : Determines 1 clear-kinds.ps clear-kinds.r clear_reads.Asked clear_reads.Learnt
+pub clear : Determines 1 clear-kinds.ps clear-kinds.r clear-reads.Asked clear-reads.Learnt
 clear κs args asked x y u v p q = (alike p.0 q.0, λ i. (alike p.1 q.1 i, v.1))
 
 pub own-offer : Determines 1 own-offer-kinds.ps own-offer-kinds.r own-offer-reads.Asked own-offer-reads.Learnt

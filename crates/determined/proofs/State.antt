@@ -58,8 +58,8 @@ clock-in κs args asked x y u v p q = (alike p q, refl)
 pub roots-in : Determines 1 roots-in-kinds.ps roots-in-kinds.r roots-in-reads.Asked roots-in-reads.Learnt
 roots-in κs args asked x y u v p q = (alike p q, refl)
 
-pub name_in : Determines 1 name-in-kinds.ps name-in-kinds.r name-in-reads.Asked name-in-reads.Learnt
-name_in κs args asked x y u v p q = (alike p q, refl)
+pub name-in : Determines 1 name-in-kinds.ps name-in-kinds.r name-in-reads.Asked name-in-reads.Learnt
+name-in κs args asked x y u v p q = (alike p q, refl)
 
 pub entries-in : Determines 1 entries-in-kinds.ps entries-in-kinds.r entries-in-reads.Asked entries-in-reads.Learnt
 entries-in κs args asked x y u v p q = (alike p q, refl)
@@ -94,8 +94,8 @@ uses-less κs args asked x y u v p q = (alike p q, refl)
 pub orders-in : Determines 1 orders-in-kinds.ps orders-in-kinds.r orders-in-reads.Asked orders-in-reads.Learnt
 orders-in κs args asked x y u v p q = (alike p q, refl)
 
-pub covers_at : Determines 1 covers-at-kinds.ps covers-at-kinds.r covers-at-reads.Asked covers-at-reads.Learnt
-covers_at κs args asked x y u v p q = (alike p q, refl)
+pub covers-at : Determines 1 covers-at-kinds.ps covers-at-kinds.r covers-at-reads.Asked covers-at-reads.Learnt
+covers-at κs args asked x y u v p q = (alike p q, refl)
 
 pub rises-at : Determines 1 rises-at-kinds.ps rises-at-kinds.r rises-at-reads.Asked rises-at-reads.Learnt
 rises-at κs args asked x y u v p q = (alike p q, refl)

@@ -38,11 +38,11 @@ pub find-far : Determines 1 find-far-kinds.ps find-far-kinds.r find-far-reads.As
 find-far κs args asked x y u v p q = (alike p q, refl)
 
 -- the answer is a part of the line that was lent: the bytes in it are determined, and where it lies is not said
-pub field_at : DeterminesSeen 1 field-at-kinds.ps field-at-kinds.r (λ κs. List ℕ) (λ κs part. part.now) field-at-reads.Asked field-at-reads.Learnt
-field_at κs args asked x y u v p q = (alike p q, refl)
+pub field-at : DeterminesSeen 1 field-at-kinds.ps field-at-kinds.r (λ κs. List ℕ) (λ κs part. part.now) field-at-reads.Asked field-at-reads.Learnt
+field-at κs args asked x y u v p q = (alike p q, refl)
 
-pub is_field : Determines 2 is-field-kinds.ps is-field-kinds.r is-field-reads.Asked is-field-reads.Learnt
-is_field κs args asked x y u v p q = (alike p q, refl)
+pub is-field : Determines 2 is-field-kinds.ps is-field-kinds.r is-field-reads.Asked is-field-reads.Learnt
+is-field κs args asked x y u v p q = (alike p q, refl)
 
 pub firm-name : Determines 1 firm-name-kinds.ps firm-name-kinds.r firm-name-reads.Asked firm-name-reads.Learnt
 firm-name κs args asked x y u v p q = (alike p q, refl)
