@@ -25,6 +25,7 @@ pub fn mbrumzheg_read_record16(s: &[u8], row: &mut [u64; 13])
 }
 
 // Writes the row of what a writer answered.
+#[tactic(auto, unfolding(crate::specs::Rows::writing_row, records::specs::Event::write_refusal))]
 fn put_writing(writing: Writing, row: &mut [u64; 5])
     ensures { row.new ≡ writing_row writing }
 {
@@ -82,6 +83,7 @@ pub fn mbrumzheg_write_record16(
 }
 
 // Writes the row of what moving answered.
+#[tactic(auto, unfolding(crate::specs::Rows::moving_row, records::specs::Moves::move_refusal))]
 fn put_moving(moving: Moving, row: &mut [u64; 5])
     ensures { row.new ≡ moving_row moving }
 {

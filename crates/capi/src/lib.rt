@@ -16,6 +16,7 @@ use machine::Offer;
 use profile::Reading;
 
 // Arms memory from a profile: refusal, line, firm, rules, roots.
+#[tactic(auto, unfolding(crate::specs::Rows::arm_row))]
 pub fn mbrumzheg_arm(m: &mut [u64], text: &[u8], row: &mut [u64; 5])
     ensures m_after { m.new ≡ arm_memory m.old text.now }
     ensures row_after { row.new ≡ arm_row (arm_answer m.old text.now) }
@@ -28,6 +29,7 @@ pub fn mbrumzheg_arm(m: &mut [u64], text: &[u8], row: &mut [u64; 5])
 }
 
 // Sets the state to zeros: refusal.
+#[tactic(auto, unfolding(crate::specs::Rows::clear_row))]
 pub fn mbrumzheg_clear(m: &mut [u64], row: &mut [u64; 5])
     ensures m_after { m.new ≡ clear_memory m.old }
     ensures row_after { row.new ≡ clear_row (clear_answer m.old) }
@@ -48,6 +50,7 @@ pub fn mbrumzheg_status(m: &[u64], row: &mut [u64; 5])
 }
 
 // Writes the row of what was written to a room.
+#[tactic(auto, unfolding(crate::specs::Rows::text_row))]
 pub(crate) fn put_wording(wording: Wording, row: &mut [u64; 5])
     ensures { row.new ≡ text_row wording }
 {

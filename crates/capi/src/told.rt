@@ -7,6 +7,7 @@ use crate::put_wording;
 use views::{Found, Listing, Told};
 
 // The number of the root that has a name: refusal, the root.
+#[tactic(auto, unfolding(crate::specs::Rows::found_row))]
 pub fn mbrumzheg_root_named(m: &[u64], name: &[u8], row: &mut [u64; 5])
     ensures { row.new ≡ found_row (root_named m.now name.now) }
 {
@@ -27,6 +28,7 @@ pub fn mbrumzheg_root_name(m: &[u64], root: u64, room: &mut [u8], row: &mut [u64
 }
 
 // Writes the row of what became of a profile's text.
+#[tactic(auto, unfolding(crate::specs::Rows::listing_row))]
 fn put_listing(listing: Listing, row: &mut [u64; 5])
     ensures { row.new ≡ listing_row listing }
 {
@@ -47,6 +49,7 @@ pub fn mbrumzheg_profile(m: &[u64], room: &mut [u8], row: &mut [u64; 5])
 }
 
 // A rule by its number: refusal, type, limit, window, root, unit.
+#[tactic(auto, unfolding(crate::specs::Rows::rule_row))]
 pub fn mbrumzheg_rule(m: &[u64], rule: u64, row: &mut [u64; 6])
     ensures { row.new ≡ rule_row (rule_told m.now rule) }
 {
