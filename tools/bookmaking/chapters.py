@@ -87,7 +87,7 @@ def held_to(totals, stated):
 def faults(sources, edges):
     """Names that lead nowhere, definitions in proofs/, and words that the key lacks."""
     misplaced = [f"{item.path}:{item.line}: `{item.name}` is reached by a promise, and stands in proofs/" for item, _ in edges.values() if item.place == "proofs"]
-    missing = sorted({name.split()[-1] for name in sources.kit if not name.startswith("Rattle·")} - explained())
+    missing = sorted({name.split()[-1] for name in sources.kit if not sources.ours(name.split()[0])} - explained())
     return list(dict.fromkeys(sources.problems)) + misplaced + [f"the key to the notation does not explain `{name}`" for name in missing]
 
 

@@ -129,7 +129,7 @@ class Page:
         return f'<h2>Key to the notation</h2><table class="key">{rows}</table>'
 
     def index(self, items):
-        names = sorted(((item.name, self.numbers[item.path, item.name], item.crate) for item in items), key=lambda e: (e[0].strip("_").lower(), e[1]))
+        names = sorted(((item.name, self.numbers[item.path, item.name], item.crate) for item in items), key=lambda e: (e[0].strip("◌").lower(), e[1]))
         listed = "".join(f'<div><a href="#d{n}">{html.escape(name)}</a> <span>{crate}</span> {n}</div>' for name, n, crate in names)
         return f'<section><h2>Index</h2><div class="index">{listed}</div></section>'
 

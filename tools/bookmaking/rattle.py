@@ -7,7 +7,7 @@ from antt import File, Item, dedented, indent, is_comment, names_in
 TYPE = re.compile(r"^(?:pub )?(struct|enum) ([A-Za-z0-9_]+)")
 FUNCTION = re.compile(r"^(?:pub )(?:extern \"C\" )?fn ([A-Za-z0-9_]+)")
 GHOST = re.compile(r"^ghost use ([^\s{}]+?)\.\{(.*)\};$")
-USE = re.compile(r"^use ([a-z0-9_]+)::([A-Za-z0-9_]+);$")
+USE = re.compile(r"^use ([a-z0-9_]+)::(?:[a-z0-9_]+::)?(?:([A-Za-z0-9_]+)|\{(.*)\})(?: as ([A-Za-z0-9_]+))?;$")
 
 
 def closed(lines, at):
@@ -46,7 +46,8 @@ def read_rattle(crate, path, text):
             file.imports.update({here: (ghost.group(1), there) for here, there in names_in(ghost.group(2))})
         elif use:
             owner = crate if use.group(1) == "crate" else use.group(1)
-            file.imports[use.group(2)] = (f"Rattle·{owner}.specs.declared.{use.group(2)}", use.group(2))
+            for here, there in names_in(f"{use.group(2)} as {use.group(4) or use.group(2)}" if use.group(2) else use.group(3)):
+                file.imports[here] = (f"Rattle.{owner}.specs.declared.{there}", there)
         if text.startswith("//"):
             comment.append(text.lstrip("/").strip())
             if not file.items and at == len(comment) - 1:
@@ -63,7 +64,7 @@ def read_rattle(crate, path, text):
             if name not in file.items:
                 file.items[name] = Item("contract", crate, path, at + 1, name, comment, dedented(contract(lines, at), indent(lines[at])))
             comment = []
-        elif text:
+        elif text and not text.startswith("#["):
             comment = []
         at += 1
     return file

@@ -7,14 +7,14 @@ from antt import read_antt
 from rattle import read_rattle
 from scopes import Walk, free_names, tokens
 
-OURS = re.compile(r"^Rattle·([a-z0-9_]+)(?:·(?:specs|proofs))?\.(specs|proofs)\.(.+)$")
-CONSTRUCTORS = {"zero", "suc", "true", "false", "[]", "_∷_", "refl"}
+MODULE = re.compile(r"^Rattle\.([a-z0-9_]+)\.(specs|proofs)\.(.+)$")
+CONSTRUCTORS = {"zero", "suc", "true", "false", "[]", "◌∷◌", "refl"}
 
 
 class Sources:
     def __init__(self, root):
         self.root = Path(root)
-        self.order = [line.split(":")[0].strip() for line in (self.root / "crates.txt").read_text().splitlines() if line.strip()]
+        self.order = [line.split(":")[0].split()[0] for line in (self.root / "crates.txt").read_text().splitlines() if line.strip()]
         self.files = {}
         self.problems = []
         self.kit = {}
@@ -26,6 +26,11 @@ class Sources:
             self.files[path] = reader(path.split("/")[1], path, whole.read_text()) if whole.is_file() else None
         return self.files[path]
 
+    def ours(self, module):
+        """A module of these crates, as (crate, place, the rest of its name), or none: the kit's libraries are named alike."""
+        found = MODULE.match(module)
+        return found.groups() if found and found.group(1) in self.order else None
+
     def declared(self, crate, name):
         """A type of a crate's code."""
         for whole in sorted((self.root / "crates" / crate / "src").glob("*.rt")):
@@ -36,7 +41,7 @@ class Sources:
 
     def there(self, module, name):
         """The item that a module of ours has under a name: its own, one that it passes on, or the type of a constructor or a variant."""
-        crate, place, rest = OURS.match(module).groups()
+        crate, place, rest = self.ours(module)
         if place == "specs" and rest.startswith("declared."):
             return self.declared(crate, rest.split(".")[1])
         file = self.file(f"crates/{crate}/{place}/{rest.replace('.', '/')}.antt")
@@ -50,19 +55,19 @@ class Sources:
 
     def is_made(self, module):
         """A module that the check makes of a function's types and clauses."""
-        found = OURS.match(module)
-        return bool(found) and found.group(2) == "proofs" and module.rsplit(".", 1)[-1] in ("Kinds", "Reads")
+        found = self.ours(module)
+        return bool(found) and found[1] == "proofs" and module.rsplit(".", 1)[-1] in ("Kinds", "Reads")
 
     def lookup(self, file, name):
         """An item, the kit's module as text, or None."""
-        several = [known for known in (*file.items, *file.imports) if known.count("_") > 2 and name in known.split("_")]
-        spelled = [name, f"_{name}_", f"_{name}", f"{name}_", *several]
+        several = [known for known in (*file.items, *file.imports) if known.count("◌") > 2 and name in known.split("◌")]
+        spelled = [name, f"◌{name}◌", f"◌{name}", f"{name}◌", *several]
         for form in spelled:
             if form in file.items:
                 return file.items[form]
             if form in file.imports:
                 module, there = file.imports[form]
-                return self.there(module, there) if OURS.match(module) else f"{module} {there}"
+                return self.there(module, there) if self.ours(module) else f"{module} {there}"
         for item in file.items.values():
             if item.kind == "data" and name in item.members:
                 return item
@@ -72,7 +77,7 @@ class Sources:
                 module = file.aliases[head]
                 if self.is_made(module):
                     return f"{module} {name}"
-                return self.there(module, name.split(".", 1)[1]) if OURS.match(module) else f"{module} {name}"
+                return self.there(module, name.split(".", 1)[1]) if self.ours(module) else f"{module} {name}"
             return self.lookup(file, head)
         return None
 
@@ -128,15 +133,19 @@ class Sources:
         return edges
 
 
+# how a clause begins, which may have a name
+CLAUSE = r"(?:requires|ensures)\*?(?: [a-z0-9_]+)? \{"
+
+
 def contract_names(item):
     """The types in a function's head, and the free names of its clauses."""
     text = "\n".join(line for line in item.statement if not line.strip().startswith("//"))
-    head = re.split(r"\n\s*(?:requires|ensures|decreases)\b", text)[0]
+    head = re.split(r"\n\s*(?:ghost|requires|ensures|decreases)\b", text)[0]
     given = re.findall(r"([a-z_][a-z0-9_]*):", head)
     names = [name for name in dict.fromkeys(re.findall(r"\b[A-Z][A-Za-z0-9_]*", head)) if name != "C"]
-    for clause in re.findall(r"^\s*(?:requires|ensures) \{(.*)\}\s*$", text, re.M | re.S):
-        for part in re.split(r"\}\s*\n\s*(?:requires|ensures) \{", clause):
-            walk = Walk(given + ["self"])
+    for clause in re.findall(rf"^\s*{CLAUSE}(.*)\}}\s*$", text, re.M | re.S):
+        for part in re.split(rf"\}}\s*\n\s*{CLAUSE}", clause):
+            walk = Walk(given + ["self", "result"])
             walk.go(tokens(part.splitlines()))
             names += [name for name in walk.free if name not in names]
     return names

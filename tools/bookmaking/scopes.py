@@ -119,7 +119,7 @@ def local_names(block):
 
 def clause_names(own, clause, block, bound, is_constructor):
     left, right = left_and_right(tokens(clause))
-    walk = Walk(bound | local_names(block) | {own} | set(own.strip("_").split("_")))
+    walk = Walk(bound | local_names(block) | {own} | set(own.strip("◌").split("◌")))
     for token in left:
         if is_word(token):
             if is_constructor(token):

@@ -9,7 +9,7 @@ WORD = re.compile(r"[A-Za-z_][A-Za-z0-9_]*")
 # a name of specs/ and proofs/ may have hyphens and ends where blanks, brackets or a dot stand
 PROVED_WORD = re.compile(r"[A-Za-z_][\w-]*")
 CODE = {".rt", ".antt", ".rs", ".c", ".h", ".hpp", ".cpp", ".py", ".js", ".html", ".css", ".toml", ".edit", ".in", ".cmake", ".1", ""}
-UNREAD = {"target", ".git", "__pycache__"}
+UNREAD = {"target", "out", ".git", "__pycache__"}
 
 
 @dataclass(frozen=True)
@@ -72,7 +72,7 @@ class Sources:
         found = {path.stem for path in self.files if path.suffix == ".edit"}
         for path in self.files:
             text = path.read_text(errors="replace")
-            found.update(WORD.findall(text), PROVED_WORD.findall(text), re.findall(r"_\w+_\w*_", text))
+            found.update(WORD.findall(text), PROVED_WORD.findall(text), re.findall(r"◌\w+◌(?:\w+◌)*", text))
         return found
 
     def path_of(self, function):
