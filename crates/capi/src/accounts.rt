@@ -18,6 +18,7 @@ fn put_applied(m: &mut [u64], account: &mut [u64], e: Event, row: &mut [u64; 5])
 }
 
 // An order: refusal, verdict.
+#[tactic(auto, unfolding(accounted::specs::Accounted::call_of))]
 pub fn mbrumzheg_accounted_order(
     m: &mut [u64],
     account: &mut [u64],
@@ -35,6 +36,7 @@ pub fn mbrumzheg_accounted_order(
 }
 
 // A lockout: refusal, verdict.
+#[tactic(auto, unfolding(accounted::specs::Accounted::call_of))]
 pub fn mbrumzheg_accounted_lockout(
     m: &mut [u64],
     account: &mut [u64],
@@ -52,6 +54,7 @@ pub fn mbrumzheg_accounted_lockout(
 }
 
 // An offered fill: refusal, verdict, grant, root trip, firm trip.
+#[tactic(auto, unfolding(accounted::specs::Accounted::call_of))]
 pub fn mbrumzheg_accounted_offer(
     m: &mut [u64],
     account: &mut [u64],
@@ -78,6 +81,7 @@ pub fn mbrumzheg_accounted_offer(
 }
 
 // An order to be sent away: refusal, verdict.
+#[tactic(auto, unfolding(accounted::specs::Accounted::call_of))]
 pub fn mbrumzheg_accounted_send(
     m: &mut [u64],
     account: &mut [u64],
@@ -110,6 +114,7 @@ pub fn mbrumzheg_accounted_send(
 }
 
 // A fill that came back from an away market: refusal, verdict, grant, root trip, firm trip.
+#[tactic(auto, unfolding(accounted::specs::Accounted::call_of))]
 pub fn mbrumzheg_accounted_report(
     m: &mut [u64],
     account: &mut [u64],
@@ -131,6 +136,7 @@ pub fn mbrumzheg_accounted_report(
 }
 
 // The order of an identity is closed: refusal, verdict.
+#[tactic(auto, unfolding(accounted::specs::Accounted::call_of))]
 pub fn mbrumzheg_accounted_close(
     m: &mut [u64],
     account: &mut [u64],
