@@ -15,9 +15,9 @@ pub record Follows (past : List ℕ) (run : Run) (day : Day) : Type 0 where
 -- one call after the other, the memory holds the machine's state and the answers are the machine's
 pub follows_on : {past : List ℕ} {run : Run} {day : Day} → Follows past run day → (calls : List Call) → Follows past (run_from run calls) (day_from day calls)
 unfolding run_from day_from after_call after_call_on
-follows_on f [] = f
-follows_on f (call ∷ calls) =
-    follows_on
+follows_on {past = past} {run = run} {day = day} f [] = f
+follows_on {past = past} {run = run} {day = day} f (call ∷ calls) =
+    follows_on {past = past} {run = after_call run call} {day = after_call_on day call}
     (record {
       holds = call-holds f.holds call;
       same = λ i. record { call = call; answer = call-answers f.holds call i } ∷ f.same i;

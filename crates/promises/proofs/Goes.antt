@@ -21,14 +21,15 @@ pub record Goes (past : List ℕ) (run : Run) (day : AnyDay) : Type 0 where
 pub goes_on : {past : List ℕ} {run : Run} {day : AnyDay} → Goes past run day → (calls : List AnyCall)
     → Goes past (run_from run (state_calls calls)) (any_from day calls)
 unfolding run_from any_from after_call after_any state_calls state_events Usual
-goes_on g [] = g
-goes_on {past} {run} {day} g (arm words ∷ calls) =
+goes_on {past = past} {run = run} {day = day} g [] = g
+goes_on {past = past} {run = run} {day = day} g (arm words ∷ calls) =
     let t = taken-apart day.memory g.holds.sound in
     let three = arm-marked day.memory words t.long (λ z. omega (arith, sound-marked day.memory g.holds.sound)) in
-    goes_on (record { holds = subst (Holds run.now past) three.1 g.holds; same = g.same; usual = (sym three.0, g.usual) }) calls
-goes_on g (text verdict room ∷ calls) = goes_on (record { holds = g.holds; same = g.same; usual = ((refl, refl), g.usual) }) calls
-goes_on g (state call ∷ calls) =
-    goes_on
+    goes_on {past = past} {run = run} {day = after_any day (arm words)} (record { holds = subst (Holds run.now past) three.1 g.holds; same = g.same; usual = (sym three.0, g.usual) }) calls
+goes_on {past = past} {run = run} {day = day} g (text verdict room ∷ calls) =
+    goes_on {past = past} {run = run} {day = after_any day (text verdict room)} (record { holds = g.holds; same = g.same; usual = ((refl, refl), g.usual) }) calls
+goes_on {past = past} {run = run} {day = day} g (state call ∷ calls) =
+    goes_on {past = past} {run = after_call run call} {day = after_any day (state call)}
     (record {
       holds = call-holds g.holds call;
       same = λ i. record { call = call; answer = call-answers g.holds call i } ∷ g.same i;
