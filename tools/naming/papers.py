@@ -15,7 +15,7 @@ QUALIFIED = re.compile(r"\b(?:[A-Za-z]\w*::)+\w+")
 # what looks like a name: words joined by _ or -, or a capital inside
 NAME = re.compile(r"`((?:[A-Za-z_]\w*[._-]|[A-Za-z]*[a-z0-9][A-Z])[\w.-]*)`")
 # names of the kit, which no source of ours has to have
-OUTSIDE = {"rattle-kit-13f", "libos_c.a", "rattle_open_to_read", "rattle_set_errno"}
+OUTSIDE = {"rattle-kit-5b", "rattle-kit-13f", "libos_c.a", "rattle_open_to_read", "rattle_set_errno"}
 WRONG = re.compile(r"^- `([a-z]+)`: (`[a-z0-9_]+`(?:, `[a-z0-9_]+`)*)\.?$")
 WRONG_LIST = re.compile(r"^Wrong versions[^\n]*:\n\n((?:[- ] .*\n)+)", re.M)
 # an example, which tools/test-papers runs
