@@ -85,8 +85,9 @@ pub record Beside (past : List ℕ) (now : Counted) (day : Keeping) : Type 0 whe
 pub beside-on : {past : List ℕ} {now : Counted} {day : Keeping} → Beside past now day → (events : List Kept)
     → Beside past (counted_from now events) (keeping_from day events)
 unfolding counted_from keeping_from after_keeping after_on
-beside-on b [] = b
-beside-on {past} {now} {day} b (event ∷ events) = beside-on (next (call_of event)) events
+beside-on {past = past} {now = now} {day = day} b [] = b
+beside-on {past = past} {now = now} {day = day} b (event ∷ events) =
+    beside-on {past = past} {now = after_on now (call_of event)} {day = after_keeping day event} (next (call_of event)) events
   where
     next : (call : Call) → Beside past (after_on now call) (record {
       memory = accounted_memory day.memory day.account call;

@@ -18,6 +18,7 @@ use Rattle.machine.specs.Deeds.{Deed, granted, filling}
 use Rattle.machine.specs.Offers.{covers_offer}
 use Rattle.machine.specs.declared.Answer.{Answer}
 use Rattle.machine.specs.declared.Answer.TheVariants.{Judged}
+use Rattle.machine.specs.Judge.{step}
 use Rattle.demand.specs.Run.{Event, after_call, run_from, run_of}
 use Rattle.demand.specs.History.{is_reported, is_away, if_granted, deed_of, deeds_of, contracts_of, amount_of, zeroes, NoneOf}
 use Rattle.demand.specs.Sums.{in_stretch, sum_by, Within}
@@ -84,10 +85,10 @@ module _ (l : Library) (meets : Meets l) where
   history-on : {s : State} {past : List ℕ} (m : Memory) → Holds s past m.now → (before : List Event) (day : List Called)
       → history_by l m day before ≡ (run_from (record { now = s; history = before }) (map (λ c. c.call) day)).history
   unfolding history_by run_from after_call
-  history-on m h before [] = refl
-  history-on m h before (c ∷ day) =
+  history-on {s = s} {past = past} m h before [] = refl
+  history-on {s = s} {past = past} m h before (c ∷ day) =
       ap (λ (a : Answer). history_by l (l.call m c).memory day (record { call = c.call; answer = a } ∷ before)) (meets.call_answers m c ∙ call-answers h c.call)
-      ∙ history-on (l.call m c).memory (call-leaves l meets m h c) _ day
+      ∙ history-on {s = (step s c.call).after} {past = past} (l.call m c).memory (call-leaves l meets m h c) _ day
 
   pub contracts-keep-demand : MeetsDemand3 l
   unfolding run_of

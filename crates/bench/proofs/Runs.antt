@@ -41,10 +41,10 @@ module _ (l : Library) (meets : Meets l) where
   answers-on : {s : State} {past : List ℕ} (m : Memory) → Holds s past m.now → (before : List Event) (day : List Called)
       → answers_then before (answers_by l m day) ≡ answers_then (run_from (record { now = s; history = before }) (map (λ c. c.call) day)).history []
   unfolding answers_by answers_then run_from after_call
-  answers-on m h before [] = refl
-  answers-on m h before (c ∷ day) =
+  answers-on {s = s} {past = past} m h before [] = refl
+  answers-on {s = s} {past = past} m h before (c ∷ day) =
       ap (λ (a : Answer). answers_then before (a ∷ answers_by l (l.call m c).memory day)) (answers-as m h c)
-      ∙ answers-on (l.call m c).memory (call-leaves m h c) _ day
+      ∙ answers-on {s = (step s c.call).after} {past = past} (l.call m c).memory (call-leaves m h c) _ day
 
   -- a day of calls on sound memory is a day of the machine
   pub day-answers : (m : Memory) → memory_refusal m.now ≡ 0 → (day : List Called) → answers_by l m day ≡ machine_answers (decode m.now) (map (λ c. c.call) day)
