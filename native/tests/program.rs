@@ -1,4 +1,4 @@
-//! The real program, as the kit runs it, and the second program print the same bytes for the same profile and records.
+//! The real program, as the kit builds it, and the second program print the same bytes for the same profile and records.
 //! `native/run test` builds both and names them: PROGRAM is the command that runs the proved one, SECOND the other.
 //! PROGRAM ends with 1 where the first word is `refused`; the second program ends with 0 then too.
 
