@@ -5,7 +5,7 @@
 ghost use Rattle.std.specs.Prelude.{◌≡◌, ◌≤◌, length, take};
 
 use std::io;
-use std::io::Read;
+use std::io::{ErrorKind, Read};
 use std::rt::Files;
 
 // Reads the file `profile`, up to one byte more than a profile may have, and answers how many bytes that are: none where it is missing or
@@ -71,13 +71,28 @@ fn print_table(rt: &impl Print, memory: &[u64], account: &[u64]) -> io::Result<(
 // How many records are read at a time: pieces of whole records leave what the input leaves in one go.
 const RECORDS: usize = 4096;
 
-fn main(rt: HostRuntime) -> io::Result<()> {
+// Arms the unit, and prints the table of the input if it is armed.
+fn print_day(rt: &HostRuntime) -> io::Result<()> {
     let mut memory = [0u64; answering::SIZE];
-    if !arm(&rt, &mut memory)? {
+    if !arm(rt, &mut memory)? {
         return Ok(());
     }
     let mut account = [0u64; figures::SIZE];
     let mut input = [0u8; RECORDS * answering::RECORD_BYTES];
     take_all(&mut rt.stdin(), &mut memory, &mut account, &mut input)?;
-    print_table(&rt, &memory, &account)
+    print_table(rt, &memory, &account)
+}
+
+// A reader that goes away ends the program, and is no error.
+fn main(rt: HostRuntime) -> io::Result<()> {
+    match print_day(&rt) {
+        Ok(()) => Ok(()),
+        Err(e) => {
+            if e.kind() == ErrorKind::BrokenPipe {
+                Ok(())
+            } else {
+                Err(e)
+            }
+        }
+    }
 }

@@ -4,7 +4,7 @@
 ghost use Rattle.std.specs.Prelude.{◌≡◌, ◌≤◌, length, take};
 
 use std::io;
-use std::io::Read;
+use std::io::{ErrorKind, Read};
 use std::rt::Files;
 
 // Reads the file `profile`, up to one byte more than a profile may have, and answers how many bytes that are: none where it is missing or
@@ -120,12 +120,27 @@ fn room<const N: usize>() -> [u8; N]
     [0; N]
 }
 
-fn main(rt: HostRuntime) -> io::Result<()> {
+// Arms the unit, and answers the whole input if it is armed.
+fn answer_day(rt: &HostRuntime) -> io::Result<()> {
     let mut memory = [0u64; answering::SIZE];
-    if !arm(&rt, &mut memory)? {
+    if !arm(rt, &mut memory)? {
         return Ok(());
     }
     let mut input = [0u8; RECORDS * answering::RECORD_BYTES];
     let mut output = room::<LINES_BYTES>();
-    answer_all(&rt, &mut rt.stdin(), &mut memory, &mut input, &mut output)
+    answer_all(rt, &mut rt.stdin(), &mut memory, &mut input, &mut output)
+}
+
+// A reader that goes away ends the program, and is no error.
+fn main(rt: HostRuntime) -> io::Result<()> {
+    match answer_day(&rt) {
+        Ok(()) => Ok(()),
+        Err(e) => {
+            if e.kind() == ErrorKind::BrokenPipe {
+                Ok(())
+            } else {
+                Err(e)
+            }
+        }
+    }
 }
