@@ -89,9 +89,18 @@ def body_of(crate, file, text, old):
 
 
 def function_at(crate, file, text, line):
-    """The function whose head or body has a line of a file, as the check names it; '' if there is none."""
-    heads = [head for head in HEAD.finditer(text) if text.count("\n", 0, head.start()) < line]
+    """The function whose attributes, head or body have a line of a file, as the check names it; '' if there is none."""
+    heads = [head for head in HEAD.finditer(text) if first_line(text, head) <= line]
     return name_of(crate, file, text, heads[-1]) if heads else ""
+
+
+def first_line(text, head):
+    """The line of a function's first attribute, or of its head where it has none: what stands right above it and ends in a bracket."""
+    above = text[: head.start()].split("\n")[:-1]
+    at = len(above)
+    while at and above[at - 1].strip() and not above[at - 1].strip().startswith("//") and not above[at - 1].rstrip().endswith(("{", "}", ";")):
+        at -= 1
+    return at + 1
 
 
 def named(path):

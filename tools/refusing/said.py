@@ -126,7 +126,7 @@ def of_rts(edit, texts, line):
 
 def new_names(function, folder, said):
     """The names that a proof's files have to take where an edit has changed what a condition or a place is called: for each that is gone the one name
-    that has come, where that differs from it in one part and is in none of the files."""
+    that has come, is like it and is in none of the files."""
     there = set(re.findall(NAME, "\n".join(path.read_text() for path in folder.glob("*.antt"))))
     found = {}
     for error in own_errors(function, said):
@@ -136,19 +136,24 @@ def new_names(function, folder, said):
             continue
         asked = re.search(rf"^help: `Goals` has no [^;]*`{re.escape(gone[1])}`[^;]*; (.*)$", said, re.M)
         listed = re.findall(r"`([^`]*)`", asked[1] if asked and "Goals`" in first else rest)
-        alike = {name for name in listed if name not in there and differs_in_one(gone[1], name)}
+        come = [name for name in dict.fromkeys(listed) if name not in there and is_alike(gone[1], name)]
+        alike = [name for name in come if differs_in_one(gone[1], name)] or come
         if len(alike) == 1:
-            found[gone[1]] = alike.pop()
+            found[gone[1]] = alike[0]
     return found
 
 
 NAME = r"[^\s.(){};,`]+"
 
 
+def is_alike(name, other):
+    """True if two names have as many parts between hyphens, and the first is the same: what kind of goal or place it is."""
+    return name.count("-") == other.count("-") > 0 and name.split("-")[0] == other.split("-")[0]
+
+
 def differs_in_one(name, other):
-    """True if two names have as many parts between hyphens, and one alone differs."""
-    parts, others = name.split("-"), other.split("-")
-    return len(parts) == len(others) > 1 and sum(one != two for one, two in zip(parts, others)) == 1
+    """True if of two such names one part alone differs."""
+    return sum(one != two for one, two in zip(name.split("-"), other.split("-"))) == 1
 
 
 def with_names(text, names):
