@@ -146,14 +146,20 @@ def new_names(function, folder, said):
 NAME = r"[^\s.(){};,`]+"
 
 
+def parts_of(name):
+    """The parts of a name between its hyphens, without what says that a condition is turned round."""
+    return [part for part in name.split("-") if part != "not"]
+
+
 def is_alike(name, other):
-    """True if two names have as many parts between hyphens, and the first is the same: what kind of goal or place it is."""
-    return name.count("-") == other.count("-") > 0 and name.split("-")[0] == other.split("-")[0]
+    """True if two names have as many parts, and the first is the same: what kind of goal or place it is."""
+    parts, others = parts_of(name), parts_of(other)
+    return len(parts) == len(others) > 1 and parts[0] == others[0]
 
 
 def differs_in_one(name, other):
-    """True if of two such names one part alone differs."""
-    return sum(one != two for one, two in zip(name.split("-"), other.split("-"))) == 1
+    """True if of two such names one part at the most differs."""
+    return sum(one != two for one, two in zip(parts_of(name), parts_of(other))) < 2
 
 
 def with_names(text, names):
