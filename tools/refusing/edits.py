@@ -39,8 +39,8 @@ class Edit:
 
 
 def read_edit(path):
-    """An edit's replacements, as rt's own must-fail edits are written: a 'file:' line holds for the 'old:' and 'new:' pairs after it, and a pair
-    applies to what those before it made."""
+    """An edit's replacements, as rt's own must-fail edits are written: a 'file:' line holds for the 'old:' and 'new:' pairs after it. Each old text
+    stands once in its file; in a must-fail edit, in what the pairs before it made of the file."""
     edit, file, old, texts, bodies = Edit(path), "", "", {}, set()
     for line in path.read_text().splitlines():
         if line.startswith("file: "):
@@ -56,12 +56,26 @@ def read_edit(path):
                 raise BadEdit(f"{edit.name}: an 'old:' text is {found} times in {file}")
             edit.pairs.append((file, old, line[4:].removeprefix(" ")))
             bodies.add(body_of(edit.crate, file, texts[file], old))
-            texts[file] = texts[file].replace(old, edit.pairs[-1][2])
+            if edit.is_rts:
+                texts[file] = texts[file].replace(old, edit.pairs[-1][2])
             old = ""
     if not edit.pairs:
         raise BadEdit(f"{edit.name}: it has no 'old:' and 'new:' pair")
     edit.function = bodies.pop() if len(bodies) == 1 else ""
     return edit
+
+
+def apply(edit, texts):
+    """Makes an edit's replacements in the texts of files: all at once where each old text stands there once, else each in what the ones before it made."""
+    for file in {file for file, _, _ in edit.pairs}:
+        text, pairs = texts[file], [(old, new) for name, old, new in edit.pairs if name == file]
+        if all(text.count(old) == 1 for old, _ in pairs):
+            for at, old, new in sorted(((text.index(old), old, new) for old, new in pairs), reverse=True):
+                text = text[:at] + new + text[at + len(old) :]
+        else:
+            for old, new in pairs:
+                text = text.replace(old, new, 1)
+        texts[file] = text
 
 
 def name_of(crate, file, text, head):

@@ -111,7 +111,9 @@ def of_each(edits, texts, said):
 
 
 # what an error of a fact says in its first words
-FACT = re.compile(r"the two types|expected type `|no proof of|the goal does not follow")
+FACT = re.compile(
+    r"the two (?:types|values|sides)|expected type `|no proof of|the goal does not follow|no occurrence of the path|give a proof of that as|list the missing equation"
+)
 
 
 def of_rts(edit, texts, line):
