@@ -130,19 +130,36 @@ def new_names(function, folder, said):
     """The names that a proof's files have to take where an edit has changed what a condition or a place is called: for each that is gone the one name
     that has come, is like it and is in none of the files."""
     there = set(re.findall(NAME, "\n".join(path.read_text() for path in folder.glob("*.antt"))))
-    found = {}
+    fields, goals = {}, {}
     for error in own_errors(function, said):
         first, _, rest = error.partition("\n")
         gone = re.search(r"has no (?:field )?`([^`]*)`", first)
         if not gone:
             continue
-        asked = re.search(rf"^help: `Goals` has no [^;]*`{re.escape(gone[1])}`[^;]*; (.*)$", said, re.M)
-        listed = re.findall(r"`([^`]*)`", asked[1] if asked and "Goals`" in first else rest)
-        come = [name for name in dict.fromkeys(listed) if name not in there and is_alike(gone[1], name)]
-        alike = [name for name in come if differs_in_one(gone[1], name)] or come
-        if len(alike) == 1:
-            found[gone[1]] = alike[0]
+        if ".Goals` has no" in first:
+            asked = re.search(rf"^help: `Goals` has no [^;]*`{re.escape(gone[1])}`[^;]*; (.*)$", said, re.M)
+            goals[gone[1]] = asked[1] if asked else ""
+        else:
+            fields[gone[1]] = rest
+    found = {name: come for name, listed in fields.items() if (come := the_one_like(name, listed, there))}
+    # a condition `if-X` has its X in the names of the goals behind it
+    turned = {f"-{name[3:]}": f"-{come[3:]}" for name, come in found.items() if name.startswith("if-")}
+    for name, listed in goals.items():
+        by_condition = [name.replace(old, new) for old, new in turned.items() if f"{name}-".count(f"{old}-") == 1]
+        known = [come for come in by_condition if f"`{come}`" in listed or " more;" in listed]
+        come = known[0] if len(known) == 1 else the_one_like(name, listed, there)
+        if come:
+            found[name] = come
     return found
+
+
+def the_one_like(name, listed, there):
+    """Of the names listed, none of which is in the files, the one that is like a name: in all parts but one, or else in how many they are, or else in the first."""
+    come = [other for other in dict.fromkeys(re.findall(r"`([^`]*)`", listed)) if other not in there and parts_of(other)[0] == parts_of(name)[0]]
+    as_long = [other for other in come if len(parts_of(other)) == len(parts_of(name)) > 1]
+    in_one = [other for other in as_long if sum(one != two for one, two in zip(parts_of(name), parts_of(other))) < 2]
+    alike = in_one or as_long or come
+    return alike[0] if len(alike) == 1 else ""
 
 
 NAME = r"[^\s.(){};,`]+"
@@ -150,18 +167,7 @@ NAME = r"[^\s.(){};,`]+"
 
 def parts_of(name):
     """The parts of a name between its hyphens, without what says that a condition is turned round."""
-    return [part for part in name.split("-") if part != "not"]
-
-
-def is_alike(name, other):
-    """True if two names have as many parts, and the first is the same: what kind of goal or place it is."""
-    parts, others = parts_of(name), parts_of(other)
-    return len(parts) == len(others) > 1 and parts[0] == others[0]
-
-
-def differs_in_one(name, other):
-    """True if of two such names one part at the most differs."""
-    return sum(one != two for one, two in zip(parts_of(name), parts_of(other))) < 2
+    return [part for part in name.split("-") if part != "not"] or [name]
 
 
 def with_names(text, names):
