@@ -154,11 +154,12 @@ def new_names(function, folder, said):
 
 
 def the_one_like(name, listed, there):
-    """Of the names listed, none of which is in the files, the one that is like a name: in all parts but one, or else in how many they are, or else in the first."""
+    """Of the names listed, none of which is in the files, the one that is like a name: in all parts but one, or else in how many they are, or else in that it
+    is a condition's."""
     come = [other for other in dict.fromkeys(re.findall(r"`([^`]*)`", listed)) if other not in there and parts_of(other)[0] == parts_of(name)[0]]
     as_long = [other for other in come if len(parts_of(other)) == len(parts_of(name)) > 1]
     in_one = [other for other in as_long if sum(one != two for one, two in zip(parts_of(name), parts_of(other))) < 2]
-    alike = in_one or as_long or come
+    alike = in_one or as_long or (come if name.startswith("if-") else [])
     return alike[0] if len(alike) == 1 else ""
 
 
