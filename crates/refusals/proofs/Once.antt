@@ -1,0 +1,47 @@
+-- No two refusals have one number, so that an answer told by numbers is one answer. Assumes nothing.
+use Rattle.std.proofs.Common.{◌≡◌, ◌∙◌, sym, ap, refl, ℕ, List, [], ◌∷◌, get_or, Result, arith}
+use Rattle.std.specs.declared.result.Result.TheVariants.{Ok, Err}
+use Rattle.refusals.specs.declared.Refusal.{Refusal}
+use Rattle.refusals.specs.declared.Refusal.TheVariants.{NoRoom, Unsound, ArmedAlready, NotArmed, ProfileLength, Malformed, OtherFirm, OutOfRange, LevelClash, UnitClash, TooMany, BadTime, Unknown, BadAmount, LogFull, FaultyRecord, RegisterFull, IdentityClash, OverReported, Unfit, AccountFull}
+use Rattle.refusals.specs.Numbers.{refusal_number, refused_with, numbered}
+
+-- the refusals in the order of their numbers, the first of which is 1
+abbrev in_order : List Refusal
+in_order = NoRoom ∷ NoRoom ∷ Unsound ∷ ArmedAlready ∷ NotArmed ∷ ProfileLength ∷ Malformed ∷ OtherFirm ∷ OutOfRange ∷ LevelClash ∷ UnitClash ∷ TooMany ∷ BadTime ∷ Unknown ∷ BadAmount ∷ LogFull ∷ FaultyRecord ∷ RegisterFull ∷ IdentityClash ∷ OverReported ∷ Unfit ∷ AccountFull ∷ []
+
+abbrev refusal_at : ℕ → Refusal
+refusal_at n = get_or in_order n NoRoom
+
+refusal_at_number : (r : Refusal) → refusal_at (refusal_number r) ≡ r
+refusal_at_number NoRoom = refl
+refusal_at_number Unsound = refl
+refusal_at_number ArmedAlready = refl
+refusal_at_number NotArmed = refl
+refusal_at_number ProfileLength = refl
+refusal_at_number Malformed = refl
+refusal_at_number OtherFirm = refl
+refusal_at_number OutOfRange = refl
+refusal_at_number LevelClash = refl
+refusal_at_number UnitClash = refl
+refusal_at_number TooMany = refl
+refusal_at_number BadTime = refl
+refusal_at_number Unknown = refl
+refusal_at_number BadAmount = refl
+refusal_at_number LogFull = refl
+refusal_at_number FaultyRecord = refl
+refusal_at_number RegisterFull = refl
+refusal_at_number IdentityClash = refl
+refusal_at_number OverReported = refl
+refusal_at_number Unfit = refl
+refusal_at_number AccountFull = refl
+
+-- a number is that of one refusal
+pub one_refusal : (a b : Refusal) → refusal_number a ≡ refusal_number b → a ≡ b
+one_refusal a b e = sym (refusal_at_number a) ∙ ap refusal_at e ∙ refusal_at_number b
+
+-- an answer told by numbers is one answer
+pub one_numbered : {A : Type 0} (a b : Result A Refusal) → numbered a ≡ numbered b → a ≡ b
+one_numbered (Ok x) (Ok y) e = let same : x ≡ y = cc in ap Ok same
+one_numbered (Err r) (Err t) e = let same : refusal_number r ≡ refusal_number t = cc in ap Err (one_refusal r t same)
+one_numbered (Ok x) (Err t) e = absurd (let w : ◌≡◌ {A = ℕ} 0 1 = cc in omega arith)
+one_numbered (Err r) (Ok y) e = absurd (let w : ◌≡◌ {A = ℕ} 0 1 = cc in omega arith)
