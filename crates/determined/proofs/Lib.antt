@@ -1,4 +1,5 @@
 -- Every contract determines what a call gives: two outcomes that meet it are equal. One file a crate, one theorem for each public function.
+pub mod Refusals
 pub mod Numbers
 pub mod Measures
 pub mod Bits
