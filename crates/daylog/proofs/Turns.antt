@@ -162,13 +162,3 @@ joined-log {k = k} {r = r} {xs = xs} h most moved e room is =
     let rs = last_of r (entries_of k xs) in
     let count : length rs ≡ r = omega (arith, length-drop (length (entries_of k xs) - r) (entries_of k xs), length-places codec k xs) in
     rw (rest-blanked h rs count most moved is) (ap (λ (n : ℕ). sets (log_table rs) (n * 2) (entry_numbers e)) (sym count) ∙ put_next codec 512 rs e (omega arith))
-
--- numbers set to 0, one after the other
-pub zeros-more : (s : List ℕ) (i : ℕ) → i < length s → set (zeros i ++ drop i s) i 0 ≡ zeros (i + 1) ++ drop (i + 1) s
-unfolding zeros
-zeros-more s i h = more 0 (zeros i) s i (length-zeros i) 0 h ∙ ap (λ (l : List ℕ). l ++ drop (i + 1) s) (zeros-add i 1)
-
-pub zeros-done : (s : List ℕ) (i : ℕ) → length s ≡ i → zeros i ++ drop i s ≡ zeros (length s)
-zeros-done s i h =
-    let end : length s ≤ i = omega arith in
-    rw (drop_of_length-le s end, append-nil (zeros i), h)

@@ -53,13 +53,11 @@ pub(crate) fn unflag_places(log: &mut [u64], k: usize, root: u64, effect: Effect
     ensures { Left (unflagged_log (zeroing effect root) (entries_of k log.old)) log.new result }
 {
     let mut kept: usize = 0;
-    let mut i: usize = 0;
-    while i < k {
+    for i in 0..k {
         let at = i * 2;
         let fill = cleared(log[at], root, effect);
         let amount = log[at + 1];
         kept = put_flagged(log, kept, fill, amount);
-        i += 1;
     }
     let from = kept * 2;
     let end = k * 2;

@@ -35,8 +35,7 @@ fn are_entries(log: &[u64], k: usize, roots: u64, clock: u64) -> bool
 {
     let mut gaps: u64 = 0;
     let mut from: u64 = 0;
-    let mut i: usize = 0;
-    while i < k {
+    for i in 0..k {
         let at = i * 2;
         let first = log[at];
         let second = log[at + 1];
@@ -45,7 +44,6 @@ fn are_entries(log: &[u64], k: usize, roots: u64, clock: u64) -> bool
         // No way out of the loop before its end, so that the entries can be tested side by side.
         gaps = gaps | (own | packing::gap(first % 4, 1) | packing::gap(time, from));
         from = time;
-        i += 1;
     }
     // No time is above the last one, and a time in range has nothing above it.
     (gaps < packing::CLEAR)
@@ -204,11 +202,7 @@ pub fn recent_entries(log: &[u64], window: u64, time: u64) -> usize
 pub fn blank(s: &mut [u64])
     ensures { s.new ≡ zeros (length s.old) }
 {
-    let mut i: usize = 0;
-    while i < s.len() {
-        s[i] = 0;
-        i += 1;
-    }
+    s.fill(0);
 }
 
 // Of the log's entries the last ones stay, and e joins.

@@ -119,9 +119,7 @@ pub(crate) fn memo_of(log: &[u64], k: usize, passed: usize, s: Sieve) -> Memo
     let mut notional = TenThousandths(0);
     let mut volume = Contracts(0);
     let mut count = Executions(0);
-    let mut i = k;
-    while first < i {
-        i -= 1;
+    for i in (first..k).rev() {
         let at = i * 2;
         let fill = log[at];
         let amount = log[at + 1];

@@ -19,13 +19,11 @@ fn singly(log: &[u64], k: usize, first: u64) -> usize
     ensures { result ≡ length (newest first (entries_of k log.now)) }
 {
     let from = first * 1024;
-    let mut older = k;
-    while 0 < older {
-        let at = (older - 1) * 2;
+    for i in (0..k).rev() {
+        let at = i * 2;
         if log[at] < from {
-            return k - older;
+            return k - 1 - i;
         }
-        older -= 1;
     }
     k
 }
@@ -60,15 +58,15 @@ pub(crate) fn since(log: &[u64], k: usize, first: u64) -> usize
     if first == 0 {
         return k;
     }
-    let mut older = k;
-    while 4 <= older {
-        let n = of_four(log, older, first);
+    for turn in 0..k / 4 {
+        let passed = turn * 4;
+        let n = of_four(log, k - passed, first);
         if n < 4 {
-            return k - older + n;
+            return passed + n;
         }
-        older -= 4;
     }
-    k - older + singly(log, older, first)
+    let passed = k / 4 * 4;
+    passed + singly(log, k - passed, first)
 }
 
 // How many of the log's k entries, in order of time, are inside a window at a time: those that stand last.

@@ -9,6 +9,3 @@ use Rattle.daylog.proofs.are_entries.Given as goal
 abbrev pub invariant-loop-i : goal.invariant-loop-i
 invariant-loop-i l =
     (l.i ≤ l.k) × (l.from < 9_223_372_036_854_775_808) × (left_holds l.roots l.clock l.k l.log 0 0 ≡ (is_clear l.gaps && from_holds l.roots l.clock l.k l.log l.from l.i))
-
-abbrev pub decreases-loop-i : goal.decreases-loop-i
-decreases-loop-i l = l.k - l.i

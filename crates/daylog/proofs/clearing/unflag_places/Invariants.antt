@@ -9,6 +9,3 @@ use Rattle.daylog.proofs.clearing.unflag_places.Given as goal
 
 abbrev pub invariant-loop-i : goal.invariant-loop-i
 invariant-loop-i l = (l.i ≤ l.k) × (length l.log ≡ 1024) × Turned (unflagged_log (zeroing l.effect l.root)) l.k l.initial.log l.i l.kept l.log
-
-abbrev pub decreases-loop-i : goal.decreases-loop-i
-decreases-loop-i l = l.k - l.i

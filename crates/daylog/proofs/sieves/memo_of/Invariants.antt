@@ -14,6 +14,3 @@ abbrev pub invariant-loop-i : goal.invariant-loop-i
 invariant-loop-i l =
     Summed (sifted in_dollars l.s) l.s.from l.k l.log l.i l.notional.0 × Summed (sifted in_contracts l.s) l.s.from l.k l.log l.i l.volume.0
     × Summed (sifted in_executions l.s) l.s.from l.k l.log l.i l.count.0 × (l.k - l.i + length (newest l.s.from (entries_of l.i l.log)) ≡ l.passed)
-
-abbrev pub decreases-loop-i : goal.decreases-loop-i
-decreases-loop-i l = l.i - l.first

@@ -1,9 +1,8 @@
--- `daylog::since` meets its contract: those from a place on are passed, with those that are still to be passed before it. Each turn looks at no more entries
--- than it passes, and one: the measure is how many are left to look at. Assumes nothing.
-use Prim.Native.Nat.{ℕ, ◌+◌, ◌≤◌}
+-- `daylog::since` meets its contract: those from a place on are passed, with those that are still to be passed before it. Each turn looks at four entries at
+-- most, and all that were looked at so far are passed, so these and what is still to be looked at are as many as the reading looks at. Assumes nothing.
+use Prim.Native.Nat.{ℕ, ◌+◌, ◌*◌, ◌-◌, ◌/◌, ◌≤◌}
 use mathlib.Core.Path.{◌≡◌, sym, ap, ◌∙◌}
 use mathlib.Core.Bool.{true}
-use mathlib.Core.List.{List}
 use native.Mathlib.Omega.{arith}
 use lib.ListN.{length}
 use Rattle.laws.specs.Folds.{keep}
@@ -14,12 +13,13 @@ use Rattle.daylog.specs.Newest.{is_since, newest}
 use Rattle.daylog.proofs.Logs.{codec}
 use Rattle.daylog.proofs.Newest.{newest-most, few-looked-at}
 use Rattle.daylog.proofs.Readings.{newest-all}
+use Rattle.daylog.proofs.windows.since.Goals.{At-loop-turn}
 use Rattle.daylog.proofs.windows.since.Goals as goal
 
--- so it looks at no more entries than there are that are not before the time, and one
-few-looks : (log : List ℕ) (k first clock : ℕ) → are_ordered 0 clock (entries_of k log) ≡ true
-    → goal.the-decreases-loop-older log k first k k (log, k, first) ≤ length (keep (is_since first) (entries_of k log)) + 1
-few-looks log k first clock ordered = few-looked-at first 0 clock (entries_of k log) ordered
+-- so its turns pass no more entries than there are that are not before the time, and one
+few-looks : (c : At-loop-turn) (clock : ℕ) → are_ordered 0 clock (entries_of c.args.k c.args.log.now) ≡ true
+    → c.loop-turn.turn * 4 ≤ length (keep (is_since c.args.first) (entries_of c.args.k c.args.log.now)) + 1
+few-looks c clock ordered = omega (arith, c.loop-turn.invariant.looks, few-looked-at c.args.first 0 clock (entries_of c.args.k c.args.log.now) ordered)
 
 pub returns-then-first-eq0 : goal.returns-then-first-eq0
 returns-then-first-eq0 c =
@@ -27,31 +27,9 @@ returns-then-first-eq0 c =
     let es = entries_of a.k a.log.now in
     sym (ap (λ (n : ℕ). length (newest n es)) c.if-first-eq0.true ∙ newest-all es ∙ length-places codec a.k a.log.now)
 
-pub of_four-n-requires : goal.of_four-n-requires
-of_four-n-requires c =
-    let s = c in
-    (omega (arith, c.loop-older-test.true), s.requires.1, (s.args.k, s.requires.0, c.loop-older.invariant.0))
-
-pub returns-then-n-lt4 : goal.returns-then-n-lt4
-returns-then-n-lt4 c = let l = c.loop-older in omega (arith, l.invariant.1, c.of_four-n.ensures.stops (omega (arith, c.if-n-lt4.true)))
-
-pub loop-older-smaller : goal.loop-older-smaller
-loop-older-smaller c = omega (arith, (c.of_four-n.ensures.goes (omega (arith, c.if-n-lt4.false))).looks)
-
-pub loop-older-preserved : goal.loop-older-preserved
-loop-older-preserved c =
-    let l = c.loop-older in
-    (omega (arith, l.invariant.0), omega (arith, l.invariant.1, c.loop-older-test.true, (c.of_four-n.ensures.goes (omega (arith, c.if-n-lt4.false))).passes))
-
-pub singly-requires : goal.singly-requires
-singly-requires c =
-    let s = c in
-    (s.requires.1, (s.args.k, s.requires.0, c.loop-older.invariant.0))
-
 pub overflow_add-result-2 : goal.overflow_add-result-2
 overflow_add-result-2 c =
     let a = c.args in
-    omega (arith, c.loop-older.invariant.1, c.singly.ensures, newest-most a.first (entries_of a.k a.log.now), length-places codec a.k a.log.now, c.requires.0.fits)
-
-pub returns : goal.returns
-returns c = let l = c.loop-older in omega (arith, l.invariant.1, c.singly.ensures)
+    let all : c.loop-turn.turn ≡ a.k / 4 = omega arith in
+    let rest = ap (λ (n : ℕ). length (newest a.first (entries_of (a.k - n * 4) a.log.now))) all in
+    omega (arith, rest, c.loop-turn.invariant.passes, c.singly.ensures, newest-most a.first (entries_of a.k a.log.now), length-places codec a.k a.log.now, c.requires.0.fits)
