@@ -64,12 +64,10 @@ pub(crate) fn credit(m: &mut [u64], o: Offer, grant: u64) -> Reached
         firm: false,
     };
     let mut place: usize = 0;
-    let mut i: usize = 0;
-    while i < rules {
+    for i in 0..rules {
         let own = state::covering::accounts_at(m, i);
         reached = credit_at(m, o, grant, i, place, reached);
         place += own;
-        i += 1;
     }
     reached
 }

@@ -134,13 +134,11 @@ pub fn cuts_of(m: &[u64], o: Offer, read: Reading) -> Cuts
     };
     let mut memos = daylog::memos_of(read);
     let mut place: usize = 0;
-    let mut i: usize = 0;
-    while i < rules {
+    for i in 0..rules {
         let after = lower_at(m, o, i, place, cuts, memos);
         cuts = after.cuts;
         memos = after.memos;
         place += state::covering::accounts_at(m, i);
-        i += 1;
     }
     cuts
 }

@@ -66,10 +66,8 @@ fn wipe_rule(m: &mut [u64], i: usize, place: usize, root: u64, effect: Effect) -
         return next;
     }
     let limit = rule.limit;
-    let mut j = place;
-    while j < next {
+    for j in place..next {
         state::put_total(m, j, limit.amount(0));
-        j += 1;
     }
     next
 }
@@ -81,10 +79,8 @@ fn wipe(m: &mut [u64], root: u64, effect: Effect)
 {
     let rules = state::rules_in(m);
     let mut place: usize = 0;
-    let mut i: usize = 0;
-    while i < rules {
+    for i in 0..rules {
         place = wipe_rule(m, i, place, root, effect);
-        i += 1;
     }
 }
 

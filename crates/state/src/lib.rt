@@ -49,11 +49,7 @@ pub fn copy(from: &[u64], to: &mut [u64])
     requires { length from.now ≤ length to.old }
     ensures { to.new ≡ from.now ++ drop (length from.now) to.old }
 {
-    let mut i = 0;
-    while i < from.len() {
-        to[i] = from[i];
-        i += 1;
-    }
+    to[..from.len()].copy_from_slice(from);
 }
 
 // Writes a freshly armed state: its firm, how many roots and rules it has, and these in their places.
@@ -189,11 +185,9 @@ pub fn account_at(m: &[u64], rule: usize, unit: u64) -> usize
     ensures { result ≡ cell_at (rules_in (decode m.now)) rule unit }
 {
     let mut place: usize = 0;
-    let mut i: usize = 0;
-    while i < rule {
+    for i in 0..rule {
         let before = rule_in(m, i);
         place += before.accounts();
-        i += 1;
     }
     let own = rule_in(m, rule);
     place + own.place_of(unit)

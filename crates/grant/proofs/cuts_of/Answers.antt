@@ -48,9 +48,6 @@ overflow_add-place c =
     let on = next_place start.requires.0.laid low l.invariant.3 refl c.accounts_at-place.ensures in
     omega (arith, place-within start.requires.0.laid (l.i + 1) on, laid-few start.requires.0.laid)
 
-pub overflow_add-i : goal.overflow_add-i
-overflow_add-i c = omega (arith, c.rules_in-rules.ensures, c.loop-i-test.true, c.requires.0.laid.fits.rules)
-
 pub loop-i-preserved : goal.loop-i-preserved
 loop-i-preserved c =
     let start = c in

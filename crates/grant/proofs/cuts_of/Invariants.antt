@@ -14,6 +14,3 @@ abbrev pub invariant-loop-i : goal.invariant-loop-i
 invariant-loop-i l =
     Cut (decode l.m).log l.o (decode l.m).part.accounts (Root l.o.root) l.place l.cuts.root × Cut (decode l.m).log l.o (decode l.m).part.accounts Firm l.place l.cuts.firm
     × RightTwo (decode l.m).log l.memos × (l.place ≡ first_cell (rules_in (decode l.m)) l.i)
-
-abbrev pub decreases-loop-i : goal.decreases-loop-i
-decreases-loop-i l = l.rules - l.i

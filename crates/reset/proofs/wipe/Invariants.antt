@@ -14,6 +14,3 @@ use Rattle.reset.proofs.wipe.Given as goal
 abbrev pub invariant-loop-i : goal.invariant-loop-i
 invariant-loop-i l =
     (l.rules ≡ length (rules_in (decode l.initial.m))) × (l.place ≡ first_cell (rules_in (decode l.initial.m)) l.i) × Doing (wiped (zeroing l.effect l.root)) l.initial.m l.place l.m
-
-abbrev pub decreases-loop-i : goal.decreases-loop-i
-decreases-loop-i l = l.rules - l.i

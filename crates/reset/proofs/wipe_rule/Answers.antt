@@ -57,9 +57,6 @@ put_total-requires c =
     let w = c.loop-j.invariant.1 zeroes on in
     (held-laid w.holds, omega (arith, passing-length (wiped-fair zeroes) c.requires.0 w, next-most t, c.loop-j-test.true))
 
-pub overflow_add-j : goal.overflow_add-j
-overflow_add-j c = omega (arith, next-most (goal.at.overflow_add-j c).After-accounts, laid-few c.requires.0)
-
 pub loop-j-preserved : goal.loop-j-preserved
 loop-j-preserved c =
     let next = next-first (goal.at.loop-j-preserved c).After-accounts in

@@ -14,6 +14,3 @@ use Rattle.reset.proofs.wipe_rule.Given as goal
 abbrev pub invariant-loop-j : goal.invariant-loop-j
 invariant-loop-j l =
     (l.j ≤ l.next) × ((zeroes : Level → Bool) → zeroes (level_of (rule_numbered (rules_in (decode l.initial.m)) l.i).scope) ≡ true → Passing (wiped-fair zeroes) l.initial.m l.place l.j l.m)
-
-abbrev pub decreases-loop-j : goal.decreases-loop-j
-decreases-loop-j l = l.next - l.j

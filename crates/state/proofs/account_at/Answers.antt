@@ -15,7 +15,7 @@ use Rattle.state.proofs.account_at.Goals as goal
 
 pub loop-i-init : goal.loop-i-init
 unfolding cells_of
-loop-i-init c = (omega arith, refl)
+loop-i-init c = refl
 
 pub rule_in-before-requires : goal.rule_in-before-requires
 rule_in-before-requires c = let start = c in (start.requires.0, omega (arith, start.requires.1, c.loop-i-test.true))
@@ -24,19 +24,14 @@ pub overflow_add-place : goal.overflow_add-place
 overflow_add-place c =
     let at-loop = c in
     let laid = at-loop.requires.0 in
-    omega (arith, place-within laid at-loop.loop-i.i at-loop.loop-i.invariant.1, laid-few laid, c.accounts-place.ensures, units-few c.rule_in-before.result.scope)
-
-pub overflow_add-i : goal.overflow_add-i
-overflow_add-i c =
-    let start = c in
-    omega (arith, c.loop-i-test.true, start.requires.1, start.requires.0.fits.rules)
+    omega (arith, place-within laid at-loop.loop-i.i at-loop.loop-i.invariant, laid-few laid, c.accounts-place.ensures, units-few c.rule_in-before.result.scope)
 
 pub loop-i-preserved : goal.loop-i-preserved
 loop-i-preserved c =
     let at-loop = c in
     let start = at-loop in
     let low : at-loop.loop-i.i < length (rules_in (decode start.args.m.now)) = omega (arith, start.requires.1, c.loop-i-test.true) in
-    (omega arith, next_place start.requires.0 low at-loop.loop-i.invariant.1 c.rule_in-before.ensures c.accounts-place.ensures)
+    next_place start.requires.0 low at-loop.loop-i.invariant c.rule_in-before.ensures c.accounts-place.ensures
 
 pub overflow_add-result : goal.overflow_add-result
 overflow_add-result c =
@@ -45,7 +40,7 @@ overflow_add-result c =
     let rules = rules_in (decode start.args.m.now) in
     let place : c.place_of.result ≡ place_in (rule_numbered rules start.args.rule).scope start.args.unit = c.place_of.ensures ∙ ap (λ (r : Rule). place_in r.scope start.args.unit) c.rule_in-own.ensures in
     let low = (unit-place (rule_numbered rules start.args.rule).scope start.args.unit start.requires.2).0 in
-    let within = place-within start.requires.0 at-loop.loop-i.i at-loop.loop-i.invariant.1 in
+    let within = place-within start.requires.0 at-loop.loop-i.i at-loop.loop-i.invariant in
     omega (arith, within, laid-few start.requires.0, place, low, units-few (rule_numbered rules start.args.rule).scope)
 
 pub returns : goal.returns
@@ -54,6 +49,6 @@ returns c =
     let at-loop = c in
     let start = at-loop in
     let rules = rules_in (decode start.args.m.now) in
-    let end : at-loop.loop-i.i ≡ start.args.rule = omega (arith, at-loop.loop-i.invariant.0, c.loop-i-test.false) in
-    ap₂ (λ (a b : ℕ). a + b) (at-loop.loop-i.invariant.1 ∙ ap (first_cell rules) end)
+    let end : at-loop.loop-i.i ≡ start.args.rule = omega arith in
+    ap₂ (λ (a b : ℕ). a + b) (at-loop.loop-i.invariant ∙ ap (first_cell rules) end)
     (c.place_of.ensures ∙ ap (λ (r : Rule). place_in r.scope start.args.unit) c.rule_in-own.ensures)

@@ -7,7 +7,4 @@ use Rattle.state.specs.State.{decode}
 use Rattle.state.proofs.account_at.Given as goal
 
 abbrev pub invariant-loop-i : goal.invariant-loop-i
-invariant-loop-i l = (l.i ≤ l.rule) × (l.place ≡ first_cell (rules_in (decode l.m)) l.i)
-
-abbrev pub decreases-loop-i : goal.decreases-loop-i
-decreases-loop-i l = l.rule - l.i
+invariant-loop-i l = l.place ≡ first_cell (rules_in (decode l.m)) l.i

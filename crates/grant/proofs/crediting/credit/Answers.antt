@@ -83,9 +83,6 @@ overflow_add-place c =
     let laid = c.requires.0.laid in
     omega (arith, place-within laid (c.loop-i.i + 1) (on c), laid-few laid)
 
-pub overflow_add-i : goal.overflow_add-i
-overflow_add-i c = omega (arith, c.rules_in-rules.ensures, c.loop-i-test.true, c.requires.0.laid.fits.rules)
-
 pub loop-i-preserved : goal.loop-i-preserved
 loop-i-preserved c =
     let l = c.loop-i in

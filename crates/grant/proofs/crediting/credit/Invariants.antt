@@ -12,6 +12,3 @@ use Rattle.grant.proofs.crediting.credit.Given as goal
 abbrev pub invariant-loop-i : goal.invariant-loop-i
 invariant-loop-i l =
     (length l.m ≡ length l.initial.m) × Crediting l.o l.grant l.initial.m l.place l.m l.reached × (l.place ≡ first_cell (rules_in (decode l.initial.m)) l.i)
-
-abbrev pub decreases-loop-i : goal.decreases-loop-i
-decreases-loop-i l = l.rules - l.i
