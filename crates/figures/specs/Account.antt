@@ -1,5 +1,5 @@
 -- The account as numbers: eight a row, the roots' 64 rows and then the firm's. Assumes nothing.
-use Rattle.std.specs.Prelude.{ℕ, ◌+◌, ◌*◌, Bool, List, [], ◌∷◌, get_or, take, leb}
+use Rattle.std.specs.Prelude.{ℕ, ◌+◌, ◌*◌, Bool, List, get_or, take, leb}
 use Rattle.std.proofs.lemmas.List.Edits.{sets}
 use Rattle.laws.specs.Folds.{every}
 use Rattle.measures.specs.Ranges.{totals}

@@ -1,5 +1,5 @@
 -- The eight figures of a row, each by what an event was. Assumes nothing.
-use Rattle.std.specs.Prelude.{ℕ, ◌+◌, ◌*◌, Bool, true, false, not, List, [], ◌∷◌, eqb, ltb}
+use Rattle.std.specs.Prelude.{ℕ, ◌+◌, ◌*◌, Bool, true, not, List, [], ◌∷◌, eqb, ltb}
 use Rattle.rules.specs.declared.Level.{Level}
 use Rattle.rules.specs.declared.Level.TheVariants.{Firm, Root}
 use Rattle.demand.specs.Answers.{one}

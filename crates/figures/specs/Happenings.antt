@@ -1,5 +1,5 @@
 -- What an event was to the day's account, by its call and its answer. Assumes nothing.
-use Rattle.std.specs.Prelude.{ℕ, zero, suc, Bool}
+use Rattle.std.specs.Prelude.{ℕ, zero, suc}
 use Rattle.machine.specs.declared.Offer.{Offer}
 use Rattle.machine.specs.declared.Answer.{Answer}
 use Rattle.machine.specs.declared.Answer.TheVariants.{Refused, Judged, Left, Standing}

@@ -7,7 +7,6 @@ use Rattle.machine.specs.declared.Answer.{Answer}
 use Rattle.machine.specs.declared.Answer.TheVariants.{Refused, Judged, Left, Standing}
 use Rattle.machine.specs.Calls.{Call, order, lockout, offer, remaining, status, send, report, close}
 use Rattle.demand.specs.Run.{Event}
-use Rattle.figures.specs.declared.Figures.{Figures}
 use Rattle.demand.specs.Answers.{one}
 use Rattle.figures.specs.History.{is_free, root_sent, figures_in}
 

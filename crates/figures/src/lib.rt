@@ -67,11 +67,9 @@ const LOW: u64 = 576_460_752_303_423_488;
 fn are_low(s: &[u64]) -> bool
     ensures { result ≡ are_low s.now }
 {
-    let mut high: u64 = 0;
-    let mut i: usize = 0;
-    while i < s.len() {
-        high = high | (s[i] / LOW);
-        i += 1;
+    let mut high = 0;
+    for n in s {
+        high |= *n / LOW;
     }
     high == 0
 }
@@ -91,11 +89,9 @@ fn greatest(s: &[u64]) -> u64
     ensures { result ≡ greatest_of s.now }
 {
     let mut most: u64 = 0;
-    let mut i: usize = 0;
-    while i < s.len() {
+    for n in s {
         // No way out of the loop before its end, so that the numbers can be compared side by side.
-        most = numbers::greatest(most, s[i]);
-        i += 1;
+        most = most.max(*n);
     }
     most
 }

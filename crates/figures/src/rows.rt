@@ -6,23 +6,69 @@ ghost use Rattle.figures.specs.Figures.{plus, row_numbers};
 ghost use Rattle.figures.specs.Account.{most, row_at};
 ghost use Rattle.figures.specs.Inner.Rows.{AtMost};
 
-use crate::{Figures, MOST};
+use crate::{Figures, MOST, ROW};
 use measures::{Contracts, Executions, TenThousandths};
 
+// A row by its eight numbers.
+impl From<[u64; ROW]> for Figures {
+    ghost from_gives = { λ numbers f. f ≡ row_at numbers 0 };
+
+    #[tactic(auto, unfolding(crate::specs::Account::row_at))]
+    fn from(numbers: [u64; ROW]) -> Figures {
+        let [
+            accepted,
+            rejected,
+            fills,
+            contracts,
+            notional,
+            cuts,
+            trips,
+            away,
+        ] = numbers;
+        Figures {
+            accepted,
+            rejected,
+            fills: Executions(fills),
+            contracts: Contracts(contracts),
+            notional: TenThousandths(notional),
+            cuts,
+            trips,
+            away,
+        }
+    }
+}
+
+// A row's eight numbers.
+impl From<Figures> for [u64; ROW] {
+    ghost from_gives = { λ f numbers. numbers ≡ row_numbers f };
+
+    #[tactic(auto, unfolding(crate::specs::Figures::row_numbers))]
+    fn from(f: Figures) -> [u64; ROW] {
+        [
+            f.accepted,
+            f.rejected,
+            f.fills.0,
+            f.contracts.0,
+            f.notional.0,
+            f.cuts,
+            f.trips,
+            f.away,
+        ]
+    }
+}
+
 // Two rows added, each figure to its own.
+#[tactic(auto, unfolding(crate::specs::Figures::plus))]
 fn plus(a: Figures, b: Figures) -> Figures
     requires { AtMost most a × AtMost most b }
     ensures { result ≡ plus a b }
 {
-    let fills = a.fills;
-    let contracts = a.contracts;
-    let notional = a.notional;
     Figures {
         accepted: a.accepted + b.accepted,
         rejected: a.rejected + b.rejected,
-        fills: fills.plus(b.fills),
-        contracts: contracts.plus(b.contracts),
-        notional: notional.plus(b.notional),
+        fills: a.fills.plus(b.fills),
+        contracts: a.contracts.plus(b.contracts),
+        notional: a.notional.plus(b.notional),
         cuts: a.cuts + b.cuts,
         trips: a.trips + b.trips,
         away: a.away + b.away,
@@ -33,14 +79,7 @@ fn plus(a: Figures, b: Figures) -> Figures
 fn is_within(f: Figures) -> bool
     ensures { result ≡ every (λ n. leb n most) (row_numbers f) }
 {
-    (f.accepted <= MOST)
-        & (f.rejected <= MOST)
-        & (f.fills.0 <= MOST)
-        & (f.contracts.0 <= MOST)
-        & (f.notional.0 <= MOST)
-        & (f.cuts <= MOST)
-        & (f.trips <= MOST)
-        & (f.away <= MOST)
+    <[u64; ROW]>::from(f).iter().all(|n| *n <= MOST)
 }
 
 // The row that begins at a place.
@@ -48,16 +87,9 @@ fn row_at(a: &[u64], at: usize) -> Figures
     requires { at + 8 ≤ length a.now }
     ensures { result ≡ row_at a.now at }
 {
-    Figures {
-        accepted: a[at],
-        rejected: a[at + 1],
-        fills: Executions(a[at + 2]),
-        contracts: Contracts(a[at + 3]),
-        notional: TenThousandths(a[at + 4]),
-        cuts: a[at + 5],
-        trips: a[at + 6],
-        away: a[at + 7],
-    }
+    let mut numbers = [0; ROW];
+    numbers.copy_from_slice(&a[at..at + ROW]);
+    Figures::from(numbers)
 }
 
 // A row written from a place on.
@@ -65,14 +97,7 @@ fn put_row(a: &mut [u64], at: usize, f: Figures)
     requires { at + 8 ≤ length a.old }
     ensures { a.new ≡ sets a.old at (row_numbers f) }
 {
-    a[at] = f.accepted;
-    a[at + 1] = f.rejected;
-    a[at + 2] = f.fills.0;
-    a[at + 3] = f.contracts.0;
-    a[at + 4] = f.notional.0;
-    a[at + 5] = f.cuts;
-    a[at + 6] = f.trips;
-    a[at + 7] = f.away;
+    a[at..at + ROW].copy_from_slice(&<[u64; ROW]>::from(f));
 }
 
 // Whether a row with figures added to it has none above 10^18.

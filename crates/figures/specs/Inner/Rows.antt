@@ -1,12 +1,11 @@
 -- What the code over an account asks for and tells: an event whose numbers are in range, a row none of whose figures is above a number, and the greatest
 -- of some numbers. Assumes nothing.
-use Rattle.std.specs.Prelude.{ℕ, ◌*◌, ◌/◌, ◌≤◌, ◌<◌, max, ◌≡◌, Bool, true, not, cond, List, [], ◌∷◌, length, eqb, ltb}
+use Rattle.std.specs.Prelude.{ℕ, ◌/◌, ◌≤◌, ◌<◌, max, ◌≡◌, Bool, true, cond, List, [], ◌∷◌, length, eqb}
 use Rattle.laws.specs.Folds.{every}
 use Rattle.measures.specs.Ranges.{premiums, offers}
 use Rattle.figures.specs.declared.Figures.{Figures}
 use Rattle.figures.specs.declared.Happening.{Happening}
 use Rattle.figures.specs.declared.Happening.TheVariants.{Uncounted, Ordered, Offered, Reported}
-use Rattle.demand.specs.Answers.{one}
 use Rattle.figures.specs.Figures.{happening_root}
 use Rattle.figures.specs.Account.{account_size, is_account}
 
@@ -47,40 +46,3 @@ are_low xs = every (λ n. eqb (n / 576_460_752_303_423_488) 0) xs
 -- a number that none of them passes: 2^59 - 1 where all are below 2^59, else the greatest
 unfoldable pub bound_of : List ℕ → ℕ
 bound_of xs = cond (are_low xs) 576_460_752_303_423_487 (greatest_of xs)
-
--- what an order adds to a row, and what an offer that was not locked out and a report add, with the trip that counts there
-unfoldable pub ordered_figures : ℕ → Figures
-ordered_figures verdict = record {
-  accepted = one (eqb verdict 0);
-  rejected = one (not (eqb verdict 0));
-  fills = record { 0 = 0 };
-  contracts = record { 0 = 0 };
-  notional = record { 0 = 0 };
-  cuts = 0;
-  trips = 0;
-  away = 0;
-}
-
-unfoldable pub offered_figures : ℕ → ℕ → ℕ → ℕ → Figures
-offered_figures premium offered grant trip = record {
-  accepted = 0;
-  rejected = 0;
-  fills = record { 0 = one (ltb 0 grant) };
-  contracts = record { 0 = grant };
-  notional = record { 0 = premium * grant };
-  cuts = one (ltb grant offered);
-  trips = trip;
-  away = 0;
-}
-
-unfoldable pub reported_figures : ℕ → Figures
-reported_figures trip = record {
-  accepted = 0;
-  rejected = 0;
-  fills = record { 0 = 0 };
-  contracts = record { 0 = 0 };
-  notional = record { 0 = 0 };
-  cuts = 0;
-  trips = trip;
-  away = 1;
-}

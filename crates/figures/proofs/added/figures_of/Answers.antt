@@ -1,18 +1,23 @@
 -- `figures::added::figures_of` meets its contract, case by case. Assumes nothing.
-use Rattle.figures.proofs.Additions.{nothing_is, order_is, offer-is, report-is}
+use Rattle.std.proofs.Common.{◌≡◌, ◌*◌}
+use Rattle.figures.specs.Figures.{accepted, rejected, fills, contracts, notional, cuts, trips_of, away, figures_of, no_figures}
+use Rattle.figures.proofs.Additions.{one-is}
 use Rattle.figures.proofs.added.figures_of.Goals as goal
 
-pub by_offer-requires : goal.by_offer-requires
-by_offer-requires c = rw c.in-Offered.is at c.requires
-
 pub returns-in-Uncounted : goal.returns-in-Uncounted
-returns-in-Uncounted c = rw c.in-Uncounted.is (nothing_is c.args.level c.nothing.ensures)
+unfolding figures_of accepted rejected fills contracts notional cuts trips_of away no_figures
+returns-in-Uncounted c = rw (c.in-Uncounted.is, c.nothing.ensures)
 
 pub returns-in-Ordered : goal.returns-in-Ordered
-returns-in-Ordered c = rw c.in-Ordered.is (order_is c.args.level _ _ c.by_order.ensures)
+unfolding figures_of accepted rejected fills contracts notional cuts trips_of away no_figures
+returns-in-Ordered c = rw (c.in-Ordered.is, c.nothing-in-Ordered.ensures, c.from.ensures, one-is, c.from-in-Ordered.ensures, one-is)
 
 pub returns-in-Offered : goal.returns-in-Offered
-returns-in-Offered c = rw c.in-Offered.is (offer-is c.args.level _ _ _ _ _ _ c.trip_at-trip.ensures c.by_offer.ensures)
+unfolding figures_of accepted rejected fills contracts notional cuts trips_of away no_figures
+returns-in-Offered c =
+    let price : c.times.result ≡ record { 0 = c.in-Offered.premium * c.in-Offered.grant } = λ i. record { 0 = c.times.ensures i } in
+    rw (c.in-Offered.is, c.nothing-in-Offered.ensures, c.from-in-Offered.ensures, one-is, c.from-in-Offered-2.ensures, one-is, c.trip_at.ensures, price)
 
 pub returns-in-Reported : goal.returns-in-Reported
-returns-in-Reported c = rw c.in-Reported.is (report-is c.args.level _ _ _ c.trip_at.ensures c.by_report.ensures)
+unfolding figures_of accepted rejected fills contracts notional cuts trips_of away no_figures
+returns-in-Reported c = rw (c.in-Reported.is, c.nothing-in-Reported.ensures, c.trip_at-in-Reported.ensures)
