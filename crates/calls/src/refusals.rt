@@ -12,7 +12,7 @@ ghost use Rattle.calls.specs.Calls.{memory_refusal, timed_refusal, refusal_in, o
 
 use crate::granting;
 use machine::Offer;
-use measures::{Contracts, ContractsRead, TenThousandths, TenThousandthsRead, Time};
+use measures::{Contracts, TenThousandths, Time};
 
 // Whether a time is out of range, or below the clock.
 pub fn bad_time(time: u64, clock: u64) -> bool
@@ -66,20 +66,14 @@ pub(crate) fn lockout_refusal(m: &[u64], time: u64, level: u64, root: u64) -> u6
 fn is_premium(n: u64) -> bool
     ensures { result ≡ is_in premiums n }
 {
-    match TenThousandths::premium(n) {
-        TenThousandthsRead::Is(_) => true,
-        TenThousandthsRead::Out => false,
-    }
+    TenThousandths::premium(n).is_some()
 }
 
 // Whether a number is that of an offer's contracts.
 fn is_offer(n: u64) -> bool
     ensures { result ≡ is_in offers n }
 {
-    match Contracts::offer(n) {
-        ContractsRead::Is(_) => true,
-        ContractsRead::Out => false,
-    }
+    Contracts::offer(n).is_some()
 }
 
 // Whether the numbers of an offer are in their ranges: premium and contracts.

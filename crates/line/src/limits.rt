@@ -5,7 +5,7 @@ ghost use Rattle.line.specs.Line.{type_of, is_absolute, kind_of, is_known, the_t
 ghost use Rattle.line.specs.Inner.Parts.{limit_read, after_field};
 
 use crate::{LimitType, TypeRead};
-use measures::{Contracts, ContractsRead, Dollars, DollarsRead, Executions, ExecutionsRead, Time};
+use measures::{Contracts, Dollars, Executions, Time};
 use rules::{Kind, Limit};
 
 // A limit, or that its number is out of range.
@@ -99,8 +99,8 @@ fn notional(n: u64) -> LimitRead
     ensures { result ≡ limit_read LimitType.RateNtnl n }
 {
     match Dollars::limit(n) {
-        DollarsRead::Is(dollars) => LimitRead::Is(Limit::Notional(dollars)),
-        DollarsRead::Out => LimitRead::Out,
+        Some(dollars) => LimitRead::Is(Limit::Notional(dollars)),
+        None => LimitRead::Out,
     }
 }
 
@@ -109,8 +109,8 @@ fn volume(n: u64) -> LimitRead
     ensures { result ≡ limit_read LimitType.RateVol n }
 {
     match Contracts::limit(n) {
-        ContractsRead::Is(contracts) => LimitRead::Is(Limit::Volume(contracts)),
-        ContractsRead::Out => LimitRead::Out,
+        Some(contracts) => LimitRead::Is(Limit::Volume(contracts)),
+        None => LimitRead::Out,
     }
 }
 
@@ -119,8 +119,8 @@ fn count(n: u64) -> LimitRead
     ensures { result ≡ limit_read LimitType.RateCount n }
 {
     match Executions::limit(n) {
-        ExecutionsRead::Is(executions) => LimitRead::Is(Limit::Count(executions)),
-        ExecutionsRead::Out => LimitRead::Out,
+        Some(executions) => LimitRead::Is(Limit::Count(executions)),
+        None => LimitRead::Out,
     }
 }
 

@@ -4,10 +4,10 @@ use Rattle.line.specs.declared.LimitType.TheVariants.{RateNtnl}
 use Rattle.line.proofs.Parts.{limit-taken, limit-beyond}
 use Rattle.line.proofs.limits.notional.Goals as goal
 
-pub returns-in-Is : goal.returns-in-Is
+pub returns-in-Some : goal.returns-in-Some
 unfolding limits_of limit_of
-returns-in-Is c = limit-taken RateNtnl _ (rw c.in-Is.is at c.limit.ensures)
+returns-in-Some c = limit-taken RateNtnl _ (rw c.in-Some.is at c.limit.ensures)
 
-pub returns-in-Out : goal.returns-in-Out
+pub returns-in-None : goal.returns-in-None
 unfolding limits_of limit_of
-returns-in-Out c = limit-beyond RateNtnl _ (rw c.in-Out.is at c.limit.ensures)
+returns-in-None c = limit-beyond RateNtnl _ (rw c.in-None.is at c.limit.ensures)
