@@ -17,8 +17,8 @@ use Rattle.rules.specs.declared.Rule.{Rule}
 use Rattle.admission.specs.Admission.{how_many, is_firm_rule, on_unit, crowded, seen_after, is_next, may_join}
 use Rattle.admission.specs.Inner.Counting.{in_one, over_in, FewIn, covered_in, SoFar, no_rules, Follows, RootIs}
 use Rattle.admission.specs.declared.Tally.{Tally}
-use Rattle.admission.specs.declared.Admitted.{Admitted}
-use Rattle.admission.specs.declared.Admitted.TheVariants.{With, TooMany}
+use Rattle.std.specs.Prelude.{Option}
+use Rattle.std.specs.declared.option.Option.TheVariants.{None, Some}
 use Rattle.admission.proofs.Levels.{how_many-more, bounded-none, bounded-more, scope-off, not-firm, crowded-over, on-more}
 
 -- no rule yet
@@ -72,12 +72,12 @@ module _ {before : List Rule} {tally : Tally} {counts : List ℕ} (held : SoFar 
   length_more : length more ≡ tally.rules + 1
   length_more = length-append before (rule ∷ []) ∙ omega (arith, held.rules-are)
 
-  pub rules-full : 256 ≤ tally.rules → Follows before tally rule TooMany counts counts
+  pub rules-full : 256 ≤ tally.rules → Follows before tally rule None counts counts
   unfolding Follows may_join
   rules-full h = (rw (lt-ltb 256 (length more) (omega (arith, length_more)), and-false), refl)
 
   -- too many at its level, and not
-  crowded-stops : crowded more rule.scope ≡ true → Follows before tally rule TooMany counts counts
+  crowded-stops : crowded more rule.scope ≡ true → Follows before tally rule None counts counts
   unfolding Follows may_join
   crowded-stops e = (rw (e, or-true, and-false), refl)
 
@@ -89,7 +89,7 @@ module _ {before : List Rule} {tally : Tally} {counts : List ℕ} (held : SoFar 
 
     joins : (after : List ℕ) {seen-after firms-after : ℕ} → seen-after ≡ seen_after rule.scope seen → firms-after ≡ how_many is_firm_rule more → length after ≡ 64
         → ((root : ℕ) → root < 64 → get_or after root 0 ≡ in_one (λ unit. how_many (on_unit root unit) more))
-        → Follows before tally rule (With (record { rules = tally.rules + 1; seen = seen-after; firms = firms-after })) counts after
+        → Follows before tally rule (Some (record { rules = tally.rules + 1; seen = seen-after; firms = firms-after })) counts after
     unfolding Follows
     joins after s f l c = (
       may-join,
@@ -121,11 +121,11 @@ module _ {before : List Rule} {tally : Tally} {counts : List ℕ} (held : SoFar 
     unfolding on_unit
     elsewhere root unit = rw (how_many-more (on_unit root unit) before rule, is-firm) (omega arith)
 
-    pub firm-full : 10 ≤ tally.firms → Follows before tally rule TooMany counts counts
+    pub firm-full : 10 ≤ tally.firms → Follows before tally rule None counts counts
     firm-full h = crowded-stops (firm-crowded ∙ lt-ltb 10 (tally.firms + 1) (omega arith))
 
     pub firm-joins : tally.rules < 256 → tally.firms < 10
-        → Follows before tally rule (With (record { rules = tally.rules + 1; seen = seen; firms = tally.firms + 1 })) counts counts
+        → Follows before tally rule (Some (record { rules = tally.rules + 1; seen = seen; firms = tally.firms + 1 })) counts counts
     unfolding is_next seen_after
     firm-joins few h =
         joins few (rw every) (rw every held.roots-most) (firm-crowded ∙ le-ltb 10 (tally.firms + 1) (omega arith)) counts (rw every) (sym firm-more) held.long
@@ -133,11 +133,11 @@ module _ {before : List Rule} {tally : Tally} {counts : List ℕ} (held : SoFar 
 
   -- a rule of a root
   module _ (n : ℕ) (scoped : is_scope n rule.scope ≡ true) (root : ℕ) (own : RootIs root rule.scope) where
-    pub root-late : seen < root → Follows before tally rule TooMany counts counts
+    pub root-late : seen < root → Follows before tally rule None counts counts
     unfolding Follows may_join
     root-late h = (rw (next-is root seen rule.scope own, lt-leb root seen h), refl)
 
-    pub roots-full : 64 ≤ root → Follows before tally rule TooMany counts counts
+    pub roots-full : 64 ≤ root → Follows before tally rule None counts counts
     unfolding Follows may_join
     roots-full h = (rw (seen-is root seen rule.scope own, lt-ltb 64 (max seen (root + 1)) (omega arith), or-true, and-false), refl)
 
@@ -171,7 +171,7 @@ module _ {before : List Rule} {tally : Tally} {counts : List ℕ} (held : SoFar 
           let d = small 3 (omega arith) in
           (omega (arith, all-is), omega (arith, all-is), omega (arith, all-is), omega (arith, all-is))
 
-      pub units-full : over_in all ≡ true → Follows before tally rule TooMany counts counts
+      pub units-full : over_in all ≡ true → Follows before tally rule None counts counts
       units-full e = crowded-stops (over-is ∙ e)
 
       put : (other : ℕ) → other < 64 → get_or (set counts root all) other 0 ≡ in_one (λ unit. how_many (on_unit other unit) more)
@@ -186,7 +186,7 @@ module _ {before : List Rule} {tally : Tally} {counts : List ℕ} (held : SoFar 
               get_or-set_other counts root other all 0 (λ e. apart (sym e)) ∙ rw (same 0, same 1, same 2, same 3) (held.counts-are other h)
 
       pub root-joins : tally.rules < 256 → root ≤ seen → over_in all ≡ false → {seen-after : ℕ} → seen-after ≡ max seen (root + 1)
-          → Follows before tally rule (With (record { rules = tally.rules + 1; seen = seen-after; firms = tally.firms })) counts (set counts root all)
+          → Follows before tally rule (Some (record { rules = tally.rules + 1; seen = seen-after; firms = tally.firms })) counts (set counts root all)
       root-joins few h e s =
           let after = seen-is root seen rule.scope own in
           joins few (next-is root seen rule.scope own ∙ le-leb root seen h) (rw after (omega (arith, held.roots-most))) (over-is ∙ e) _ (s ∙ sym after)
@@ -194,19 +194,19 @@ module _ {before : List Rule} {tally : Tally} {counts : List ℕ} (held : SoFar 
           (length-set counts root all ∙ held.long) put
 
 -- one thing alone can become of a rule
-pub one_way : (before : List Rule) (tally : Tally) (rule : Rule) (counts : List ℕ) (x y : Admitted) (a b : List ℕ)
+pub one_way : (before : List Rule) (tally : Tally) (rule : Rule) (counts : List ℕ) (x y : (Option Tally)) (a b : List ℕ)
     → Follows before tally rule x counts a → Follows before tally rule y counts b → (x ≡ y) × (a ≡ b)
 unfolding Follows
-one_way before tally rule counts (With m) (With n) a b p q =
+one_way before tally rule counts (Some m) (Some n) a b p q =
     let u = p.2 in
     let v = q.2 in (
-      λ i. With (record {
+      λ i. Some (record {
         rules = (u.rules-are ∙ sym v.rules-are) i;
         seen = (p.1 ∙ sym q.1) i;
         firms = (u.firms-are ∙ sym v.firms-are) i;
       }),
       ext_get_or 0 a b (u.long ∙ sym v.long) (λ i h. u.counts-are i (omega (arith, u.long)) ∙ sym (v.counts-are i (omega (arith, u.long)))),
     )
-one_way before tally rule counts (With m) TooMany a b p q = absurd (false≢true (sym q.0 ∙ p.0))
-one_way before tally rule counts TooMany (With n) a b p q = absurd (false≢true (sym p.0 ∙ q.0))
-one_way before tally rule counts TooMany TooMany a b p q = (refl, p.1 ∙ sym q.1)
+one_way before tally rule counts (Some m) None a b p q = absurd (false≢true (sym q.0 ∙ p.0))
+one_way before tally rule counts None (Some n) a b p q = absurd (false≢true (sym p.0 ∙ q.0))
+one_way before tally rule counts None None a b p q = (refl, p.1 ∙ sym q.1)

@@ -15,13 +15,6 @@ pub struct Tally {
     pub firms: u64,
 }
 
-// A rule after those before it: with it there are so many, or it is one too many or its root is not the next.
-#[derive(Clone, Copy)]
-pub enum Admitted {
-    With(Tally),
-    TooMany,
-}
-
 // How many roots have appeared with this one, which has appeared or is the next.
 fn seen_with(seen: u64, root: u64) -> u64
     requires { (root ≤ seen) × (root < 64) }
@@ -40,25 +33,25 @@ fn is_over(w: u64) -> bool
 
 // Counts a rule of a root, which adds so much to the counts of its four units, unless that root is neither one that has appeared nor the next, or the 65th,
 // or a unit then has 7 rules. The four counts stand in one number, a byte each.
-fn admit_root(rule: Rule, root: u64, more: u64, tally: Tally, counts: &mut [u64]) -> Admitted
+fn admit_root(rule: Rule, root: u64, more: u64, tally: Tally, counts: &mut [u64]) -> Option<Tally>
     requires { CountsSome tally counts.old × (tally.rules < 256) × Numbered rule.scope × RootIs root rule.scope × (more ≡ covered_in rule.scope root) }
     ensures { (before : List Rule) → SoFar before tally counts.old → Follows before tally rule result counts.old counts.new }
 {
     let seen = tally.seen;
     if seen < root {
-        return Admitted::TooMany;
+        return None;
     }
     if 64 <= root {
-        return Admitted::TooMany;
+        return None;
     }
     let at = root as usize;
     let all = counts[at] + more;
     if is_over(all) {
-        return Admitted::TooMany;
+        return None;
     }
     counts[at] = all;
     let rules = tally.rules + 1;
-    Admitted::With(Tally {
+    Some(Tally {
         rules,
         seen: seen_with(seen, root),
         firms: tally.firms,
@@ -66,7 +59,7 @@ fn admit_root(rule: Rule, root: u64, more: u64, tally: Tally, counts: &mut [u64]
 }
 
 // Counts one of at most 256 rules, unless it is one too many at its level or its root is neither one that has appeared nor the next.
-pub fn admit_next(rule: Rule, tally: Tally, counts: &mut [u64]) -> Admitted
+pub fn admit_next(rule: Rule, tally: Tally, counts: &mut [u64]) -> Option<Tally>
     requires { CountsSome tally counts.old × (tally.rules < 256) × Numbered rule.scope }
     ensures { (before : List Rule) → SoFar before tally counts.old → Follows before tally rule result counts.old counts.new }
 {
@@ -74,11 +67,11 @@ pub fn admit_next(rule: Rule, tally: Tally, counts: &mut [u64]) -> Admitted
     match scope {
         Scope::EveryFill => {
             if 10 <= tally.firms {
-                return Admitted::TooMany;
+                return None;
             }
             let rules = tally.rules + 1;
             let firms = tally.firms + 1;
-            Admitted::With(Tally {
+            Some(Tally {
                 rules,
                 seen: tally.seen,
                 firms,
@@ -91,12 +84,12 @@ pub fn admit_next(rule: Rule, tally: Tally, counts: &mut [u64]) -> Admitted
 }
 
 // Counts a rule, unless it is one too many or its root is neither one that has appeared nor the next.
-pub fn admit(rule: Rule, tally: Tally, counts: &mut [u64]) -> Admitted
+pub fn admit(rule: Rule, tally: Tally, counts: &mut [u64]) -> Option<Tally>
     requires { CountsSome tally counts.old × Numbered rule.scope }
     ensures { (before : List Rule) → SoFar before tally counts.old → Follows before tally rule result counts.old counts.new }
 {
     if 256 <= tally.rules {
-        return Admitted::TooMany;
+        return None;
     }
     admit_next(rule, tally, counts)
 }

@@ -24,7 +24,7 @@ use Rattle.tables.proofs.Passing.{pass_on}
 use Rattle.packing.proofs.RulePlace.{rule-codec}
 use Rattle.admission.specs.Admission.{seen_after, may_join, may_follow, are_in_order}
 use Rattle.admission.specs.Inner.Counting.{SoFar, no_rules, Follows}
-use Rattle.admission.specs.declared.Admitted.TheVariants.{With, TooMany}
+use Rattle.std.specs.declared.option.Option.TheVariants.{None, Some}
 use Rattle.admission.specs.declared.Tally.{Tally}
 use Rattle.admission.proofs.Joining.{none_so_far}
 use Rattle.given.specs.Parts.{places_hold}
@@ -157,11 +157,11 @@ module _ {n k : ℕ} {xs : List ℕ} {i : ℕ} {tally : Tally} {counts : List �
           sym (join-follows (places 2 rule_at i xs) tally.seen rule (omega (arith, length-places (rule-codec 64 (omega arith)) i xs, gone.few.1))
           (rw is (seen_few tally.seen _ gone.held.roots-most (place-scope 64 _ ok))))
 
-      pub gone-stop : (after : List ℕ) → Follows (places 2 rule_at i xs) tally rule TooMany counts after → false ≡ places_hold n k xs
+      pub gone-stop : (after : List ℕ) → Follows (places 2 rule_at i xs) tally rule None counts after → false ≡ places_hold n k xs
       unfolding Follows
       gone-stop after f = stops (left-stop n k xs tally.seen i more (rw is at (follows ∙ f.0)))
 
-      pub gone-next : {next : Tally} (after : List ℕ) → Follows (places 2 rule_at i xs) tally rule (With next) counts after → Gone n k xs (i + 1) next after
+      pub gone-next : {next : Tally} (after : List ℕ) → Follows (places 2 rule_at i xs) tally rule (Some next) counts after → Gone n k xs (i + 1) next after
       unfolding Follows
       gone-next after f = record {
         few = gone.few;

@@ -18,7 +18,7 @@ use Rattle.packing.specs.RulePlace.{rule_at, window_number, is_rule_place}
 use Rattle.packing.specs.Gaps.{is_clear}
 use Rattle.packing.proofs.RuleTests.{window-told}
 use Rattle.admission.specs.Inner.Counting.{no_rules, Follows}
-use Rattle.admission.specs.declared.Admitted.TheVariants.{With, TooMany}
+use Rattle.std.specs.declared.option.Option.TheVariants.{None, Some}
 use Rattle.admission.specs.declared.Tally.{Tally}
 use Rattle.given.specs.declared.Tested.{Tested}
 use Rattle.given.specs.declared.Tested.TheVariants.{Hold, Fail}
@@ -64,10 +64,10 @@ module _ {n k : ℕ} {xs amounts : List ℕ} {i : ℕ} {tally : Tally} {counts :
     passed-bad e = fails n k xs amounts (gone-bad passed.gone more e)
 
     module _ (ok : is_rule_place 64 (drop (i * 2) xs) ≡ true) {rule : Rule} (is : rule ≡ rule_at (drop (i * 2) xs)) where
-      pub passed-stop : (after : List ℕ) → Follows (places 2 rule_at i xs) tally rule TooMany counts after → Answers n k xs amounts Fail
+      pub passed-stop : (after : List ℕ) → Follows (places 2 rule_at i xs) tally rule None counts after → Answers n k xs amounts Fail
       passed-stop after f = fails n k xs amounts (gone-stop passed.gone more ok is after f)
 
-      pub passed-next : {next : Tally} (after : List ℕ) → Follows (places 2 rule_at i xs) tally rule (With next) counts after
+      pub passed-next : {next : Tally} (after : List ℕ) → Follows (places 2 rule_at i xs) tally rule (Some next) counts after
           → (own : ℕ) → is_clear own ≡ own_hold (cells_by rule) (drop place amounts) → (many : ℕ) → many ≡ length (units_of rule.scope)
           → (w : ℕ) → w ≡ window_of rule.kind → (m : ℕ) → m ≡ max w most
           → Passed n k xs amounts (i + 1) next after (place + many) (bit_or gaps own) m

@@ -13,7 +13,7 @@ pub mod roots;
 mod totals;
 pub mod windows;
 
-use admission::{Admitted, Tally};
+use admission::Tally;
 use rules::Rule;
 
 // How many numbers the tables of the roots and of the rules take: a count, then 64 names, or 256 places of two numbers.
@@ -67,8 +67,8 @@ fn test_places(rules: &[u64], totals: &[u64], k: usize, n: u64) -> Tested
         }
         let rule = packing::rule_of(first, second);
         match admission::admit_next(rule, tally, &mut counts) {
-            Admitted::TooMany => return Tested::Fail,
-            Admitted::With(next) => tally = next,
+            None => return Tested::Fail,
+            Some(next) => tally = next,
         }
         gaps = gaps | totals::own_gaps(rule, totals, place);
         place += rule.accounts();

@@ -16,8 +16,8 @@ use Rattle.machine.specs.State.{Profile}
 use Rattle.admission.specs.Admission.{may_join}
 use Rattle.admission.specs.Inner.Counting.{SoFar, Follows, Numbered}
 use Rattle.admission.specs.declared.Tally.{Tally}
-use Rattle.admission.specs.declared.Admitted.{Admitted}
-use Rattle.admission.specs.declared.Admitted.TheVariants.{With, TooMany}
+use Rattle.std.specs.Prelude.{Option}
+use Rattle.std.specs.declared.option.Option.TheVariants.{None, Some}
 use Rattle.profile.specs.Profile.{roots_with, numbered, joined, too_many, roots_table}
 use Rattle.profile.specs.Inner.Lawful.{Said, Lawful, NewestOnce}
 use Rattle.profile.specs.Inner.Held.{Held, Joins}
@@ -60,14 +60,14 @@ module _ {p : Profile} {tally : Tally} {roots rules counts : List ℕ} (held : H
   may-join : may_join p.rules tally.seen own ≡ not (too_many p rule)
   may-join = rw (own_is, held.roots-are) (join_is p rule)
 
-  pub refuses : (after : List ℕ) {became : Admitted} → became ≡ TooMany → Follows p.rules tally own became counts after
-      → Joins p rule TooMany roots rules after
+  pub refuses : (after : List ℕ) {became : Option Tally} → became ≡ None → Follows p.rules tally own became counts after
+      → Joins p rule None roots rules after
   unfolding Follows Joins
   refuses after told f = (not-false (too_many p rule) (sym may-join ∙ (rw told at f).0), held.stored)
 
   -- it joins
-  module _ (next : Tally) (after : List ℕ) {became : Admitted} (told : became ≡ With next) (is : Follows p.rules tally own became counts after) where
-    follows : Follows p.rules tally own (With next) counts after
+  module _ (next : Tally) (after : List ℕ) {became : Option Tally} (told : became ≡ Some next) (is : Follows p.rules tally own became counts after) where
+    follows : Follows p.rules tally own (Some next) counts after
     follows = rw told at is
 
     room : too_many p rule ≡ false
@@ -95,7 +95,7 @@ module _ {p : Profile} {tally : Tally} {roots rules counts : List ℕ} (held : H
     next-room d = omega (arith, seen-is, grow p.roots rule.scope, so_far.roots-most, held.roots-are)
 
     takes : {roots-after rules-after : List ℕ} → roots-after ≡ roots_table (roots_with rule.scope p.roots)
-        → rules-after ≡ sets rules (tally.rules * 2) (rule_numbers own) → Joins p rule (With next) roots-after rules-after after
+        → rules-after ≡ sets rules (tally.rules * 2) (rule_numbers own) → Joins p rule (Some next) roots-after rules-after after
     unfolding Joins
     takes r e = (
       room,
@@ -111,10 +111,10 @@ module _ {p : Profile} {tally : Tally} {roots rules counts : List ℕ} (held : H
     )
 
     pub takes-known : next.seen ≡ tally.seen → {rules-after : List ℕ} → rules-after ≡ sets rules (tally.rules * 2) (rule_numbers own)
-        → Joins p rule (With next) roots rules-after after
+        → Joins p rule (Some next) roots rules-after after
     takes-known e = takes (held.stored.roots-in ∙ roots_kept p.roots rule.scope (sym seen-is ∙ e ∙ held.roots-are))
 
     pub takes-new : (next.seen ≡ tally.seen → ⊥) → {name : ℕ} → name ≡ root_number rule.scope → {rules-after : List ℕ}
-        → rules-after ≡ sets rules (tally.rules * 2) (rule_numbers own) → Joins p rule (With next) (set roots tally.seen name) rules-after after
+        → rules-after ≡ sets rules (tally.rules * 2) (rule_numbers own) → Joins p rule (Some next) (set roots tally.seen name) rules-after after
     takes-new d e =
         takes (rw (e, held.stored.roots-in, held.roots-are) (roots-put p.roots rule.scope (λ s. d (seen-is ∙ s ∙ sym held.roots-are)) (omega (arith, next-room d, held.roots-are))))

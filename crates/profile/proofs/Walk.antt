@@ -26,8 +26,8 @@ use Rattle.profile.specs.Inner.Held.{Stored, Held, Joins, ReadingTold}
 use Rattle.profile.specs.declared.Reading.{Reading}
 use Rattle.profile.specs.declared.Reading.TheVariants.{Accepted, Refused}
 use Rattle.admission.specs.declared.Tally.{Tally}
-use Rattle.admission.specs.declared.Admitted.{Admitted}
-use Rattle.admission.specs.declared.Admitted.TheVariants.{With, TooMany}
+use Rattle.std.specs.Prelude.{Option}
+use Rattle.std.specs.declared.option.Option.TheVariants.{None, Some}
 use Rattle.admission.proofs.Joining.{none_so_far}
 use Rattle.profile.proofs.Joined.{start-lawful, joined_length}
 
@@ -102,15 +102,15 @@ module _ {text : List ℕ} {firm : ℕ} {tally : Tally} {at : ℕ} {roots rules 
         refused-told w.profile k (tally.rules + 1) b.0 (one_line ∙ rw e) w.held.stored
 
     -- a line's rule, and what became of it
-    module _ {rule : Rule} (e : line_of firm line ≡ Is rule) {roots-after rules-after : List ℕ} (counts-after : List ℕ) {became : Admitted} where
-      pub walk-many : became ≡ TooMany → Joins w.profile rule became roots-after rules-after counts-after
+    module _ {rule : Rule} (e : line_of firm line ≡ Is rule) {roots-after rules-after : List ℕ} (counts-after : List ℕ) {became : Option Tally} where
+      pub walk-many : became ≡ None → Joins w.profile rule became roots-after rules-after counts-after
           → ReadingTold (read_on (start_of firm) 0 (lines text)) (Refused 11 (tally.rules + 1)) roots-after rules-after
       unfolding after_line Joins
       walk-many b joins =
           let j = rw b at joins in
           refused-told w.profile 11 (tally.rules + 1) (omega arith) (one_line ∙ rw (e, j.0)) j.1
 
-      pub walk-next : {next : Tally} → became ≡ With next → Joins w.profile rule became roots-after rules-after counts-after
+      pub walk-next : {next : Tally} → became ≡ Some next → Joins w.profile rule became roots-after rules-after counts-after
           → Walk text firm next (at + length line + 1) roots-after rules-after counts-after
       unfolding after_line Joins joined
       walk-next {next} b joins =

@@ -12,7 +12,7 @@ ghost use Rattle.profile.specs.Profile.{numbered, read_on, start_of, scan_beside
 ghost use Rattle.profile.specs.Inner.Lawful.{Said, NewestOnce};
 ghost use Rattle.profile.specs.Inner.Held.{Held, HoldsSome, Joins, ReadingTold};
 
-use admission::{Admitted, Tally};
+use admission::Tally;
 use line::Line;
 use rules::{Rule, Scope};
 
@@ -89,7 +89,7 @@ fn take_in(
     roots: &mut [u64],
     rules: &mut [u64],
     counts: &mut [u64],
-) -> Admitted
+) -> Option<Tally>
     requires { HoldsSome tally roots.old rules.old counts.old × Said rule }
     ensures { (p : Profile) → Held p tally roots.old rules.old counts.old → Joins p rule result roots.new rules.new counts.new }
 {
@@ -102,17 +102,15 @@ fn take_in(
         kind,
         limit,
     };
-    let Admitted::With(next) = admission::admit(own, tally, counts) else {
-        return Admitted::TooMany;
-    };
+    let next = admission::admit(own, tally, counts)?;
     let at = tally.rules as usize;
     put_rule(rules, at, own);
     if next.seen == tally.seen {
-        return Admitted::With(next);
+        return Some(next);
     }
     // The root is new.
     roots[known] = packing::root_number(scope);
-    Admitted::With(next)
+    Some(next)
 }
 
 // Reads the lines of a text, all for one firm, and stores their roots and rules until one has a fault.
@@ -143,11 +141,11 @@ fn read_lines(
                 line: number,
             },
             Line::Is(rule) => match take_in(tally, rule, roots, rules, counts) {
-                Admitted::TooMany => return Reading::Refused {
+                None => return Reading::Refused {
                     number: 11,
                     line: number,
                 },
-                Admitted::With(next) => tally = next,
+                Some(next) => tally = next,
             },
         }
         at = end + 1;

@@ -1,5 +1,5 @@
 -- What stands in the tally and in the counts after some rules, and what becomes of the next one. Assumes nothing.
-use Rattle.std.specs.Prelude.{ℕ, ◌+◌, ◌*◌, ◌/◌, ◌%◌, ◌≤◌, ◌<◌, ◌≡◌, Bool, true, false, cond, ◌||◌, List, [], ◌∷◌, ◌++◌, length, get_or, ltb}
+use Rattle.std.specs.Prelude.{ℕ, ◌+◌, ◌*◌, ◌/◌, ◌%◌, ◌≤◌, ◌<◌, ◌≡◌, Bool, true, false, cond, ◌||◌, List, [], ◌∷◌, ◌++◌, length, get_or, ltb, Option}
 use Rattle.rules.specs.Rules.{covers}
 use Rattle.rules.specs.Valid.{is_scope}
 use Rattle.rules.specs.declared.Scope.{Scope}
@@ -7,8 +7,7 @@ use Rattle.rules.specs.declared.Scope.TheVariants.{EveryFill, WholeRoot, OneUnit
 use Rattle.rules.specs.declared.Rule.{Rule}
 use Rattle.admission.specs.Admission.{how_many, is_firm_rule, on_unit, seen_after, may_join, Bounded}
 use Rattle.admission.specs.declared.Tally.{Tally}
-use Rattle.admission.specs.declared.Admitted.{Admitted}
-use Rattle.admission.specs.declared.Admitted.TheVariants.{With, TooMany}
+use Rattle.std.specs.declared.option.Option.TheVariants.{None, Some}
 
 -- the counts of a root's four units in one number, a byte each
 abbrev pub in_one : (ℕ → ℕ) → ℕ
@@ -44,10 +43,10 @@ abbrev pub no_rules : Tally
 no_rules = record { rules = 0; seen = 0; firms = 0 }
 
 -- what became of a rule: it is counted with those before it, or it may not join them and nothing is changed
-unfoldable pub Follows : List Rule → Tally → Rule → Admitted → List ℕ → List ℕ → Type 0
-Follows before tally rule (With next) counts after =
+unfoldable pub Follows : List Rule → Tally → Rule → Option Tally → List ℕ → List ℕ → Type 0
+Follows before tally rule (Some next) counts after =
     (may_join before tally.seen rule ≡ true) × (next.seen ≡ seen_after rule.scope tally.seen) × SoFar (before ++ (rule ∷ [])) next after
-Follows before tally rule TooMany counts after = (may_join before tally.seen rule ≡ false) × (after ≡ counts)
+Follows before tally rule None counts after = (may_join before tally.seen rule ≡ false) × (after ≡ counts)
 
 -- a scope with a number for its root, below some number, and one of the four units
 abbrev pub Numbered : Scope → Type 0

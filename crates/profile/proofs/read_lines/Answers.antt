@@ -32,23 +32,23 @@ take_in-requires c =
     let w = c.loop-at.invariant in
     ((w.profile, w.held), said _ _ (line-any c.loop-at.invariant c.loop-at-test.true c.line_from-line.ensures c.requires.0 ∙ (sym c.read_line.ensures ∙ c.in-Is.is)))
 
-pub shape_of-roots-in-TooMany : goal.shape_of-roots-in-TooMany
-shape_of-roots-in-TooMany c =
+pub shape_of-roots-in-None : goal.shape_of-roots-in-None
+shape_of-roots-in-None c =
     omega (arith, roots-long c.loop-at.invariant.held, roots-long c.requires.1)
 
-pub shape_of-rules-in-TooMany : goal.shape_of-rules-in-TooMany
-shape_of-rules-in-TooMany c =
+pub shape_of-rules-in-None : goal.shape_of-rules-in-None
+shape_of-rules-in-None c =
     omega (arith, rules-long c.loop-at.invariant.held, rules-long c.requires.1)
 
-pub shape_of-counts-in-TooMany : goal.shape_of-counts-in-TooMany
-shape_of-counts-in-TooMany c =
+pub shape_of-counts-in-None : goal.shape_of-counts-in-None
+shape_of-counts-in-None c =
     omega (arith, c.loop-at.invariant.held.so_far.long, c.requires.1.so_far.long)
 
-pub returns-in-TooMany : goal.returns-in-TooMany
-returns-in-TooMany c =
+pub returns-in-None : goal.returns-in-None
+returns-in-None c =
     let w = c.loop-at.invariant in
     walk-many w c.loop-at-test.true c.line_from-line.ensures (line-any c.loop-at.invariant c.loop-at-test.true c.line_from-line.ensures c.requires.0 ∙ (sym c.read_line.ensures ∙ c.in-Is.is)) _
-    c.in-TooMany.is (c.take_in.ensures w.profile w.held)
+    c.in-None.is (c.take_in.ensures w.profile w.held)
 
 pub overflow_add-at : goal.overflow_add-at
 overflow_add-at c = omega (arith, end-within c.loop-at.invariant c.loop-at-test.true c.line_from-line.ensures, c.requires.0)
@@ -60,7 +60,7 @@ pub loop-at-preserved : goal.loop-at-preserved
 loop-at-preserved c =
     let w = c.loop-at.invariant in
     walk-next w c.loop-at-test.true c.line_from-line.ensures (line-any c.loop-at.invariant c.loop-at-test.true c.line_from-line.ensures c.requires.0 ∙ (sym c.read_line.ensures ∙ c.in-Is.is)) _
-    c.in-With.is (c.take_in.ensures w.profile w.held)
+    c.in-Some.is (c.take_in.ensures w.profile w.held)
 
 pub shape_of-roots : goal.shape_of-roots
 shape_of-roots c = omega (arith, roots-long c.loop-at.invariant.held, roots-long c.requires.1)

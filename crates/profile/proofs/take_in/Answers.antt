@@ -19,31 +19,32 @@ admit-requires c =
     let held = c.requires.0.1 in
     ((_, held.so_far), own-numbered held c.args.rule c.requires.1 c.scope_numbered.ensures)
 
-pub returns-in_default : goal.returns-in_default
-returns-in_default c =
+pub returns-in_err-next : goal.returns-in_err-next
+returns-in_err-next c =
     λ p held.
-    refuses held c.args.rule c.requires.1 c.scope_numbered.ensures _ c.in_default.is (c.admit.ensures _ held.so_far)
+    rw c.from_residual.ensures
+    (refuses held c.args.rule c.requires.1 c.scope_numbered.ensures _ c.in_err-next.was (c.admit.ensures _ held.so_far))
 
 pub put_rule-requires : goal.put_rule-requires
 put_rule-requires c =
     let held = c.requires.0.1 in
     let n = c.scope_numbered.ensures in
     let w = c.admit.ensures _ held.so_far in
-    (rules-long held, few held c.args.rule c.requires.1 n _ _ c.in-With.is w, own-fits held c.args.rule c.requires.1 n _ _ c.in-With.is w)
+    (rules-long held, few held c.args.rule c.requires.1 n _ _ c.in_ok-next.was w, own-fits held c.args.rule c.requires.1 n _ _ c.in_ok-next.was w)
 
 pub returns-then-next-tally : goal.returns-then-next-tally
 returns-then-next-tally c =
     λ p held.
-    takes-known held c.args.rule c.requires.1 c.scope_numbered.ensures _ _ c.in-With.is (c.admit.ensures _ held.so_far)
+    takes-known held c.args.rule c.requires.1 c.scope_numbered.ensures _ _ c.in_ok-next.was (c.admit.ensures _ held.so_far)
     c.if-next-tally.true c.put_rule.ensures
 
 pub bounds-roots-known : goal.bounds-roots-known
 bounds-roots-known c =
     let held = c.requires.0.1 in
-    omega (arith, roots-long held, next-room held c.args.rule c.requires.1 c.scope_numbered.ensures _ _ c.in-With.is (c.admit.ensures _ held.so_far) c.if-next-tally.false)
+    omega (arith, roots-long held, next-room held c.args.rule c.requires.1 c.scope_numbered.ensures _ _ c.in_ok-next.was (c.admit.ensures _ held.so_far) c.if-next-tally.false)
 
 pub returns : goal.returns
 returns c =
     λ p held.
-    takes-new held c.args.rule c.requires.1 c.scope_numbered.ensures _ _ c.in-With.is (c.admit.ensures _ held.so_far)
+    takes-new held c.args.rule c.requires.1 c.scope_numbered.ensures _ _ c.in_ok-next.was (c.admit.ensures _ held.so_far)
     c.if-next-tally.false c.root_number.ensures c.put_rule.ensures

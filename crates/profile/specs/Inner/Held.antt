@@ -1,11 +1,10 @@
 -- What stands in the reader's tally and arrays while a text is read. Assumes nothing.
-use Rattle.std.specs.Prelude.{ℕ, ◌≡◌, true, false, List, length}
+use Rattle.std.specs.Prelude.{ℕ, ◌≡◌, true, false, List, length, Option}
 use Rattle.rules.specs.declared.Rule.{Rule}
 use Rattle.packing.specs.RulePlace.{rules_table}
 use Rattle.admission.specs.Inner.Counting.{SoFar}
 use Rattle.admission.specs.declared.Tally.{Tally}
-use Rattle.admission.specs.declared.Admitted.{Admitted}
-use Rattle.admission.specs.declared.Admitted.TheVariants.{With, TooMany}
+use Rattle.std.specs.declared.option.Option.TheVariants.{None, Some}
 use Rattle.machine.specs.State.{Profile}
 use Rattle.profile.specs.Profile.{joined, too_many, Outcome, reading_of, roots_table}
 use Rattle.profile.specs.Inner.Lawful.{Lawful}
@@ -28,9 +27,9 @@ abbrev pub HoldsSome : Tally → List ℕ → List ℕ → List ℕ → Type 0
 HoldsSome tally roots rules counts = (p : Profile) × Held p tally roots rules counts
 
 -- what became of a rule after a profile: it joined, or it is one too many and nothing of it is stored
-unfoldable pub Joins : Profile → Rule → Admitted → List ℕ → List ℕ → List ℕ → Type 0
-Joins p rule (With tally) roots rules counts = (too_many p rule ≡ false) × Held (joined p rule) tally roots rules counts
-Joins p rule TooMany roots rules counts = (too_many p rule ≡ true) × Stored p roots rules
+unfoldable pub Joins : Profile → Rule → Option Tally → List ℕ → List ℕ → List ℕ → Type 0
+Joins p rule (Some tally) roots rules counts = (too_many p rule ≡ false) × Held (joined p rule) tally roots rules counts
+Joins p rule None roots rules counts = (too_many p rule ≡ true) × Stored p roots rules
 
 -- a reading is that of an outcome, whose roots and rules stand in their places
 pub record ReadingTold (o : Outcome) (reading : Reading) (roots rules : List ℕ) : Type 0 where
