@@ -1,12 +1,12 @@
--- Two words and the bytes that they hold: read from bytes, and put into a room. Assumes nothing.
+-- A number in bytes, of which the last eight are a word of their own. Assumes nothing.
 use mathlib.Core.Path.{◌≡◌, sym, ap, ap₂, ◌∙◌, subst}
-use mathlib.Core.List.{List, [], ◌∷◌, ◌++◌}
+use mathlib.Core.List.{List, [], ◌∷◌, ◌++◌, append-nil}
 use Prim.Native.Nat.{ℕ, zero, suc, ◌+◌, ◌-◌, ◌*◌, ◌/◌, ◌%◌, ◌^◌, ◌≤◌, ◌<◌}
 use native.Mathlib.Omega.{arith}
-use lib.ListN.{length, take, drop, length-append, length-drop, take-append-drop}
-use lib.Seq.{length-take-le, take-add, take_at, take-append-le, drop-append-add, drop-drop}
-use borrow.Rule.Slice.PartMut.{mid_of, put_mid, mid_len, Post-is}
-use lib.Pow.{shr_lt, shl_lt, shl_exact, shl-shr, high, low}
+use lib.ListN.{length, take, drop, length-append, length-drop, take-append-drop, drop_of_length-le}
+use lib.Seq.{length-take-le, take-add, take_at, take-append-le}
+use borrow.Rule.Slice.PartMut.{put_mid, Post-is}
+use lib.Pow.{shr_lt, shr-shr, high}
 use Rattle.bits.specs.Fields.{total, packed, unpacked, eights, Fit}
 use Rattle.bits.proofs.Packing.{packed_lt, packed-append, unpacked-append, eights-append, total-eights, length-eights, length-unpacked}
 
@@ -58,59 +58,38 @@ first-bytes s k e few fit =
     ∙ high (packed (eights (length a)) a) (64 - k * 8)
     (subst (λ (b : ℕ). packed (eights (length d)) d < 2 ^ b) bits (packed_lt (eights (length d)) d (bytes_take (8 - k) (drop k s) (bytes_drop k s fit))))
 
--- the bytes of a number of two words: those of the first above those of the second
-module _ (top bottom n k : ℕ) (e : top * 2 ^ 64 + bottom ≡ n) (fits : bottom < 2 ^ 64) (small : n < 2 ^ ((k + 8) * 8)) where
-  split-bits : (k + 8) * 8 ≡ k * 8 + 64
-  split-bits = omega arith
-
-  pub top_lt : top < 2 ^ (k * 8)
-  top_lt =
-      let whole : top * 2 ^ 64 + bottom < 2 ^ (k * 8 + 64) = subst (λ (x : ℕ). x < 2 ^ (k * 8 + 64)) (sym e) (subst (λ (b : ℕ). n < 2 ^ b) split-bits small) in
-      subst (λ (x : ℕ). x < 2 ^ (k * 8)) (high top 64 fits) (shr_lt (k * 8) 64 whole)
-
-  pub both_bytes : unpacked (eights k) top ++ unpacked (eights 8) bottom ≡ unpacked (eights (k + 8)) n
+-- the bytes of a number are those above its last word, and those of that word
+module _ (n k : ℕ) (small : n < 2 ^ ((k + 8) * 8)) where
+  pub both_bytes : unpacked (eights (k + 8)) n ≡ unpacked (eights k) (n / 2 ^ 64) ++ unpacked (eights 8) (n % 2 ^ 64)
   both_bytes =
-      let t : total (eights 8) ≡ 64 = total-eights 8 in
-      let bound : n < 2 ^ total (eights k ++ eights 8) =
-      subst (λ (b : ℕ). n < 2 ^ b) (sym (ap total (eights-append k 8) ∙ total-eights (k + 8))) small in
-      sym (ap (λ (ws : List ℕ). unpacked ws n) (sym (eights-append k 8))
+      let bound : n < 2 ^ total (eights k ++ eights 8) = subst (λ (b : ℕ). n < 2 ^ b) (sym (ap total (eights-append k 8) ∙ total-eights (k + 8))) small in
+      ap (λ (ws : List ℕ). unpacked ws n) (sym (eights-append k 8))
       ∙ unpacked-append (eights k) (eights 8) n bound
-      ∙ ap (λ (b : ℕ). unpacked (eights k) (n / 2 ^ b) ++ unpacked (eights 8) (n % 2 ^ b)) t
-      ∙ ap (λ (x : ℕ). unpacked (eights k) (x / 2 ^ 64) ++ unpacked (eights 8) (x % 2 ^ 64)) (sym e)
-      ∙ ap₂ (λ (x y : ℕ). unpacked (eights k) x ++ unpacked (eights 8) y) (high top 64 fits) (low top 64 fits))
+      ∙ ap (λ (b : ℕ). unpacked (eights k) (n / 2 ^ b) ++ unpacked (eights 8) (n % 2 ^ b)) (total-eights 8)
 
--- the first k bytes of a word with a number of k bytes on top are that number's
-pub top-bytes : (top k : ℕ) → top < 2 ^ (k * 8) → k ≤ 8 → take k (unpacked (eights 8) ((top * 2 ^ (64 - k * 8)) % 2 ^ 64)) ≡ unpacked (eights k) top
-top-bytes top k small few =
-    let b = 64 - k * 8 in
-    let m = 8 - k in
-    let n = top * 2 ^ b in
-    let all : k * 8 + b ≡ 64 = omega arith in
-    let exact : n % 2 ^ 64 ≡ n = shl_exact (k * 8) b 64 small (omega arith) in
-    let sum : eights 8 ≡ eights k ++ eights m = ap eights (let f : 8 ≡ k + m = omega arith in f) ∙ sym (eights-append k m) in
-    let bits : total (eights m) ≡ b = total-eights m ∙ omega arith in
-    let bound : n < 2 ^ total (eights k ++ eights m) =
-    subst (λ (c : ℕ). n < 2 ^ c) (all ∙ sym (ap total (sym sum) ∙ total-eights 8)) (shl_lt (k * 8) b small)
-    in
-    let parts : unpacked (eights 8) (n % 2 ^ 64) ≡ unpacked (eights k) top ++ unpacked (eights m) (n % 2 ^ total (eights m)) =
-    ap₂ unpacked sum exact ∙ unpacked-append (eights k) (eights m) n bound
-    ∙ ap (λ (x : ℕ). unpacked (eights k) x ++ unpacked (eights m) (n % 2 ^ total (eights m))) (ap (λ (c : ℕ). n / 2 ^ c) bits ∙ shl-shr top b)
-    in
-    ap (take k) parts ∙ take_at _ _ k (length-unpacked (eights k) top ∙ length-eights k)
+  pub front_lt : n / 2 ^ (k * 8) < 2 ^ 64
+  front_lt = shr_lt 64 (k * 8) (subst (λ (b : ℕ). n < 2 ^ b) (let e : (k + 8) * 8 ≡ 64 + k * 8 = omega arith in e) small)
 
--- a room whose first eight bytes were written over by a: its bytes up to n, from eight before, are there, and b takes their place
-module _ (o a : List ℕ) (n : ℕ) (least : 9 ≤ n) (most : n ≤ 16) (long : n ≤ length o) (la : length a ≡ 8) where
-  pub room-kept : length (a ++ drop 8 o) ≡ length o
-  room-kept = omega (arith, length-append a (drop 8 o), length-drop 8 o)
-
-  pub room-left : length (mid_of (n - 8) (n - (n - 8)) (a ++ drop 8 o)) ≡ 8
-  room-left = omega (arith, mid_len (n - 8) n (a ++ drop 8 o) (omega (arith, room-kept)))
-
-  pub room-filled : (b : List ℕ) → put_mid (n - 8) (n - (n - 8)) (a ++ drop 8 o) b ≡ take (n - 8) a ++ (b ++ drop n o)
-  room-filled b =
-      let all : n ≡ length a + (n - 8) = omega arith in
-      let first : take (n - 8) (a ++ drop 8 o) ≡ take (n - 8) a = take-append-le (n - 8) a (drop 8 o) (omega arith) in
-      let rest : drop n (a ++ drop 8 o) ≡ drop n o =
-      ap (λ (m : ℕ). drop m (a ++ drop 8 o)) all ∙ drop-append-add a (drop 8 o) (n - 8) ∙ drop-drop (n - 8) 8 o ∙ ap (λ (m : ℕ). drop m o) (let f : 8 + (n - 8) ≡ n = omega arith in f)
+  -- and the first k of them are the first of what stands above the lowest k
+  pub front_bytes : k ≤ 8 → take k (unpacked (eights 8) (n / 2 ^ (k * 8))) ≡ unpacked (eights k) (n / 2 ^ 64)
+  front_bytes few =
+      let m = 8 - k in
+      let x = n / 2 ^ (k * 8) in
+      let sum : eights 8 ≡ eights k ++ eights m = ap eights (let f : 8 ≡ k + m = omega arith in f) ∙ sym (eights-append k m) in
+      let bound : x < 2 ^ total (eights k ++ eights m) = subst (λ (b : ℕ). x < 2 ^ b) (sym (ap total (sym sum) ∙ total-eights 8)) front_lt in
+      let top : x / 2 ^ total (eights m) ≡ n / 2 ^ 64 =
+      ap (λ (b : ℕ). x / 2 ^ b) (total-eights m) ∙ shr-shr n (k * 8) (m * 8) ∙ ap (λ (b : ℕ). n / 2 ^ b) (let f : k * 8 + m * 8 ≡ 64 = omega arith in f)
       in
-      ap₂ (λ (x y : List ℕ). x ++ (b ++ y)) first (Post-is (n - 8) n (a ++ drop 8 o) (omega arith) ∙ rest)
+      ap (λ (ws : List ℕ). take k (unpacked ws x)) sum ∙ ap (take k) (unpacked-append (eights k) (eights m) x bound)
+      ∙ take_at _ _ k (length-unpacked (eights k) _ ∙ length-eights k) ∙ ap (unpacked (eights k)) top
+
+-- bytes whose first eight were written over by a, and then their last eight by b
+pub over : (o a b : List ℕ) → 8 ≤ length o → length o ≤ 16 → length a ≡ 8
+    → let k = length o - 8 in put_mid k (length (a ++ drop 8 o) - k) (a ++ drop 8 o) b ≡ take k a ++ b
+over o a b least most la =
+    let k = length o - 8 in
+    let xs = a ++ drop 8 o in
+    let n : length xs ≡ length o = omega (arith, length-append a (drop 8 o), length-drop 8 o) in
+    ap₂ (λ (x y : List ℕ). x ++ (b ++ y)) (take-append-le k a (drop 8 o) (omega arith))
+    (Post-is k (length xs) xs (omega arith) ∙ drop_of_length-le xs {i = length xs} (omega arith))
+    ∙ ap (λ (y : List ℕ). take k a ++ y) (append-nil b)

@@ -1,10 +1,7 @@
--- `bits::write_fields` meets its contract: each value is put on top of the later ones, and the two words' bytes are those of the whole. Assumes nothing.
-use Prim.Native.Nat.{◌-◌}
-use Rattle.bits.proofs.Placing.{Placing}
+-- `bits::write_fields` meets its contract: each value goes in below the earlier ones, and the number's bytes are the room's first. Assumes nothing.
+use Rattle.bits.specs.Fields.{packed}
+use Rattle.bits.proofs.Placing.{Placed}
 use Rattle.bits.proofs.write_fields.Given as goal
 
-abbrev pub invariant-loop-j : goal.invariant-loop-j
-invariant-loop-j l = Placing l.widths l.vals l.top l.low l.below l.j
-
-abbrev pub decreases-loop-j : goal.decreases-loop-j
-decreases-loop-j l = l.j
+abbrev pub invariant-loop-value : goal.invariant-loop-value
+invariant-loop-value l = Placed (packed l.widths l.vals) l.number l.value-iterator.b.rest.now l.value-iterator.a.rest.now

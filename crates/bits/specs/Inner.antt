@@ -1,2 +1,0 @@
--- Words of this crate's own contracts and proofs, which no promise speaks of.
-pub mod Bytes
