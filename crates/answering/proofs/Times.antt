@@ -12,14 +12,14 @@ use Rattle.records.specs.Form.{accepts, event_at}
 use Rattle.records.specs.Event16.{widths16, values16_of, form16, read16_of}
 use Rattle.records.specs.declared.Event16.{Event16}
 use Rattle.records.specs.declared.Event16.TheVariants.{Order, Offer, Lockout, Sending, Report, Closing}
-use Rattle.records.specs.declared.Reading16.TheVariants.{Is}
+use Rattle.std.specs.declared.result.Result.TheVariants.{Ok}
 use Rattle.records.proofs.Moved.{fields16-are}
 use Rattle.records.proofs.Promises16.{picked}
 use Rattle.answering.specs.Run.{record_call, reading_answer, memory_of, record_answer, record_memory}
 use Rattle.answering.specs.Times.{call_time, whole_fields, RemainderDropped}
 
 -- the values of a record that is read as an event are its fields
-fields-of : (s : List ℕ) (e : Event16) → read16_of s ≡ Is e → fields_of widths16 s ≡ values16_of e
+fields-of : (s : List ℕ) (e : Event16) → read16_of s ≡ Ok e → fields_of widths16 s ≡ values16_of e
 unfolding read16_of
 fields-of s e h = let p = picked (accepts form16 s) (event_at form16 s) e h in (fields16-are s p.0).0 ∙ ap values16_of p.1
 
@@ -58,13 +58,13 @@ call_from_lem (Sending time root unit premium contracts identity reports) = refl
 call_from_lem (Report time identity contracts) = refl
 call_from_lem (Closing time identity) = refl
 
-same-call : (s t : List ℕ) (e x : Event16) → read16_of s ≡ Is e → read16_of t ≡ Is x → whole_fields s ≡ whole_fields t → record_call e ≡ record_call x
+same-call : (s t : List ℕ) (e x : Event16) → read16_of s ≡ Ok e → read16_of t ≡ Ok x → whole_fields s ≡ whole_fields t → record_call e ≡ record_call x
 unfolding whole_fields
 same-call s t e x p q h =
     call_from_lem e ∙ ap (λ (v : List ℕ). call_from (whole v)) (sym (fields-of s e p)) ∙ ap call_from h
     ∙ ap (λ (v : List ℕ). call_from (whole v)) (fields-of t x q) ∙ sym (call_from_lem x)
 
-same_answer : (s t : List ℕ) (e x : Event16) → read16_of s ≡ Is e → read16_of t ≡ Is x → record_call e ≡ record_call x → (xs : List ℕ)
+same_answer : (s t : List ℕ) (e x : Event16) → read16_of s ≡ Ok e → read16_of t ≡ Ok x → record_call e ≡ record_call x → (xs : List ℕ)
     → (record_answer xs s ≡ record_answer xs t) × (record_memory xs s ≡ record_memory xs t)
 unfolding reading_answer memory_of
 same_answer s t e x p q h xs = rw (p, q, h) (refl, refl)

@@ -1,5 +1,5 @@
 -- A run of event records over lent memory: what each is answered, the memory that it leaves, and the lines of all. Assumes nothing.
-use Rattle.std.specs.Prelude.{ℕ, ◌+◌, ◌-◌, ◌*◌, ◌/◌, ◌%◌, ◌^◌, min, ◌≤◌, ◌<◌, Bool, true, false, List, [], ◌∷◌, ◌++◌, length, take, drop}
+use Rattle.std.specs.Prelude.{Result, ℕ, ◌+◌, ◌-◌, ◌*◌, ◌/◌, ◌%◌, ◌^◌, min, ◌≤◌, ◌<◌, Bool, true, false, List, [], ◌∷◌, ◌++◌, length, take, drop}
 use Rattle.tables.specs.Inner.Tables.{places}
 use Rattle.profile.specs.declared.Reading.{Reading as Arming}
 use Rattle.profile.specs.declared.Reading.TheVariants.{Accepted, Refused as NotArmed}
@@ -8,11 +8,12 @@ use Rattle.machine.specs.declared.Offer.{Offer as Offered}
 use Rattle.machine.specs.declared.Answer.{Answer}
 use Rattle.machine.specs.declared.Answer.TheVariants.{Refused}
 use Rattle.calls.specs.Calls.{call_answer, call_memory}
-use Rattle.records.specs.Event16.{bytes16, read16_of, read16_refusal}
+use Rattle.records.specs.Event16.{bytes16, read16_of}
 use Rattle.records.specs.declared.Event16.{Event16}
 use Rattle.records.specs.declared.Event16.TheVariants.{Order, Offer, Lockout, Sending, Report, Closing}
-use Rattle.records.specs.declared.Reading16.{Reading16}
-use Rattle.records.specs.declared.Reading16.TheVariants.{Is, Faulty}
+use Rattle.std.specs.declared.result.Result.TheVariants.{Ok, Err}
+use Rattle.refusals.specs.declared.Refusal.{Refusal}
+use Rattle.refusals.specs.Numbers.{refusal_number}
 use Rattle.answering.specs.Lines.{arm_line, record_line}
 use Rattle.answering.specs.declared.Opened.{Opened}
 use Rattle.answering.specs.declared.Ran.{Ran}
@@ -63,14 +64,14 @@ record_call (Report time identity contracts) = report (milliseconds time) identi
 record_call (Closing time identity) = close (milliseconds time) identity
 
 -- what a record is answered: what its event's call is, or 16
-unfoldable pub reading_answer : List ℕ → Reading16 → Answer
-reading_answer xs (Is e) = call_answer xs (record_call e)
-reading_answer xs Faulty = Refused (read16_refusal Faulty)
+unfoldable pub reading_answer : List ℕ → Result Event16 Refusal → Answer
+reading_answer xs (Ok e) = call_answer xs (record_call e)
+reading_answer xs (Err r) = Refused (refusal_number r)
 
 -- the memory after a record: a faulty one changes nothing
-unfoldable pub memory_of : List ℕ → Reading16 → List ℕ
-memory_of xs (Is e) = call_memory xs (record_call e)
-memory_of xs Faulty = xs
+unfoldable pub memory_of : List ℕ → Result Event16 Refusal → List ℕ
+memory_of xs (Ok e) = call_memory xs (record_call e)
+memory_of xs (Err r) = xs
 
 abbrev pub record_answer : List ℕ → List ℕ → Answer
 record_answer xs s = reading_answer xs (read16_of s)

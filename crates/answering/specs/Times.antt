@@ -4,7 +4,7 @@ use Rattle.bits.specs.Fields.{fields_of}
 use Rattle.machine.specs.Calls.{Call, order, lockout, offer, remaining, status, send, report, close}
 use Rattle.records.specs.Event16.{widths16, read16_of}
 use Rattle.records.specs.declared.Event16.{Event16}
-use Rattle.records.specs.declared.Reading16.TheVariants.{Is}
+use Rattle.std.specs.declared.result.Result.TheVariants.{Ok}
 use Rattle.answering.specs.Run.{record_call, record_answer, record_memory}
 
 -- the time of a call; Status has none, and no record asks for it
@@ -28,8 +28,8 @@ whole_fields s = get_or (fields_of widths16 s) 0 0 ∷ stamp_of s / 1000 ∷ dro
 
 pub record RemainderDropped : Type 0 where
   -- the call's time is the record's divided by 1000, the remainder dropped
-  pub divided : (s : List ℕ) (e : Event16) → read16_of s ≡ Is e → call_time (record_call e) ≡ stamp_of s / 1000
+  pub divided : (s : List ℕ) (e : Event16) → read16_of s ≡ Ok e → call_time (record_call e) ≡ stamp_of s / 1000
   -- two records that differ only in that remainder ask for the same call, get the same answer and leave the same memory
   pub alike :
-      (s t : List ℕ) (e x : Event16) → read16_of s ≡ Is e → read16_of t ≡ Is x → whole_fields s ≡ whole_fields t
+      (s t : List ℕ) (e x : Event16) → read16_of s ≡ Ok e → read16_of t ≡ Ok x → whole_fields s ≡ whole_fields t
       → (record_call e ≡ record_call x) × ((xs : List ℕ) → (record_answer xs s ≡ record_answer xs t) × (record_memory xs s ≡ record_memory xs t))

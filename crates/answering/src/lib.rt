@@ -11,7 +11,7 @@ ghost use Rattle.answering.specs.Run.{Line, FitsRoom, Fitted, in_front, opened_o
 
 use machine::{Answer, Offer};
 use profile::Reading as Arming;
-use records::{Event16, Reading16};
+use records::Event16;
 
 // How many numbers the memory takes that a program lends.
 pub const SIZE: usize = calls::SIZE;
@@ -172,14 +172,14 @@ fn answer_event(m: &mut [u64], e: Event16) -> Answer
 }
 
 // Answers a record in memory: what its event's call answers, or 16.
+#[tactic(auto, unfolding(crate::specs::Run::reading_answer, crate::specs::Run::memory_of))]
 pub fn answer_record(m: &mut [u64], s: &[u8]) -> Answer
     ensures value { result ≡ record_answer m.old s.now }
     ensures m_after { m.new ≡ record_memory m.old s.now }
 {
-    let reading = records::read16(s);
-    match reading {
-        Reading16::Is(e) => answer_event(m, e),
-        Reading16::Faulty => Answer::Refused(16),
+    match records::read16(s) {
+        Ok(e) => answer_event(m, e),
+        Err(refusal) => Answer::Refused(refusal.number()),
     }
 }
 

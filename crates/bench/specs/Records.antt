@@ -3,10 +3,10 @@
 use Rattle.std.specs.Prelude.{ℕ, ◌≡◌, List, [], ◌∷◌, ◌++◌, length, take, set, replicate}
 use Rattle.bits.specs.Fields.{bytes_of}
 use Rattle.machine.specs.Calls.{Call, order, lockout, offer, send, report, close}
+use Rattle.refusals.specs.Numbers.{refused_with}
 use Rattle.records.specs.Form.{record_of, wrote_values}
-use Rattle.records.specs.Event.{write_refusal}
-use Rattle.records.specs.Event16.{bytes16, widths16, form16, read16_of, read16_refusal}
-use Rattle.records.specs.Moves.{Move, moving_of, moved, widening, narrowing, move_refusal}
+use Rattle.records.specs.Event16.{bytes16, widths16, form16, read16_of}
+use Rattle.records.specs.Moves.{Move, moving_of, moved, widening, narrowing}
 use Rattle.records.specs.declared.Event16.{Event16}
 use Rattle.answering.specs.Run.{record_call}
 use Rattle.rules.specs.Allowance.{All}
@@ -190,17 +190,17 @@ asked_calls =
 
 -- what is seen of a row, and what has to be
 unfoldable pub seen16 : Tried16 → List ℕ
-seen16 row = read16_refusal (read16_of row.bytes) ∷ move_refusal (moving_of narrowing row.bytes row.room) ∷ []
+seen16 row = refused_with (read16_of row.bytes) ∷ refused_with (moving_of narrowing row.bytes row.room) ∷ []
 
 unfoldable pub wanted16 : Tried16 → List ℕ
 wanted16 row = row.reading ∷ row.moving ∷ []
 
 unfoldable pub seen_writing : TriedWriting → ℕ
-seen_writing row = write_refusal (wrote_values form16 row.fields row.room)
+seen_writing row = refused_with (wrote_values form16 row.fields row.room)
 
 module _ {E X : Type 0} (M : Move E X) where
   unfoldable pub seen_move : TriedMove → List ℕ
-  seen_move row = move_refusal (moving_of M row.bytes (length row.room)) ∷ moved M row.bytes row.room
+  seen_move row = refused_with (moving_of M row.bytes (length row.room)) ∷ moved M row.bytes row.room
 
 unfoldable pub wanted_move : TriedMove → List ℕ
 wanted_move row = row.refusal ∷ row.left

@@ -1,5 +1,7 @@
 -- The rows of document 01's numbers, the refusal first. Assumes nothing.
-use Rattle.std.specs.Prelude.{ℕ, List, [], ◌∷◌}
+use Rattle.std.specs.Prelude.{Result, ℕ, List, [], ◌∷◌}
+use Rattle.refusals.specs.declared.Refusal.{Refusal}
+use Rattle.refusals.specs.Numbers.{refused_with}
 use Rattle.profile.specs.declared.Reading.{Reading}
 use Rattle.profile.specs.declared.Reading.TheVariants.{Accepted, Refused}
 use Rattle.calls.specs.declared.Clearing.{Clearing}
@@ -12,10 +14,6 @@ use Rattle.views.specs.declared.Listing.{Listing}
 use Rattle.views.specs.declared.Listing.TheVariants.{Written as Listed, Short, Refused as NotListed}
 use Rattle.views.specs.declared.Told.{Told}
 use Rattle.views.specs.declared.Told.TheVariants.{Rule, Refused as NotTold}
-use Rattle.records.specs.Event.{write_refusal}
-use Rattle.records.specs.Moves.{move_refusal}
-use Rattle.records.specs.declared.Writing.{Writing}
-use Rattle.records.specs.declared.Moving.{Moving}
 
 -- Arm: refusal, line, firm, rules, roots
 unfoldable pub arm_row : Reading → List ℕ
@@ -58,10 +56,6 @@ abbrev pub fields16_of : ℕ → ℕ → ℕ → ℕ → ℕ → ℕ → ℕ →
 fields16_of kind time root unit premium contracts reset level identity reports =
     kind ∷ time ∷ root ∷ unit ∷ premium ∷ contracts ∷ reset ∷ level ∷ identity ∷ reports ∷ 0 ∷ []
 
--- an event record written: refusal
-unfoldable pub writing_row : Writing → List ℕ
-writing_row writing = write_refusal writing ∷ 0 ∷ 0 ∷ 0 ∷ 0 ∷ []
-
--- an event record moved to the other form: refusal
-unfoldable pub moving_row : Moving → List ℕ
-moving_row moving = move_refusal moving ∷ 0 ∷ 0 ∷ 0 ∷ 0 ∷ []
+-- what answers a refusal or nothing, as an event record written or moved to the other form: refusal
+unfoldable pub refusal_row : Result (Unit {0}) Refusal → List ℕ
+refusal_row answer = refused_with answer ∷ 0 ∷ 0 ∷ 0 ∷ 0 ∷ []

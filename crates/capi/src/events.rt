@@ -5,9 +5,9 @@ ghost use Rattle.records.specs.Event.{form, read_of};
 ghost use Rattle.records.specs.Event16.{form16, read16_of};
 ghost use Rattle.records.specs.Rows.{event_row, event16_row};
 ghost use Rattle.records.specs.Moves.{moving_of, moved, widening, narrowing};
-ghost use Rattle.capi.specs.Rows.{event_fields, fields16_of, writing_row, moving_row};
+ghost use Rattle.capi.specs.Rows.{event_fields, fields16_of, refusal_row};
 
-use records::{Moving, Writing};
+use refusals::Refusal;
 
 // Reads an event record: refusal, kind, time, root, unit, premium, contracts, reset, level.
 pub fn mbrumzheg_read_record(s: &[u8], row: &mut [u64; 9])
@@ -24,15 +24,14 @@ pub fn mbrumzheg_read_record16(s: &[u8], row: &mut [u64; 13])
     records::read16_numbers(s, row)
 }
 
-// Writes the row of what a writer answered.
-#[tactic(auto, unfolding(crate::specs::Rows::writing_row, records::specs::Event::write_refusal))]
-fn put_writing(writing: Writing, row: &mut [u64; 5])
-    ensures { row.new ≡ writing_row writing }
+// Writes the row of what answers a refusal or nothing.
+#[tactic(auto, unfolding(crate::specs::Rows::refusal_row))]
+fn put_refusal(answer: Result<(), Refusal>, row: &mut [u64; 5])
+    ensures { row.new ≡ refusal_row answer }
 {
-    match writing {
-        Writing::Done => rows::put_row(row, 0, 0, 0, 0, 0),
-        Writing::Faulty => rows::put_row(row, 16, 0, 0, 0, 0),
-        Writing::Short => rows::put_row(row, 1, 0, 0, 0, 0),
+    match answer {
+        Ok(()) => rows::put_row(row, 0, 0, 0, 0, 0),
+        Err(refusal) => rows::put_row(row, refusal.number(), 0, 0, 0, 0),
     }
 }
 
@@ -50,11 +49,11 @@ pub fn mbrumzheg_write_record(
     row: &mut [u64; 5],
 )
     ensures room_after { room.new ≡ written_values form (event_fields kind time root unit premium contracts reset level) room.old }
-    ensures row_after { row.new ≡ writing_row (wrote_values form (event_fields kind time root unit premium contracts reset level) (length room.old)) }
+    ensures row_after { row.new ≡ refusal_row (wrote_values form (event_fields kind time root unit premium contracts reset level) (length room.old)) }
 {
     let v = [kind, time, root, unit, premium, contracts, reset, level, 0];
     let writing = records::write_values(v, room);
-    put_writing(writing, row)
+    put_refusal(writing, row)
 }
 
 // Writes the 16-byte record of an event, given by its numbers, to the front of a room: refusal.
@@ -73,42 +72,29 @@ pub fn mbrumzheg_write_record16(
     row: &mut [u64; 5],
 )
     ensures room_after { room.new ≡ written_values form16 (fields16_of kind time root unit premium contracts reset level identity reports) room.old }
-    ensures row_after { row.new ≡ writing_row (wrote_values form16 (fields16_of kind time root unit premium contracts reset level identity reports) (length room.old)) }
+    ensures row_after { row.new ≡ refusal_row (wrote_values form16 (fields16_of kind time root unit premium contracts reset level identity reports) (length room.old)) }
 {
     let v = [
         kind, time, root, unit, premium, contracts, reset, level, identity, reports, 0,
     ];
     let writing = records::write16_values(v, room);
-    put_writing(writing, row)
-}
-
-// Writes the row of what moving answered.
-#[tactic(auto, unfolding(crate::specs::Rows::moving_row, records::specs::Moves::move_refusal))]
-fn put_moving(moving: Moving, row: &mut [u64; 5])
-    ensures { row.new ≡ moving_row moving }
-{
-    match moving {
-        Moving::Done => rows::put_row(row, 0, 0, 0, 0, 0),
-        Moving::Faulty => rows::put_row(row, 16, 0, 0, 0, 0),
-        Moving::Unfit => rows::put_row(row, 20, 0, 0, 0, 0),
-        Moving::Short => rows::put_row(row, 1, 0, 0, 0, 0),
-    }
+    put_refusal(writing, row)
 }
 
 // Moves a record of 12 bytes to the front of a room, as one of 16: refusal.
 pub fn mbrumzheg_widen(s: &[u8], room: &mut [u8], row: &mut [u64; 5])
     ensures room_after { room.new ≡ moved widening s.now room.old }
-    ensures row_after { row.new ≡ moving_row (moving_of widening s.now (length room.old)) }
+    ensures row_after { row.new ≡ refusal_row (moving_of widening s.now (length room.old)) }
 {
     let moving = records::widen(s, room);
-    put_moving(moving, row)
+    put_refusal(moving, row)
 }
 
 // Moves a record of 16 bytes to the front of a room, as one of 12: refusal.
 pub fn mbrumzheg_narrow(s: &[u8], room: &mut [u8], row: &mut [u64; 5])
     ensures room_after { room.new ≡ moved narrowing s.now room.old }
-    ensures row_after { row.new ≡ moving_row (moving_of narrowing s.now (length room.old)) }
+    ensures row_after { row.new ≡ refusal_row (moving_of narrowing s.now (length room.old)) }
 {
     let moving = records::narrow(s, room);
-    put_moving(moving, row)
+    put_refusal(moving, row)
 }

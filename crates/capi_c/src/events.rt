@@ -5,7 +5,7 @@ ghost use Rattle.records.specs.Event.{form, read_of};
 ghost use Rattle.records.specs.Event16.{form16, read16_of};
 ghost use Rattle.records.specs.Rows.{event_row, event16_row};
 ghost use Rattle.records.specs.Moves.{moving_of, moved, widening, narrowing};
-ghost use Rattle.capi.specs.Rows.{event_fields, fields16_of, writing_row, moving_row};
+ghost use Rattle.capi.specs.Rows.{event_fields, fields16_of, refusal_row};
 
 // Reads an event record: refusal, kind, time, root, unit, premium, contracts, reset, level.
 #[unsafe(no_mangle)]
@@ -39,7 +39,7 @@ pub extern "C" fn mbrumzheg_write_record(
     row: &mut [u64; 5],
 )
     ensures room_after { room.new ≡ written_values form (event_fields kind time root unit premium contracts reset level) room.old }
-    ensures row_after { row.new ≡ writing_row (wrote_values form (event_fields kind time root unit premium contracts reset level) (length room.old)) }
+    ensures row_after { row.new ≡ refusal_row (wrote_values form (event_fields kind time root unit premium contracts reset level) (length room.old)) }
 {
     capi::events::mbrumzheg_write_record(
         kind, time, root, unit, premium, contracts, reset, level, room, row,
@@ -63,7 +63,7 @@ pub extern "C" fn mbrumzheg_write_record16(
     row: &mut [u64; 5],
 )
     ensures room_after { room.new ≡ written_values form16 (fields16_of kind time root unit premium contracts reset level identity reports) room.old }
-    ensures row_after { row.new ≡ writing_row (wrote_values form16 (fields16_of kind time root unit premium contracts reset level identity reports) (length room.old)) }
+    ensures row_after { row.new ≡ refusal_row (wrote_values form16 (fields16_of kind time root unit premium contracts reset level identity reports) (length room.old)) }
 {
     capi::events::mbrumzheg_write_record16(
         kind, time, root, unit, premium, contracts, reset, level, identity, reports, room, row,
@@ -74,7 +74,7 @@ pub extern "C" fn mbrumzheg_write_record16(
 #[unsafe(no_mangle)]
 pub extern "C" fn mbrumzheg_widen(s: &[u8], room: &mut [u8], row: &mut [u64; 5])
     ensures room_after { room.new ≡ moved widening s.now room.old }
-    ensures row_after { row.new ≡ moving_row (moving_of widening s.now (length room.old)) }
+    ensures row_after { row.new ≡ refusal_row (moving_of widening s.now (length room.old)) }
 {
     capi::events::mbrumzheg_widen(s, room, row)
 }
@@ -83,7 +83,7 @@ pub extern "C" fn mbrumzheg_widen(s: &[u8], room: &mut [u8], row: &mut [u64; 5])
 #[unsafe(no_mangle)]
 pub extern "C" fn mbrumzheg_narrow(s: &[u8], room: &mut [u8], row: &mut [u64; 5])
     ensures room_after { room.new ≡ moved narrowing s.now room.old }
-    ensures row_after { row.new ≡ moving_row (moving_of narrowing s.now (length room.old)) }
+    ensures row_after { row.new ≡ refusal_row (moving_of narrowing s.now (length room.old)) }
 {
     capi::events::mbrumzheg_narrow(s, room, row)
 }

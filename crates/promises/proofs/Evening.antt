@@ -18,8 +18,9 @@ use Rattle.calls.proofs.Steps.{laid}
 use Rattle.records.specs.Event16.{read16_of}
 use Rattle.records.specs.declared.Event16.{Event16}
 use Rattle.records.specs.declared.Event16.TheVariants.{Order, Offer, Lockout, Sending, Report, Closing}
-use Rattle.records.specs.declared.Reading16.{Reading16}
-use Rattle.records.specs.declared.Reading16.TheVariants.{Is, Faulty}
+use Rattle.std.specs.declared.result.Result.{Result}
+use Rattle.std.specs.declared.result.Result.TheVariants.{Ok, Err}
+use Rattle.refusals.specs.declared.Refusal.{Refusal}
 use Rattle.answering.specs.Run.{record_call, records_of}
 use Rattle.figures.specs.declared.Figures.{Figures}
 use Rattle.figures.specs.declared.Happening.{Happening}
@@ -48,13 +49,13 @@ kept-call (Report time identity contracts) = refl
 kept-call (Closing time identity) = refl
 
 -- what one record leaves is what its call leaves, or all where it is faulty
-record-kept : (day : Keeping) (reading : Reading16) (rest : List Kept) (rs : List (List ℕ))
+record-kept : (day : Keeping) (reading : Result Event16 Refusal) (rest : List Kept) (rs : List (List ℕ))
     → ((next : Keeping) → (memory_taken next.memory next.account rs ≡ (keeping_from next rest).memory) × (account_taken next.memory next.account rs ≡ (keeping_from next rest).account))
     → (memory_taken (tabled_memory day.memory day.account reading) (account_of day.memory day.account reading) rs ≡ (keeping_from day (kept_read reading ++ rest)).memory)
     × (account_taken (tabled_memory day.memory day.account reading) (account_of day.memory day.account reading) rs ≡ (keeping_from day (kept_read reading ++ rest)).account)
 unfolding tabled_memory account_of kept_read keeping_from after_keeping
-record-kept day Faulty rest rs then = then day
-record-kept day (Is e) rest rs then = rw (← kept-call e) (then (after_keeping day (kept_of e)))
+record-kept day (Err r) rest rs then = then day
+record-kept day (Ok e) rest rs then = rw (← kept-call e) (then (after_keeping day (kept_of e)))
 
 records-kept : (day : Keeping) (rs : List (List ℕ))
     → (memory_taken day.memory day.account rs ≡ (keeping_from day (kept_in rs)).memory)

@@ -1,13 +1,13 @@
 -- The evening table of an input: its records are calls that keep an account, and the table has the figures of these calls and their answers.
 -- Assumes nothing.
-use Rattle.std.specs.Prelude.{ℕ, ◌≡◌, List, [], ◌∷◌, ◌++◌}
+use Rattle.std.specs.Prelude.{Result, ℕ, ◌≡◌, List, [], ◌∷◌, ◌++◌}
 use Rattle.state.specs.State.{decode}
 use Rattle.calls.specs.Calls.{memory_refusal}
 use Rattle.records.specs.Event16.{read16_of}
 use Rattle.records.specs.declared.Event16.{Event16}
 use Rattle.records.specs.declared.Event16.TheVariants.{Order, Offer, Lockout, Sending, Report, Closing}
-use Rattle.records.specs.declared.Reading16.{Reading16}
-use Rattle.records.specs.declared.Reading16.TheVariants.{Is, Faulty}
+use Rattle.std.specs.declared.result.Result.TheVariants.{Ok, Err}
+use Rattle.refusals.specs.declared.Refusal.{Refusal}
 use Rattle.answering.specs.Run.{milliseconds, offer_said, records_of}
 use Rattle.figures.specs.History.{figures_in}
 use Rattle.accounted.specs.declared.Event.{Event as Kept}
@@ -26,9 +26,9 @@ kept_of (Report time identity contracts) = kept_report (milliseconds time) ident
 kept_of (Closing time identity) = kept_close (milliseconds time) identity
 
 -- a faulty record is no call
-unfoldable pub kept_read : Reading16 → List Kept
-kept_read (Is e) = kept_of e ∷ []
-kept_read Faulty = []
+unfoldable pub kept_read : Result Event16 Refusal → List Kept
+kept_read (Ok e) = kept_of e ∷ []
+kept_read (Err r) = []
 
 -- the calls of records, in their order
 unfoldable pub kept_in : List (List ℕ) → List Kept

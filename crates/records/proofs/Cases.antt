@@ -10,11 +10,11 @@ use Rattle.bits.specs.Fields.{fields_of}
 use Rattle.bits.proofs.Packing.{length_fields, listed_from}
 use Rattle.records.specs.Form.{Form, accepts, event_at, stands}
 use Rattle.records.specs.declared.Event.{Event}
-use Rattle.records.specs.declared.Reading.TheVariants.{Is, Faulty}
+use Rattle.std.specs.declared.result.Result.TheVariants.{Ok, Err}
+use Rattle.refusals.specs.declared.Refusal.TheVariants.{FaultyRecord}
 use Rattle.records.specs.declared.Event16.{Event16}
-use Rattle.records.specs.declared.Reading16.TheVariants.{Is as Is16, Faulty as Faulty16}
-use Rattle.records.specs.Event.{widths, event_of, form, event_in, read_of, read_refusal}
-use Rattle.records.specs.Event16.{widths16, event16_of, form16, event16_in, read16_of, read16_refusal}
+use Rattle.records.specs.Event.{widths, event_of, form, event_in, read_of}
+use Rattle.records.specs.Event16.{widths16, event16_of, form16, event16_in, read16_of}
 use Rattle.records.specs.Rows.{event_row, event16_row}
 use Rattle.records.proofs.Round.{fields-are, accepts-full, accepts-not}
 
@@ -38,21 +38,21 @@ module _ {E : Type 0} (F : Form E) (s : List ℕ) where
 
 -- values v of 12 bytes, by their test
 module _ (v : List ℕ) (t : Bool) (is : t ≡ stands form v) where
-  pub event-is : {e : Event} → e ≡ event_of v → t ≡ true → Is e ≡ event_in v
+  pub event-is : {e : Event} → e ≡ event_of v → t ≡ true → Ok e ≡ event_in v
   unfolding event_in
-  event-is x h = rw (← is, h) (ap Is x)
+  event-is x h = rw (← is, h) (ap Ok x)
 
-  pub event-not : t ≡ false → Faulty ≡ event_in v
+  pub event-not : t ≡ false → Err FaultyRecord ≡ event_in v
   unfolding event_in
   event-not h = rw (← is, h)
 
 -- bytes, by the test t whether they are a record, which then has the fields v
 module _ (s : List ℕ) (t : Bool) (is : t ≡ accepts form s) where
-  pub read_is : (v : List ℕ) {e : Event} → e ≡ event_of v → t ≡ true → v ≡ fields_of widths s → Is e ≡ read_of s
+  pub read_is : (v : List ℕ) {e : Event} → e ≡ event_of v → t ≡ true → v ≡ fields_of widths s → Ok e ≡ read_of s
   unfolding read_of event_at
-  read_is v x h f = rw (← is, h) (ap Is (x ∙ ap event_of f))
+  read_is v x h f = rw (← is, h) (ap Ok (x ∙ ap event_of f))
 
-  pub read-not : t ≡ false → Faulty ≡ read_of s
+  pub read-not : t ≡ false → Err FaultyRecord ≡ read_of s
   unfolding read_of
   read-not h = rw (← is, h)
 
@@ -63,26 +63,26 @@ module _ (s : List ℕ) (t : Bool) (is : t ≡ accepts form s) where
       rw (← is, h) (ap (λ (xs : List ℕ). 0 ∷ xs) (firsts v 8 (omega arith) ∙ ap (take 8) (f ∙ (fields-are form s (sym is ∙ h)).0)))
 
   pub row-not : t ≡ false → 16 ∷ 0 ∷ 0 ∷ 0 ∷ 0 ∷ 0 ∷ 0 ∷ 0 ∷ 0 ∷ [] ≡ event_row (read_of s)
-  unfolding event_row read_refusal
+  unfolding event_row
   row-not h = rw (← read-not h)
 
 -- values v of 16 bytes, by their test
 module _ (v : List ℕ) (t : Bool) (is : t ≡ stands form16 v) where
-  pub event16-is : {e : Event16} → e ≡ event16_of v → t ≡ true → Is16 e ≡ event16_in v
+  pub event16-is : {e : Event16} → e ≡ event16_of v → t ≡ true → Ok e ≡ event16_in v
   unfolding event16_in
-  event16-is x h = rw (← is, h) (ap Is16 x)
+  event16-is x h = rw (← is, h) (ap Ok x)
 
-  pub event16-not : t ≡ false → Faulty16 ≡ event16_in v
+  pub event16-not : t ≡ false → Err FaultyRecord ≡ event16_in v
   unfolding event16_in
   event16-not h = rw (← is, h)
 
 -- bytes, in the same way
 module _ (s : List ℕ) (t : Bool) (is : t ≡ accepts form16 s) where
-  pub read16-is : (v : List ℕ) {e : Event16} → e ≡ event16_of v → t ≡ true → v ≡ fields_of widths16 s → Is16 e ≡ read16_of s
+  pub read16-is : (v : List ℕ) {e : Event16} → e ≡ event16_of v → t ≡ true → v ≡ fields_of widths16 s → Ok e ≡ read16_of s
   unfolding read16_of event_at
-  read16-is v x h f = rw (← is, h) (ap Is16 (x ∙ ap event16_of f))
+  read16-is v x h f = rw (← is, h) (ap Ok (x ∙ ap event16_of f))
 
-  pub read16-not : t ≡ false → Faulty16 ≡ read16_of s
+  pub read16-not : t ≡ false → Err FaultyRecord ≡ read16_of s
   unfolding read16_of
   read16-not h = rw (← is, h)
 
@@ -93,5 +93,5 @@ module _ (s : List ℕ) (t : Bool) (is : t ≡ accepts form16 s) where
       rw (← is, h) (ap (λ (xs : List ℕ). 0 ∷ (xs ++ (0 ∷ 0 ∷ []))) (firsts v 10 (omega arith) ∙ ap (take 10) (f ∙ (fields-are form16 s (sym is ∙ h)).0)))
 
   pub row16-not : t ≡ false → 16 ∷ 0 ∷ 0 ∷ 0 ∷ 0 ∷ 0 ∷ 0 ∷ 0 ∷ 0 ∷ 0 ∷ 0 ∷ 0 ∷ 0 ∷ [] ≡ event16_row (read16_of s)
-  unfolding event16_row read16_refusal
+  unfolding event16_row
   row16-not h = rw (← read16-not h)

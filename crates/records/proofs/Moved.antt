@@ -7,7 +7,8 @@ use lib.ListN.{length, get_or, drop}
 use borrow.Author.Tests.{le-leb, lt-leb}
 use Rattle.bits.specs.Fields.{fields_of, bytes_of}
 use Rattle.records.specs.Form.{accepts, event_at, stands}
-use Rattle.records.specs.declared.Moving.TheVariants.{Done, Faulty, Unfit, Short}
+use Rattle.std.specs.declared.result.Result.TheVariants.{Ok, Err}
+use Rattle.refusals.specs.declared.Refusal.TheVariants.{NoRoom, FaultyRecord, Unfit}
 use Rattle.records.specs.Event.{widths, event_of, form}
 use Rattle.records.specs.Event16.{widths16, values16_of, is_valid16, form16}
 use Rattle.records.specs.Moves.{Move, moving_of, moved_record, moved, widened, narrowed, moves_back}
@@ -15,21 +16,21 @@ use Rattle.records.proofs.Round.{stands-is, fields-are}
 use Rattle.records.proofs.Across.{time-most, widened-stands, narrowed-stands}
 
 module _ {E X : Type 0} (M : Move E X) (s room : List ℕ) where
-  pub move-faulty : accepts M.from s ≡ false → (Faulty ≡ moving_of M s (length room)) × (room ≡ moved M s room)
+  pub move-faulty : accepts M.from s ≡ false → (Err FaultyRecord ≡ moving_of M s (length room)) × (room ≡ moved M s room)
   unfolding moving_of moved
   move-faulty a = rw a (refl, refl)
 
-  pub move-unfit : accepts M.from s ≡ true → M.fits (fields_of M.from.widths s) ≡ false → (Unfit ≡ moving_of M s (length room)) × (room ≡ moved M s room)
+  pub move-unfit : accepts M.from s ≡ true → M.fits (fields_of M.from.widths s) ≡ false → (Err Unfit ≡ moving_of M s (length room)) × (room ≡ moved M s room)
   unfolding moving_of moved
   move-unfit a f = rw (a, f) (refl, refl)
 
   pub move-short : accepts M.from s ≡ true → M.fits (fields_of M.from.widths s) ≡ true → length room < M.to.size
-      → (Short ≡ moving_of M s (length room)) × (room ≡ moved M s room)
+      → (Err NoRoom ≡ moving_of M s (length room)) × (room ≡ moved M s room)
   unfolding moving_of moved
   move-short a f n = rw (a, f, lt-leb _ _ n) (refl, refl)
 
   pub move-done : accepts M.from s ≡ true → M.fits (fields_of M.from.widths s) ≡ true → M.to.size ≤ length room
-      → (Done ≡ moving_of M s (length room))
+      → (Ok tt ≡ moving_of M s (length room))
       × (bytes_of M.to.size M.to.widths (M.change (fields_of M.from.widths s)) ++ drop M.to.size room ≡ moved M s room)
   unfolding moving_of moved moved_record
   move-done a f n = rw (a, f, le-leb _ _ n) (refl, refl)

@@ -11,9 +11,10 @@ use borrow.Author.Tests.{le-leb, lt-leb}
 use Rattle.bits.specs.Fields.{fields_of}
 use Rattle.bits.proofs.Packing.{length-bytes}
 use Rattle.records.specs.Form.{Form, accepts, record_of, wrote, written}
-use Rattle.records.specs.Event.{widths, form, write_refusal}
+use Rattle.refusals.specs.Numbers.{refused_with}
+use Rattle.records.specs.Event.{widths, form}
 use Rattle.records.specs.Event16.{widths16, form16}
-use Rattle.records.specs.Moves.{Move, widening, narrowing, moving_of, moved_record, moved, move_refusal, widened, narrowed, moves_back}
+use Rattle.records.specs.Moves.{Move, widening, narrowing, moving_of, moved_record, moved, widened, narrowed, moves_back}
 use Rattle.records.specs.Promised.{OneRecord, Written, Moved, RecordsPromised}
 use Rattle.records.proofs.Round.{Lawful, fields-are, read_again_lem, write_again, read-values}
 use Rattle.records.proofs.Forms.{lawful, lawful16}
@@ -26,20 +27,20 @@ one : {E : Type 0} (F : Form E) → Lawful F → OneRecord F
 one F w = record { read_again = read_again_lem F w; written_again = write_again F w }
 
 module _ {E : Type 0} (F : Form E) (e : E) where
-  w-faulty : (n : ℕ) → F.valid e ≡ false → write_refusal (wrote F e n) ≡ 16
-  unfolding write_refusal wrote
+  w-faulty : (n : ℕ) → F.valid e ≡ false → refused_with (wrote F e n) ≡ 16
+  unfolding wrote
   w-faulty n h = rw h
 
-  w-short : (n : ℕ) → F.valid e ≡ true → n < F.size → write_refusal (wrote F e n) ≡ 1
-  unfolding write_refusal wrote
+  w-short : (n : ℕ) → F.valid e ≡ true → n < F.size → refused_with (wrote F e n) ≡ 1
+  unfolding wrote
   w-short n h l = rw (h, lt-leb _ _ l)
 
-  w-done : (n : ℕ) → F.valid e ≡ true → F.size ≤ n → write_refusal (wrote F e n) ≡ 0
-  unfolding write_refusal wrote
+  w-done : (n : ℕ) → F.valid e ≡ true → F.size ≤ n → refused_with (wrote F e n) ≡ 0
+  unfolding wrote
   w-done n h l = rw (h, le-leb _ _ l)
 
-  w_kept : (room : List ℕ) → 0 < write_refusal (wrote F e (length room)) → written F e room ≡ room
-  unfolding write_refusal wrote written
+  w_kept : (room : List ℕ) → 0 < refused_with (wrote F e (length room)) → written F e room ≡ room
+  unfolding wrote written
   w_kept room h = go (F.valid e) (leb F.size (length room)) refl refl
     where
       go : (x y : Bool) → F.valid e ≡ x → leb F.size (length room) ≡ y → written F e room ≡ room
@@ -47,8 +48,8 @@ module _ {E : Type 0} (F : Form E) (e : E) where
       go true false p q = rw (p, q)
       go true true p q = let z : 0 < 0 = rw (p, q) at h in absurd (omega arith)
 
-  w-front : (room : List ℕ) → write_refusal (wrote F e (length room)) ≡ 0 → take F.size (written F e room) ≡ record_of F e
-  unfolding write_refusal wrote written record_of
+  w-front : (room : List ℕ) → refused_with (wrote F e (length room)) ≡ 0 → take F.size (written F e room) ≡ record_of F e
+  unfolding wrote written record_of
   w-front room h = go (F.valid e) (leb F.size (length room)) refl refl
     where
       go : (x y : Bool) → F.valid e ≡ x → leb F.size (length room) ≡ y → take F.size (written F e room) ≡ record_of F e
@@ -82,24 +83,24 @@ module _ {E X : Type 0} (M : Move E X) (s : List ℕ) where
   abbrev fits : Bool
   fits = M.fits (fields_of M.from.widths s)
 
-  m-faulty : (n : ℕ) → reads ≡ false → move_refusal (moving_of M s n) ≡ 16
-  unfolding move_refusal moving_of
+  m-faulty : (n : ℕ) → reads ≡ false → refused_with (moving_of M s n) ≡ 16
+  unfolding moving_of
   m-faulty n p = rw p
 
-  m-unfit : (n : ℕ) → reads ≡ true → fits ≡ false → move_refusal (moving_of M s n) ≡ 20
-  unfolding move_refusal moving_of
+  m-unfit : (n : ℕ) → reads ≡ true → fits ≡ false → refused_with (moving_of M s n) ≡ 20
+  unfolding moving_of
   m-unfit n p q = rw (p, q)
 
-  m-short : (n : ℕ) → reads ≡ true → fits ≡ true → n < M.to.size → move_refusal (moving_of M s n) ≡ 1
-  unfolding move_refusal moving_of
+  m-short : (n : ℕ) → reads ≡ true → fits ≡ true → n < M.to.size → refused_with (moving_of M s n) ≡ 1
+  unfolding moving_of
   m-short n p q l = rw (p, q, lt-leb _ _ l)
 
-  m-done : (n : ℕ) → reads ≡ true → fits ≡ true → M.to.size ≤ n → move_refusal (moving_of M s n) ≡ 0
-  unfolding move_refusal moving_of
+  m-done : (n : ℕ) → reads ≡ true → fits ≡ true → M.to.size ≤ n → refused_with (moving_of M s n) ≡ 0
+  unfolding moving_of
   m-done n p q l = rw (p, q, le-leb _ _ l)
 
-  m-kept : (room : List ℕ) → 0 < move_refusal (moving_of M s (length room)) → moved M s room ≡ room
-  unfolding move_refusal moving_of moved
+  m-kept : (room : List ℕ) → 0 < refused_with (moving_of M s (length room)) → moved M s room ≡ room
+  unfolding moving_of moved
   m-kept room h = go reads fits (leb M.to.size (length room)) refl refl refl
     where
       go : (x y z : Bool) → reads ≡ x → fits ≡ y → leb M.to.size (length room) ≡ z → moved M s room ≡ room
@@ -108,8 +109,8 @@ module _ {E X : Type 0} (M : Move E X) (s : List ℕ) where
       go true true false p q r = rw (p, q, r)
       go true true true p q r = let w : 0 < 0 = rw (p, q, r) at h in absurd (omega arith)
 
-  m-front : (room : List ℕ) → move_refusal (moving_of M s (length room)) ≡ 0 → take M.to.size (moved M s room) ≡ moved_record M s
-  unfolding move_refusal moving_of moved moved_record
+  m-front : (room : List ℕ) → refused_with (moving_of M s (length room)) ≡ 0 → take M.to.size (moved M s room) ≡ moved_record M s
+  unfolding moving_of moved moved_record
   m-front room h = go reads fits (leb M.to.size (length room)) refl refl refl
     where
       go : (x y z : Bool) → reads ≡ x → fits ≡ y → leb M.to.size (length room) ≡ z → take M.to.size (moved M s room) ≡ moved_record M s

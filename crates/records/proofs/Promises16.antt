@@ -9,13 +9,13 @@ use native.Mathlib.Omega.{arith}
 use Rattle.bits.specs.Fields.{total, packed, unpacked, eights, fields_of, bytes_of}
 use Rattle.records.specs.declared.Event16.{Event16}
 use Rattle.records.specs.declared.Event16.TheVariants.{Offer, Sending}
-use Rattle.records.specs.declared.Reading16.{Reading16}
-use Rattle.records.specs.declared.Reading16.TheVariants.{Is, Faulty}
-use Rattle.records.specs.declared.Moving.TheVariants.{Done}
+use Rattle.std.specs.declared.result.Result.TheVariants.{Ok, Err}
+use Rattle.refusals.specs.declared.Refusal.TheVariants.{FaultyRecord}
+use Rattle.refusals.specs.Numbers.{refused_with}
 use Rattle.records.specs.Form.{accepts, event_at, record_of}
 use Rattle.records.specs.Event.{widths, form}
-use Rattle.records.specs.Event16.{widths16, values16_of, is_valid16, form16, read16_of, read16_refusal}
-use Rattle.records.specs.Moves.{moving_of, moved_record, widening, narrowing, widened, narrowed, moves_back, move_refusal}
+use Rattle.records.specs.Event16.{widths16, values16_of, is_valid16, form16, read16_of}
+use Rattle.records.specs.Moves.{moving_of, moved_record, widening, narrowing, widened, narrowed, moves_back}
 use Rattle.records.proofs.Round.{fields-are, read_again_lem, write_again, read-values, write-fields-again, record-inj}
 use Rattle.records.proofs.Forms.{lawful, lawful16}
 use Rattle.records.proofs.Across.{widened-back, narrowed-back}
@@ -23,17 +23,17 @@ use Rattle.records.proofs.Moved.{fields16-are, widened-holds, narrowed-holds}
 
 -- an event that is written is read again
 
-pub read-written : (e : Event16) → is_valid16 e ≡ true → read16_of (record_of form16 e) ≡ Is e
+pub read-written : (e : Event16) → is_valid16 e ≡ true → read16_of (record_of form16 e) ≡ Ok e
 unfolding read16_of
 read-written e h = let r = read_again_lem form16 lawful16 e h in rw (r.0, r.1)
 
 -- a test that gave an event passed
-pub picked : (b : Bool) (x e : Event16) → cond b (Is x) Faulty ≡ Is e → (b ≡ true) × (x ≡ e)
+pub picked : (b : Bool) (x e : Event16) → cond b (Ok x) (Err FaultyRecord) ≡ Ok e → (b ≡ true) × (x ≡ e)
 picked true x e h = (refl, cc)
-picked false x e h = absurd (let z : ◌≡◌ {A = ℕ} 0 1 = cc in omega arith)
+picked false x e h = absurd (cc)
 
 -- what is read is valid, and written again as the same bytes
-pub written_read : (s : List ℕ) (e : Event16) → ((i : ℕ) → get_or s i 0 < 256) → read16_of s ≡ Is e → (is_valid16 e ≡ true) × (record_of form16 e ≡ s)
+pub written_read : (s : List ℕ) (e : Event16) → ((i : ℕ) → get_or s i 0 < 256) → read16_of s ≡ Ok e → (is_valid16 e ≡ true) × (record_of form16 e ≡ s)
 unfolding read16_of
 written_read s e b h =
     let p = picked (accepts form16 s) (event_at form16 s) e h in
@@ -45,17 +45,16 @@ pub one-record : (e x : Event16) → is_valid16 e ≡ true → is_valid16 x ≡ 
 one-record = record-inj form16 lawful16
 
 -- bytes are refused with 16 exactly if they are the record of no valid event
-pub refused_none : (s : List ℕ) (e : Event16) → read16_refusal (read16_of s) ≡ 16 → is_valid16 e ≡ true → record_of form16 e ≡ s → ⊥
-unfolding read16_refusal
-refused_none s e f h r = let z : ◌≡◌ {A = ℕ} 0 16 = sym (ap read16_refusal (read-written e h)) ∙ ap (λ (x : List ℕ). read16_refusal (read16_of x)) r ∙ f in omega arith
+pub refused_none : (s : List ℕ) (e : Event16) → refused_with (read16_of s) ≡ 16 → is_valid16 e ≡ true → record_of form16 e ≡ s → ⊥
+refused_none s e f h r = let z : ◌≡◌ {A = ℕ} 0 16 = sym (ap refused_with (read-written e h)) ∙ ap (λ (x : List ℕ). refused_with (read16_of x)) r ∙ f in omega arith
 
-pub none-refused : (s : List ℕ) → ((i : ℕ) → get_or s i 0 < 256) → ((e : Event16) → is_valid16 e ≡ true → record_of form16 e ≡ s → ⊥) → read16_refusal (read16_of s) ≡ 16
-unfolding read16_refusal
-none-refused s b free = go (read16_of s) refl
+pub none-refused : (s : List ℕ) → ((i : ℕ) → get_or s i 0 < 256) → ((e : Event16) → is_valid16 e ≡ true → record_of form16 e ≡ s → ⊥) → refused_with (read16_of s) ≡ 16
+unfolding read16_of
+none-refused s b free = go (accepts form16 s) refl
   where
-    go : (r : Reading16) → read16_of s ≡ r → read16_refusal r ≡ 16
-    go (Is e) p = let q = written_read s e b p in absurd (free e q.0 q.1)
-    go Faulty p = refl
+    go : (t : Bool) → accepts form16 s ≡ t → refused_with (read16_of s) ≡ 16
+    go true p = let q = written_read s (event_at form16 s) b (rw p) in absurd (free _ q.0 q.1)
+    go false p = rw p
 
 -- an old record that is moved is a record, with the same fields but for the time
 pub moved-record : (s : List ℕ) → accepts form s ≡ true → (accepts form16 (moved_record widening s) ≡ true) × (fields_of widths16 (moved_record widening s) ≡ widened (fields_of widths s))
@@ -64,7 +63,7 @@ moved-record s a = read-values form16 lawful16 (widened (fields_of widths s)) (w
 
 -- moved there and back it has the same 12 bytes
 pub there_and_back_lem : (s : List ℕ) → ((i : ℕ) → get_or s i 0 < 256) → accepts form s ≡ true
-    → (moving_of narrowing (moved_record widening s) 12 ≡ Done) × (moved_record narrowing (moved_record widening s) ≡ s)
+    → (moving_of narrowing (moved_record widening s) 12 ≡ Ok tt) × (moved_record narrowing (moved_record widening s) ≡ s)
 unfolding moving_of moved_record
 there_and_back_lem s b a =
     let m = moved-record s a in
@@ -87,12 +86,12 @@ back-and-there t b a k =
     (r.0, rw (r.1, same) (write-fields-again form16 lawful16 t b a))
 
 -- a new record is refused with 20 exactly if its kind is above 2, its time no multiple of 1000, or its reset above 3; then no old record moves to it
-pub refused-unfit : (t : List ℕ) (n : ℕ) → accepts form16 t ≡ true → moves_back (fields_of widths16 t) ≡ false → move_refusal (moving_of narrowing t n) ≡ 20
-unfolding moving_of move_refusal
+pub refused-unfit : (t : List ℕ) (n : ℕ) → accepts form16 t ≡ true → moves_back (fields_of widths16 t) ≡ false → refused_with (moving_of narrowing t n) ≡ 20
+unfolding moving_of
 refused-unfit t n a k = rw (a, k)
 
-pub unfit-none : (t s : List ℕ) (n : ℕ) → move_refusal (moving_of narrowing t n) ≡ 20 → accepts form s ≡ true → moved_record widening s ≡ t → ⊥
-unfolding moving_of move_refusal
+pub unfit-none : (t s : List ℕ) (n : ℕ) → refused_with (moving_of narrowing t n) ≡ 20 → accepts form s ≡ true → moved_record widening s ≡ t → ⊥
+unfolding moving_of
 unfit-none t s n h a e = go (accepts form16 t) (moves_back (fields_of widths16 t)) (leb 12 n) refl refl refl
   where
     fits : moves_back (fields_of widths16 t) ≡ true
@@ -108,10 +107,10 @@ unfit-none t s n h a e = go (accepts form16 t) (moves_back (fields_of widths16 t
     go true false z p q r = false≢true (sym q ∙ fits)
 
 pub none-unfit : (t : List ℕ) (n : ℕ) → ((i : ℕ) → get_or t i 0 < 256) → accepts form16 t ≡ true
-    → ((s : List ℕ) → accepts form s ≡ true → moved_record widening s ≡ t → ⊥) → move_refusal (moving_of narrowing t n) ≡ 20
+    → ((s : List ℕ) → accepts form s ≡ true → moved_record widening s ≡ t → ⊥) → refused_with (moving_of narrowing t n) ≡ 20
 none-unfit t n b a free = go (moves_back (fields_of widths16 t)) refl
   where
-    go : (k : Bool) → moves_back (fields_of widths16 t) ≡ k → move_refusal (moving_of narrowing t n) ≡ 20
+    go : (k : Bool) → moves_back (fields_of widths16 t) ≡ k → refused_with (moving_of narrowing t n) ≡ 20
     go true p = let r = back-and-there t b a p in absurd (free (moved_record narrowing t) r.0 r.1)
     go false p = refused-unfit t n a p
 

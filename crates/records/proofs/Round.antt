@@ -12,7 +12,8 @@ use Rattle.laws.proofs.Lists.{same-eq, same_refl}
 use Rattle.bits.specs.Fields.{total, Fit, fields_of, bytes_of}
 use Rattle.bits.proofs.Packing.{read-write, write_read, length-bytes, bytes_fit}
 use Rattle.records.specs.Form.{Form, record_of, event_at, stands, accepts, wrote, written, wrote_values, written_values}
-use Rattle.records.specs.declared.Writing.TheVariants.{Done, Faulty, Short}
+use Rattle.std.specs.declared.result.Result.TheVariants.{Ok, Err}
+use Rattle.refusals.specs.declared.Refusal.TheVariants.{NoRoom, FaultyRecord}
 
 -- what a form owes: its bytes are 9 to 16, its fields are of 1 to 63 bits and fill its bytes, a valid event fits them, and an event's values stand for
 -- that event
@@ -119,15 +120,15 @@ module _ {E : Type 0} (F : Form E) (w : Lawful F) where
 
 -- the three cases of writing values, by their test t
 module _ {E : Type 0} (F : Form E) (v room : List ℕ) (t : Bool) (is : t ≡ stands F v) where
-  pub values-not : t ≡ false → (Faulty ≡ wrote_values F v (length room)) × (room ≡ written_values F v room)
+  pub values-not : t ≡ false → (Err FaultyRecord ≡ wrote_values F v (length room)) × (room ≡ written_values F v room)
   unfolding wrote_values written_values
   values-not h = rw (← is, h) (refl, refl)
 
-  pub values-short : t ≡ true → length room < F.size → (Short ≡ wrote_values F v (length room)) × (room ≡ written_values F v room)
+  pub values-short : t ≡ true → length room < F.size → (Err NoRoom ≡ wrote_values F v (length room)) × (room ≡ written_values F v room)
   unfolding wrote_values written_values
   values-short h n = rw (← is, h, lt-leb _ _ n) (refl, refl)
 
   pub values-done : t ≡ true → F.size ≤ length room
-      → (Done ≡ wrote_values F v (length room)) × (bytes_of F.size F.widths v ++ drop F.size room ≡ written_values F v room)
+      → (Ok tt ≡ wrote_values F v (length room)) × (bytes_of F.size F.widths v ++ drop F.size room ≡ written_values F v room)
   unfolding wrote_values written_values
   values-done h n = rw (← is, h, le-leb _ _ n) (refl, refl)

@@ -1,13 +1,12 @@
 -- Event records of 12 bytes: their fields, which events are valid, and what reading and writing answer. Assumes nothing.
-use Rattle.std.specs.Prelude.{ℕ, Bool, cond, ◌&&◌, ◌||◌, List, [], ◌∷◌, get_or, eqb}
+use Rattle.std.specs.Prelude.{ℕ, Result, Bool, cond, ◌&&◌, ◌||◌, List, [], ◌∷◌, get_or, eqb}
+use Rattle.std.specs.declared.result.Result.TheVariants.{Ok, Err}
+use Rattle.refusals.specs.declared.Refusal.{Refusal}
+use Rattle.refusals.specs.declared.Refusal.TheVariants.{FaultyRecord}
 use Rattle.measures.specs.Ranges.{◌to◌, is_in, times, roots, units, premiums, offers}
 use Rattle.records.specs.Form.{Form, accepts, event_at, stands, wrote}
 use Rattle.records.specs.declared.Event.{Event}
 use Rattle.records.specs.declared.Event.TheVariants.{Order, Offer, Lockout}
-use Rattle.records.specs.declared.Reading.{Reading}
-use Rattle.records.specs.declared.Reading.TheVariants.{Is, Faulty}
-use Rattle.records.specs.declared.Writing.{Writing}
-use Rattle.records.specs.declared.Writing.TheVariants.{Done, Faulty as Invalid, Short}
 
 -- how many bytes a record has
 abbrev pub bytes12 : ℕ
@@ -41,23 +40,13 @@ abbrev pub form : Form Event
 form = record { size = bytes12; widths = widths; values = values_of; event = event_of; valid = is_valid }
 
 -- what the values of the fields are read as: they must be just those of a valid event
-unfoldable pub event_in : List ℕ → Reading
-event_in v = cond (stands form v) (Is (event_of v)) Faulty
+unfoldable pub event_in : List ℕ → Result Event Refusal
+event_in v = cond (stands form v) (Ok (event_of v)) (Err FaultyRecord)
 
 -- what reading bytes answers
-unfoldable pub read_of : List ℕ → Reading
-read_of s = cond (accepts form s) (Is (event_at form s)) Faulty
+unfoldable pub read_of : List ℕ → Result Event Refusal
+read_of s = cond (accepts form s) (Ok (event_at form s)) (Err FaultyRecord)
 
 -- what writing an event to n bytes of room answers
-abbrev pub wrote_of : Event → ℕ → Writing
+abbrev pub wrote_of : Event → ℕ → Result (Unit {0}) Refusal
 wrote_of = wrote form
-
--- the refusal numbers of document 01, 0 for none
-unfoldable pub read_refusal : Reading → ℕ
-read_refusal (Is e) = 0
-read_refusal Faulty = 16
-
-unfoldable pub write_refusal : Writing → ℕ
-write_refusal Done = 0
-write_refusal Invalid = 16
-write_refusal Short = 1

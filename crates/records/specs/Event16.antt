@@ -1,12 +1,12 @@
 -- Event records of 16 bytes: their fields, which events are valid, and what reading and writing answer. Assumes nothing.
-use Rattle.std.specs.Prelude.{ℕ, Bool, cond, ◌&&◌, ◌||◌, List, [], ◌∷◌, get_or, eqb}
+use Rattle.std.specs.Prelude.{ℕ, Result, Bool, cond, ◌&&◌, ◌||◌, List, [], ◌∷◌, get_or, eqb}
+use Rattle.std.specs.declared.result.Result.TheVariants.{Ok, Err}
+use Rattle.refusals.specs.declared.Refusal.{Refusal}
+use Rattle.refusals.specs.declared.Refusal.TheVariants.{FaultyRecord}
 use Rattle.measures.specs.Ranges.{Range, ◌to◌, is_in, roots, units, premiums, offers, identities, reports_asked}
 use Rattle.records.specs.Form.{Form, accepts, event_at, stands, wrote}
 use Rattle.records.specs.declared.Event16.{Event16}
 use Rattle.records.specs.declared.Event16.TheVariants.{Order, Offer, Lockout, Sending, Report, Closing}
-use Rattle.records.specs.declared.Reading16.{Reading16}
-use Rattle.records.specs.declared.Reading16.TheVariants.{Is, Faulty}
-use Rattle.records.specs.declared.Writing.{Writing}
 
 -- how many bytes a record has
 abbrev pub bytes16 : ℕ
@@ -62,18 +62,13 @@ abbrev pub form16 : Form Event16
 form16 = record { size = bytes16; widths = widths16; values = values16_of; event = event16_of; valid = is_valid16 }
 
 -- what the values of the fields are read as: they must be just those of a valid event
-unfoldable pub event16_in : List ℕ → Reading16
-event16_in v = cond (stands form16 v) (Is (event16_of v)) Faulty
+unfoldable pub event16_in : List ℕ → Result Event16 Refusal
+event16_in v = cond (stands form16 v) (Ok (event16_of v)) (Err FaultyRecord)
 
 -- what reading bytes answers
-unfoldable pub read16_of : List ℕ → Reading16
-read16_of s = cond (accepts form16 s) (Is (event_at form16 s)) Faulty
+unfoldable pub read16_of : List ℕ → Result Event16 Refusal
+read16_of s = cond (accepts form16 s) (Ok (event_at form16 s)) (Err FaultyRecord)
 
 -- what writing an event to n bytes of room answers
-abbrev pub wrote16_of : Event16 → ℕ → Writing
+abbrev pub wrote16_of : Event16 → ℕ → Result (Unit {0}) Refusal
 wrote16_of = wrote form16
-
--- the refusal number of reading, 0 for none
-unfoldable pub read16_refusal : Reading16 → ℕ
-read16_refusal (Is e) = 0
-read16_refusal Faulty = 16

@@ -1,9 +1,10 @@
 -- A form of record: how many bytes, which fields, how an event of type E stands in them, and which events are valid. Assumes nothing.
-use Rattle.std.specs.Prelude.{ℕ, Bool, cond, ◌&&◌, List, ◌++◌, length, drop, eqb, leb}
+use Rattle.std.specs.Prelude.{ℕ, Result, Bool, cond, ◌&&◌, List, ◌++◌, length, drop, eqb, leb}
+use Rattle.std.specs.declared.result.Result.TheVariants.{Ok, Err}
+use Rattle.refusals.specs.declared.Refusal.{Refusal}
+use Rattle.refusals.specs.declared.Refusal.TheVariants.{NoRoom, FaultyRecord}
 use Rattle.laws.specs.Lists.{same}
 use Rattle.bits.specs.Fields.{fields_of, bytes_of}
-use Rattle.records.specs.declared.Writing.{Writing}
-use Rattle.records.specs.declared.Writing.TheVariants.{Done, Faulty, Short}
 
 pub record Form (E : Type 0) : Type 0 where
   -- the number of bytes, and the widths of the fields in bits
@@ -37,12 +38,12 @@ module _ {E : Type 0} (F : Form E) where
   written e room = cond (F.valid e && leb F.size (length room)) (record_of e ++ drop F.size room) room
 
   -- what writing e to n bytes of room answers
-  unfoldable pub wrote : E → ℕ → Writing
-  wrote e n = cond (F.valid e) (cond (leb F.size n) Done Short) Faulty
+  unfoldable pub wrote : E → ℕ → Result (Unit {0}) Refusal
+  wrote e n = cond (F.valid e) (cond (leb F.size n) (Ok tt) (Err NoRoom)) (Err FaultyRecord)
 
   -- the same for the values of fields: what writing them answers, and what the room then holds
-  unfoldable pub wrote_values : List ℕ → ℕ → Writing
-  wrote_values v n = cond (stands v) (cond (leb F.size n) Done Short) Faulty
+  unfoldable pub wrote_values : List ℕ → ℕ → Result (Unit {0}) Refusal
+  wrote_values v n = cond (stands v) (cond (leb F.size n) (Ok tt) (Err NoRoom)) (Err FaultyRecord)
 
   unfoldable pub written_values : List ℕ → List ℕ → List ℕ
   written_values v room = cond (stands v && leb F.size (length room)) (bytes_of F.size F.widths v ++ drop F.size room) room

@@ -1,13 +1,14 @@
 -- Records moved from one form to the other: what moving answers, and what it leaves in the room. Assumes nothing.
-use Rattle.std.specs.Prelude.{ℕ, ◌*◌, ◌/◌, ◌%◌, Bool, true, cond, ◌&&◌, List, [], ◌∷◌, ◌++◌, length, get_or, drop, leb, eqb}
+use Rattle.std.specs.Prelude.{ℕ, Result, ◌*◌, ◌/◌, ◌%◌, Bool, true, cond, ◌&&◌, List, [], ◌∷◌, ◌++◌, length, get_or, drop, leb, eqb}
+use Rattle.std.specs.declared.result.Result.TheVariants.{Ok, Err}
+use Rattle.refusals.specs.declared.Refusal.{Refusal}
+use Rattle.refusals.specs.declared.Refusal.TheVariants.{NoRoom, FaultyRecord, Unfit}
 use Rattle.bits.specs.Fields.{fields_of, bytes_of}
 use Rattle.records.specs.Form.{Form, accepts}
 use Rattle.records.specs.Event.{form}
 use Rattle.records.specs.Event16.{form16}
 use Rattle.records.specs.declared.Event.{Event}
 use Rattle.records.specs.declared.Event16.{Event16}
-use Rattle.records.specs.declared.Moving.{Moving}
-use Rattle.records.specs.declared.Moving.TheVariants.{Done, Faulty, Unfit, Short}
 
 -- from one form to another: which fields the other form has a record for, and the fields of that record
 pub record Move (E X : Type 0) : Type 0 where
@@ -18,11 +19,11 @@ pub record Move (E X : Type 0) : Type 0 where
 
 module _ {E X : Type 0} (M : Move E X) where
   -- what moving bytes to n bytes of room answers: that they are no record, that the other form has none for it, that the room is short, or done
-  unfoldable pub moving_of : List ℕ → ℕ → Moving
+  unfoldable pub moving_of : List ℕ → ℕ → Result (Unit {0}) Refusal
   moving_of s n =
       cond (accepts M.from s)
-      (cond (M.fits (fields_of M.from.widths s)) (cond (leb M.to.size n) Done Short) Unfit)
-      Faulty
+      (cond (M.fits (fields_of M.from.widths s)) (cond (leb M.to.size n) (Ok tt) (Err NoRoom)) (Err Unfit))
+      (Err FaultyRecord)
 
   -- the bytes of the moved record
   unfoldable pub moved_record : List ℕ → List ℕ
@@ -53,10 +54,3 @@ widening = record { from = form; to = form16; fits = λ v. true; change = widene
 
 abbrev pub narrowing : Move Event16 Event
 narrowing = record { from = form16; to = form; fits = moves_back; change = narrowed }
-
--- the refusal numbers of moving, 0 for none
-unfoldable pub move_refusal : Moving → ℕ
-move_refusal Done = 0
-move_refusal Faulty = 16
-move_refusal Unfit = 20
-move_refusal Short = 1

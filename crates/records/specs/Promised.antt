@@ -1,11 +1,12 @@
 -- What is promised of event records in both forms, sentence by sentence. Assumes nothing.
 use Rattle.std.specs.Prelude.{ℕ, ◌≤◌, ◌<◌, ◌≡◌, true, false, List, length, get_or, take, drop}
+use Rattle.refusals.specs.Numbers.{refused_with}
 use Rattle.bits.specs.Fields.{fields_of}
 use Rattle.records.specs.Form.{Form, accepts, event_at, record_of, wrote, written}
-use Rattle.records.specs.Event.{widths, form, write_refusal}
+use Rattle.records.specs.Event.{widths, form}
 use Rattle.records.specs.Event16.{widths16, form16}
 use Rattle.records.specs.Kinds.{is_record16}
-use Rattle.records.specs.Moves.{Move, widening, narrowing, moving_of, moved_record, moved, move_refusal, widened, narrowed, moves_back}
+use Rattle.records.specs.Moves.{Move, widening, narrowing, moving_of, moved_record, moved, widened, narrowed, moves_back}
 
 -- every number is a byte
 abbrev pub Bytes : List ℕ → Type 0
@@ -20,27 +21,27 @@ module _ {E : Type 0} (F : Form E) where
   -- writing is refused with 16 if the event is not valid, then with 1 if the room is short; a refusal writes nothing, and the bytes past the record
   -- are untouched
   pub record Written : Type 0 where
-    pub faulty : (e : E) (n : ℕ) → F.valid e ≡ false → write_refusal (wrote F e n) ≡ 16
-    pub short : (e : E) (n : ℕ) → F.valid e ≡ true → n < F.size → write_refusal (wrote F e n) ≡ 1
-    pub done : (e : E) (n : ℕ) → F.valid e ≡ true → F.size ≤ n → write_refusal (wrote F e n) ≡ 0
-    pub kept : (e : E) (room : List ℕ) → 0 < write_refusal (wrote F e (length room)) → written F e room ≡ room
-    pub front : (e : E) (room : List ℕ) → write_refusal (wrote F e (length room)) ≡ 0 → take F.size (written F e room) ≡ record_of F e
+    pub faulty : (e : E) (n : ℕ) → F.valid e ≡ false → refused_with (wrote F e n) ≡ 16
+    pub short : (e : E) (n : ℕ) → F.valid e ≡ true → n < F.size → refused_with (wrote F e n) ≡ 1
+    pub done : (e : E) (n : ℕ) → F.valid e ≡ true → F.size ≤ n → refused_with (wrote F e n) ≡ 0
+    pub kept : (e : E) (room : List ℕ) → 0 < refused_with (wrote F e (length room)) → written F e room ≡ room
+    pub front : (e : E) (room : List ℕ) → refused_with (wrote F e (length room)) ≡ 0 → take F.size (written F e room) ≡ record_of F e
     pub rest : (e : E) (room : List ℕ) → drop F.size (written F e room) ≡ drop F.size room
 
 module _ {E X : Type 0} (M : Move E X) where
   -- moving is refused with 16 for bytes that their own reader refuses, then with 20 for a record that does not fit the other form, then with 1 if
   -- the room is short; a refusal writes nothing, what is written is a record of the other form, and the bytes past it are untouched
   pub record Moved : Type 0 where
-    pub faulty : (s : List ℕ) (n : ℕ) → accepts M.from s ≡ false → move_refusal (moving_of M s n) ≡ 16
-    pub unfit : (s : List ℕ) (n : ℕ) → accepts M.from s ≡ true → M.fits (fields_of M.from.widths s) ≡ false → move_refusal (moving_of M s n) ≡ 20
+    pub faulty : (s : List ℕ) (n : ℕ) → accepts M.from s ≡ false → refused_with (moving_of M s n) ≡ 16
+    pub unfit : (s : List ℕ) (n : ℕ) → accepts M.from s ≡ true → M.fits (fields_of M.from.widths s) ≡ false → refused_with (moving_of M s n) ≡ 20
     pub short :
         (s : List ℕ) (n : ℕ) → accepts M.from s ≡ true → M.fits (fields_of M.from.widths s) ≡ true → n < M.to.size
-        → move_refusal (moving_of M s n) ≡ 1
+        → refused_with (moving_of M s n) ≡ 1
     pub done :
         (s : List ℕ) (n : ℕ) → accepts M.from s ≡ true → M.fits (fields_of M.from.widths s) ≡ true → M.to.size ≤ n
-        → move_refusal (moving_of M s n) ≡ 0
-    pub kept : (s room : List ℕ) → 0 < move_refusal (moving_of M s (length room)) → moved M s room ≡ room
-    pub front : (s room : List ℕ) → move_refusal (moving_of M s (length room)) ≡ 0 → take M.to.size (moved M s room) ≡ moved_record M s
+        → refused_with (moving_of M s n) ≡ 0
+    pub kept : (s room : List ℕ) → 0 < refused_with (moving_of M s (length room)) → moved M s room ≡ room
+    pub front : (s room : List ℕ) → refused_with (moving_of M s (length room)) ≡ 0 → take M.to.size (moved M s room) ≡ moved_record M s
     pub rest : (s room : List ℕ) → drop M.to.size (moved M s room) ≡ drop M.to.size room
 
 pub record RecordsPromised : Type 0 where

@@ -13,6 +13,7 @@ mod ranges;
 mod sixteen;
 
 pub use moves::{narrow, widen};
+use refusals::Refusal;
 pub use sixteen::{event16_in, read16, read16_numbers, values16_of, write16, write16_values};
 
 // An event: each kind holds what it uses, and nothing else.
@@ -77,36 +78,6 @@ pub enum Event16 {
     },
 }
 
-// What reading a record answers: its event, or that it is faulty.
-#[derive(Clone, Copy)]
-pub enum Reading {
-    Is(Event),
-    Faulty,
-}
-
-#[derive(Clone, Copy)]
-pub enum Reading16 {
-    Is(Event16),
-    Faulty,
-}
-
-// What writing a record answers: that it is written, that the event is faulty, or that the room is short.
-#[derive(Clone, Copy)]
-pub enum Writing {
-    Done,
-    Faulty,
-    Short,
-}
-
-// What moving a record to the other form answers: that it is moved, that it is faulty, that it does not fit the old form, or that the room is short.
-#[derive(Clone, Copy)]
-pub enum Moving {
-    Done,
-    Faulty,
-    Unfit,
-    Short,
-}
-
 // How many bytes a record has: in the old form, and in the form of 16 bytes.
 pub const BYTES: usize = 12;
 
@@ -145,13 +116,13 @@ pub fn is_valid(e: Event) -> bool
 }
 
 // The event that the values of the fields stand for: they are just those of a valid event.
-pub fn event_in(v: &[u64; 9]) -> Reading
+pub fn event_in(v: &[u64; 9]) -> Result<Event, Refusal>
     ensures { result ≡ event_in v.now }
 {
     if ranges::is_event(v) {
-        Reading::Is(kinds::event_of(v))
+        Ok(kinds::event_of(v))
     } else {
-        Reading::Faulty
+        Err(Refusal::FaultyRecord)
     }
 }
 
@@ -168,14 +139,14 @@ fn is_record(s: &[u8], v: &mut [u64; 9]) -> bool
 }
 
 // The event of a record: 12 bytes whose fields are the values of a valid event.
-pub fn read(s: &[u8]) -> Reading
+pub fn read(s: &[u8]) -> Result<Event, Refusal>
     ensures { result ≡ read_of s.now }
 {
     let mut v = [0u64; 9];
     if is_record(s, &mut v) {
-        Reading::Is(kinds::event_of(&v))
+        Ok(kinds::event_of(&v))
     } else {
-        Reading::Faulty
+        Err(Refusal::FaultyRecord)
     }
 }
 
@@ -192,22 +163,22 @@ pub fn read_numbers(s: &[u8], row: &mut [u64; 9])
 }
 
 // Writes the record of the event that the values of the fields stand for to the first 12 bytes of the room. A refusal writes nothing.
-pub fn write_values(v: [u64; 9], room: &mut [u8]) -> Writing
+pub fn write_values(v: [u64; 9], room: &mut [u8]) -> Result<(), Refusal>
     ensures value { result ≡ wrote_values form v (length room.old) }
     ensures room_after { room.new ≡ written_values form v room.old }
 {
     if !ranges::is_event(&v) {
-        return Writing::Faulty;
+        return Err(Refusal::FaultyRecord);
     }
     if room.len() < BYTES {
-        return Writing::Short;
+        return Err(Refusal::NoRoom);
     }
     bits::write_fields(&v, &WIDTHS, BYTES, room);
-    Writing::Done
+    Ok(())
 }
 
 // Writes the record of a valid event to the first 12 bytes of the room. A refusal writes nothing.
-pub fn write(e: Event, room: &mut [u8]) -> Writing
+pub fn write(e: Event, room: &mut [u8]) -> Result<(), Refusal>
     ensures value { result ≡ wrote_of e (length room.old) }
     ensures room_after { room.new ≡ written form e room.old }
 {

@@ -5,7 +5,8 @@ ghost use Rattle.records.specs.Form.{accepts, written, wrote_values, written_val
 ghost use Rattle.records.specs.Event16.{widths16, values16_of, form16, event16_in, read16_of, wrote16_of};
 ghost use Rattle.records.specs.Rows.{event16_row};
 
-use crate::{BYTES16, Event16, Reading16, Writing, kinds, ranges};
+use crate::{BYTES16, Event16, kinds, ranges};
+use refusals::Refusal;
 
 // The widths of the fields: kind, time, root, unit, premium, contracts, reset, level, identity, reports, spare.
 pub(crate) const WIDTHS16: [u64; 11] = [4, 37, 6, 2, 27, 20, 4, 1, 16, 5, 6];
@@ -49,13 +50,13 @@ pub fn values16_of(e: Event16) -> [u64; 11]
 }
 
 // The event that the values of the fields stand for: they are just those of a valid event.
-pub fn event16_in(v: &[u64; 11]) -> Reading16
+pub fn event16_in(v: &[u64; 11]) -> Result<Event16, Refusal>
     ensures { result ≡ event16_in v.now }
 {
     if ranges::is_event16(v) {
-        Reading16::Is(kinds::event16_of(v))
+        Ok(kinds::event16_of(v))
     } else {
-        Reading16::Faulty
+        Err(Refusal::FaultyRecord)
     }
 }
 
@@ -72,14 +73,14 @@ fn is_record16(s: &[u8], v: &mut [u64; 11]) -> bool
 }
 
 // The event of a record: 16 bytes whose fields are the values of a valid event.
-pub fn read16(s: &[u8]) -> Reading16
+pub fn read16(s: &[u8]) -> Result<Event16, Refusal>
     ensures { result ≡ read16_of s.now }
 {
     let mut v = [0u64; 11];
     if is_record16(s, &mut v) {
-        Reading16::Is(kinds::event16_of(&v))
+        Ok(kinds::event16_of(&v))
     } else {
-        Reading16::Faulty
+        Err(Refusal::FaultyRecord)
     }
 }
 
@@ -98,22 +99,22 @@ pub fn read16_numbers(s: &[u8], row: &mut [u64; 13])
 }
 
 // Writes the record of the event that the values of the fields stand for to the first 16 bytes of the room. A refusal writes nothing.
-pub fn write16_values(v: [u64; 11], room: &mut [u8]) -> Writing
+pub fn write16_values(v: [u64; 11], room: &mut [u8]) -> Result<(), Refusal>
     ensures value { result ≡ wrote_values form16 v (length room.old) }
     ensures room_after { room.new ≡ written_values form16 v room.old }
 {
     if !ranges::is_event16(&v) {
-        return Writing::Faulty;
+        return Err(Refusal::FaultyRecord);
     }
     if room.len() < BYTES16 {
-        return Writing::Short;
+        return Err(Refusal::NoRoom);
     }
     bits::write_fields(&v, &WIDTHS16, BYTES16, room);
-    Writing::Done
+    Ok(())
 }
 
 // Writes the record of a valid event to the first 16 bytes of the room. A refusal writes nothing.
-pub fn write16(e: Event16, room: &mut [u8]) -> Writing
+pub fn write16(e: Event16, room: &mut [u8]) -> Result<(), Refusal>
     ensures value { result ≡ wrote16_of e (length room.old) }
     ensures room_after { room.new ≡ written form16 e room.old }
 {

@@ -1,5 +1,5 @@
 -- The day's table: what records leave of a state's memory and of its account, and the lines of the table. Assumes nothing.
-use Rattle.std.specs.Prelude.{ℕ, ◌+◌, not, cond, ◌||◌, List, [], ◌∷◌, ◌++◌, eqb}
+use Rattle.std.specs.Prelude.{Result, ℕ, ◌+◌, not, cond, ◌||◌, List, [], ◌∷◌, ◌++◌, eqb}
 use Rattle.text.specs.Digits.{name_bytes}
 use Rattle.machine.specs.declared.Answer.{Answer}
 use Rattle.machine.specs.declared.Answer.TheVariants.{Refused}
@@ -11,25 +11,27 @@ use Rattle.figures.specs.declared.Figures.{Figures}
 use Rattle.figures.specs.Figures.{row_numbers}
 use Rattle.figures.specs.Account.{row_of}
 use Rattle.calls.specs.Calls.{memory_refusal}
-use Rattle.records.specs.Event16.{read16_of, read16_refusal}
-use Rattle.records.specs.declared.Reading16.{Reading16}
-use Rattle.records.specs.declared.Reading16.TheVariants.{Is, Faulty}
+use Rattle.records.specs.Event16.{read16_of}
+use Rattle.records.specs.declared.Event16.{Event16}
+use Rattle.std.specs.declared.result.Result.TheVariants.{Ok, Err}
+use Rattle.refusals.specs.declared.Refusal.{Refusal}
+use Rattle.refusals.specs.Numbers.{refusal_number}
 use Rattle.answering.specs.Lines.{spaced}
 use Rattle.answering.specs.Run.{record_call}
 use Rattle.accounted.specs.Accounted.{is_short_account, accounted_answer, accounted_memory, account_after_call}
 
 -- what a record is answered, and what it leaves of the memory and of the account: a faulty one is refused with 16 and counts nowhere
-unfoldable pub tabled_answer : List ℕ → List ℕ → Reading16 → Answer
-tabled_answer xs account (Is e) = accounted_answer xs account (record_call e)
-tabled_answer xs account Faulty = Refused (read16_refusal Faulty)
+unfoldable pub tabled_answer : List ℕ → List ℕ → Result Event16 Refusal → Answer
+tabled_answer xs account (Ok e) = accounted_answer xs account (record_call e)
+tabled_answer xs account (Err r) = Refused (refusal_number r)
 
-unfoldable pub tabled_memory : List ℕ → List ℕ → Reading16 → List ℕ
-tabled_memory xs account (Is e) = accounted_memory xs account (record_call e)
-tabled_memory xs account Faulty = xs
+unfoldable pub tabled_memory : List ℕ → List ℕ → Result Event16 Refusal → List ℕ
+tabled_memory xs account (Ok e) = accounted_memory xs account (record_call e)
+tabled_memory xs account (Err r) = xs
 
-unfoldable pub account_of : List ℕ → List ℕ → Reading16 → List ℕ
-account_of xs account (Is e) = account_after_call xs account (record_call e)
-account_of xs account Faulty = account
+unfoldable pub account_of : List ℕ → List ℕ → Result Event16 Refusal → List ℕ
+account_of xs account (Ok e) = account_after_call xs account (record_call e)
+account_of xs account (Err r) = account
 
 -- the memory and the account after records, the first of them first
 unfoldable pub memory_taken : List ℕ → List ℕ → List (List ℕ) → List ℕ

@@ -15,7 +15,7 @@ ghost use Rattle.tabled.specs.Tabled.{tabled_answer, tabled_memory, account_of, 
 
 use accounted::Event;
 use machine::Answer;
-use records::{Event16, Reading16};
+use records::Event16;
 
 // How many bytes a table has at most: 65 lines of at most 192.
 pub const TABLE_BYTES: usize = 12_480;
@@ -72,15 +72,15 @@ fn event_of(e: Event16) -> Event
 }
 
 // Applies the event of a record and counts it; a record that is not one is refused with 16.
+#[tactic(auto, unfolding(crate::specs::Tabled::tabled_answer, crate::specs::Tabled::tabled_memory, crate::specs::Tabled::account_of))]
 pub fn take_record(m: &mut [u64], a: &mut [u64], s: &[u8]) -> Answer
     ensures value { result ≡ tabled_answer m.old a.old (read16_of s.now) }
     ensures m_after { m.new ≡ tabled_memory m.old a.old (read16_of s.now) }
     ensures a_after { a.new ≡ account_of m.old a.old (read16_of s.now) }
 {
-    let reading = records::read16(s);
-    match reading {
-        Reading16::Is(e) => accounted::apply(m, a, event_of(e)),
-        Reading16::Faulty => Answer::Refused(16),
+    match records::read16(s) {
+        Ok(e) => accounted::apply(m, a, event_of(e)),
+        Err(refusal) => Answer::Refused(refusal.number()),
     }
 }
 

@@ -2,7 +2,7 @@
 // place, the refusal number, what it is, and whether it came back.
 #![tactic(auto)]
 
-use records::{Event16, Moving, Reading16};
+use records::Event16;
 use std::io;
 use std::io::Read;
 
@@ -53,8 +53,8 @@ fn print_event(rt: &impl Print, e: Event16) -> io::Result<()> {
 // Prints whether an event's record is the bytes that it was read from.
 fn print_again(rt: &impl Print, e: Event16, s: &[u8]) -> io::Result<()> {
     let mut again = [0u8; records::BYTES16];
-    records::write16(e, &mut again);
-    if s == again.as_slice() {
+    let written = records::write16(e, &mut again);
+    if written.is_ok() && s == again.as_slice() {
         print!(rt; ", written again as the same bytes")
     } else {
         print!(rt; ", NOT written again as the same bytes")
@@ -64,8 +64,8 @@ fn print_again(rt: &impl Print, e: Event16, s: &[u8]) -> io::Result<()> {
 // Prints whether a record of 12 bytes that s was moved to comes back as s.
 fn print_back(rt: &impl Print, old: &[u8], s: &[u8]) -> io::Result<()> {
     let mut again = [0u8; records::BYTES16];
-    records::widen(old, &mut again);
-    if s == again.as_slice() {
+    let moved = records::widen(old, &mut again);
+    if moved.is_ok() && s == again.as_slice() {
         println!(rt; ", moved to 12 bytes and back")
     } else {
         println!(rt; ", NOT moved to 12 bytes and back")
@@ -75,24 +75,26 @@ fn print_back(rt: &impl Print, old: &[u8], s: &[u8]) -> io::Result<()> {
 // Moves a record to 12 bytes and back, or prints the number by which that is refused.
 fn print_moved(rt: &impl Print, s: &[u8]) -> io::Result<()> {
     let mut old = [0u8; records::BYTES];
-    let moving = records::narrow(s, &mut old);
-    match moving {
-        Moving::Done => print_back(rt, &old, s),
-        Moving::Faulty => println!(rt; ", 16 when moved"),
-        Moving::Unfit => println!(rt; ", 20 when moved"),
-        Moving::Short => println!(rt; ", 1 when moved"),
+    match records::narrow(s, &mut old) {
+        Ok(()) => print_back(rt, &old, s),
+        Err(refusal) => {
+            let number = refusal.number();
+            println!(rt; ", {number} when moved")
+        }
     }
 }
 
 fn print_line(rt: &impl Print, place: u64, s: &[u8]) -> io::Result<()> {
-    let reading = records::read16(s);
-    match reading {
-        Reading16::Is(e) => {
+    match records::read16(s) {
+        Ok(e) => {
             print!(rt; "{place} 0")?;
             print_event(rt, e)?;
             print_again(rt, e, s)?;
         }
-        Reading16::Faulty => print!(rt; "{place} 16 no record of a valid event")?,
+        Err(refusal) => {
+            let number = refusal.number();
+            print!(rt; "{place} {number} no record of a valid event")?;
+        }
     }
     print_moved(rt, s)
 }
