@@ -16,15 +16,14 @@ use Rattle.machine.specs.State.{Profile}
 use Rattle.text.specs.Text.{lines}
 use Rattle.text.proofs.Lists.{line-here}
 use Rattle.line.specs.Line.{firm_in, type_in, limit_in, time_in, root_in, is_firm_level, call_put, month, malformed, other_firm, out_of_range, level_clash, unit_clash, fault_of, rule_of, line_of}
-use Rattle.line.specs.declared.Line.{Line}
-use Rattle.line.specs.declared.Line.TheVariants.{Is, Refused as Faulty}
+use Rattle.std.specs.Prelude.{Result, Ok, Err}
 use Rattle.profile.specs.Profile.{Outcome, joined, too_many, after_line, read_on, start_of, reading_of, outcome_of, outcome_beside}
 use Rattle.profile.specs.declared.Reading.TheVariants.{Refused as NotRead}
 use Rattle.profile.proofs.Laws.{accepted-lines, accepted-some, reading-refused}
 use Rattle.profile.proofs.Beside.{beside_none, beside-other, beside_same}
 use Rattle.firmday.specs.Isolated.{named_in}
 
-faulty-six : (firm : ℕ) (line : List ℕ) → malformed line ≡ true → line_of firm line ≡ Faulty 6
+faulty-six : (firm : ℕ) (line : List ℕ) → malformed line ≡ true → line_of firm line ≡ Err 6
 unfolding line_of fault_of
 faulty-six firm line m = rw m
 
@@ -59,10 +58,10 @@ unfolding read_on after_line
 line_after [] p n e = absurd (omega (arith, e))
 line_after (l ∷ ls) p n e = go (line_of p.firm l) (λ rule. line_after ls (joined p rule) (n + 1)) e
   where
-    go : (line : Line) → ((rule : Rule) → (read_on (joined p rule) (n + 1) ls).line ≡ 1 → n + 1 ≡ 0)
+    go : (line : Result Rule ℕ) → ((rule : Rule) → (read_on (joined p rule) (n + 1) ls).line ≡ 1 → n + 1 ≡ 0)
         → (after_line p n line (λ rule. read_on (joined p rule) (n + 1) ls)).line ≡ 1 → n ≡ 0
-    go (Faulty k) on e = omega (arith, e)
-    go (Is rule) on e = more (too_many p rule) e
+    go (Err k) on e = omega (arith, e)
+    go (Ok rule) on e = more (too_many p rule) e
       where
         more : (b : Bool) → (cond b (record { profile = p; refusal = 11; line = n + 1 }) (read_on (joined p rule) (n + 1) ls)).line ≡ 1 → n ≡ 0
         more true e = omega (arith, e)
@@ -94,8 +93,8 @@ first-seven first more = go (eqb (fault_of (firm_in first) first) 0) (too_many (
     next = read_on (joined p (rule_of first)) 1 more
 
     go : (a b : Bool)
-        → (after_line p 0 (cond a (Is (rule_of first)) (Faulty (fault_of (firm_in first) first))) (λ rule. read_on (joined p rule) 1 more)).refusal ≡ 7
-        → (after_line p 0 (cond a (Is (rule_of first)) (Faulty (fault_of (firm_in first) first))) (λ rule. read_on (joined p rule) 1 more)).line ≡ 1 → ⊥
+        → (after_line p 0 (cond a (Ok (rule_of first)) (Err (fault_of (firm_in first) first))) (λ rule. read_on (joined p rule) 1 more)).refusal ≡ 7
+        → (after_line p 0 (cond a (Ok (rule_of first)) (Err (fault_of (firm_in first) first))) (λ rule. read_on (joined p rule) 1 more)).line ≡ 1 → ⊥
     go true b e f = by_count (too_many p (rule_of first)) e f
       where
         by_count : (b : Bool) → (cond b (record { profile = p; refusal = 11; line = 1 }) next).refusal ≡ 7

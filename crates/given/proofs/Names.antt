@@ -7,7 +7,7 @@ use lib.Dec.{lit<}
 use native.Mathlib.Decide.{dec_lt}
 use native.Mathlib.Omega.{arith}
 use Rattle.text.specs.Text.{is_name_byte, name_number, name_of}
-use Rattle.text.specs.declared.Number.TheVariants.{Is}
+use Rattle.std.specs.Prelude.{Some}
 use Rattle.text.specs.Digits.{digits_up_to, name_bytes}
 use Rattle.given.specs.Names.{is_name_number}
 use Rattle.text.proofs.Bytes.{made_of, made-least, made-most, made_all}
@@ -24,7 +24,7 @@ module _ (least most n : ℕ) (h : is_name_number least most n ≡ true) where
   name-number k =
       digits_number 256 (lit< tt) 8 n (digits-room 256 (lit< tt) 8 n (omega (arith, made-most is_name_byte least most (name_bytes n) h)))
 
-  pub name-read : most < 8 → name_of least most (name_bytes n) ≡ Is n
+  pub name-read : most < 8 → name_of least most (name_bytes n) ≡ Some n
   unfolding is_name_number name_of
   name-read k = rw (h, name-number k)
 

@@ -17,12 +17,11 @@ use Rattle.rules.specs.declared.Kind.{Kind}
 use Rattle.rules.specs.declared.Kind.TheVariants.{Rate, Absolute}
 use Rattle.rules.specs.declared.Rule.{Rule}
 use Rattle.text.specs.Text.{field, made, is_name, name_number, name_of}
-use Rattle.text.specs.declared.Number.TheVariants.{Is as Read, Bad}
+use Rattle.std.specs.Prelude.{Some, None, is_some, unwrap_or, Result, Ok, Err}
 use Rattle.text.proofs.Numerals.{name_below, name-zero}
-use Rattle.line.specs.Line.{is_absolute, limits_of, limit_of, kind_of, is_read, the_number, firm_field, root_field, firm_in, type_in, root_in, limit_in, time_in, is_firm_level, call_put, month, malformed, other_firm, out_of_range, level_clash, scope_of, rule_of, line_of, any_line}
+use Rattle.line.specs.Line.{is_absolute, limits_of, limit_of, kind_of, firm_field, root_field, firm_in, type_in, root_in, limit_in, time_in, is_firm_level, call_put, month, malformed, other_firm, out_of_range, level_clash, scope_of, rule_of, line_of, any_line}
 use Rattle.line.specs.declared.LimitType.{LimitType}
 use Rattle.line.specs.declared.LimitType.TheVariants.{RateNtnl, RateVol, RateCount, AbsNtnl, AbsVol, AbsCount}
-use Rattle.line.specs.declared.Line.TheVariants.{Is, Refused}
 use Rattle.line.proofs.Parts.{test_in, first_of, range_fault, level_fault, unit_fault, line_first}
 
 -- a name's number is above 0, and 6 bytes hold it
@@ -66,15 +65,15 @@ pub record Accepted (firm : ℕ) (line : List ℕ) (rule : Rule) : Type 0 where
 
 module _ (firm : ℕ) (line : List ℕ) where
   -- an accepted line has no fault
-  pub line-accepted : {rule : Rule} → line_of firm line ≡ Is rule → Accepted firm line rule
+  pub line-accepted : {rule : Rule} → line_of firm line ≡ Ok rule → Accepted firm line rule
   line-accepted {rule} e =
       let n = go (malformed line) (other_firm firm line) (range_fault line) (level_fault line) (unit_fault line) (sym (line_first firm line) ∙ e) in
       record { well = n.0; own = n.1; ranged = n.2; levelled = n.3; united = n.4; is = n.5 }
     where
-      never : {A : Type 0} {k : ℕ} → Refused k ≡ Is rule → A
+      never : {A : Type 0} {k : ℕ} → ◌≡◌ {A = Result Rule ℕ} (Err k) (Ok rule) → A
       never e = let z : ◌≡◌ {A = ℕ} 0 1 = cc in absurd (omega arith)
 
-      go : (a b c d e : Bool) → first_of a b c d e (rule_of line) ≡ Is rule
+      go : (a b c d e : Bool) → first_of a b c d e (rule_of line) ≡ Ok rule
           → (a ≡ false) × (b ≡ false) × (c ≡ false) × (d ≡ false) × (e ≡ false) × (rule_of line ≡ rule)
       go true b c d e h = never h
       go false true c d e h = never h
@@ -84,14 +83,14 @@ module _ (firm : ℕ) (line : List ℕ) where
       go false false false false false h = (refl, refl, refl, refl, refl, cc)
 
   -- a refused line gets 6 to 10
-  pub line_refused : {k : ℕ} → line_of firm line ≡ Refused k → (6 ≤ k) × (k ≤ 10)
+  pub line_refused : {k : ℕ} → line_of firm line ≡ Err k → (6 ≤ k) × (k ≤ 10)
   line_refused {k} e =
       go (malformed line) (other_firm firm line) (range_fault line) (level_fault line) (unit_fault line) (sym (line_first firm line) ∙ e)
     where
-      at : (n : ℕ) → 6 ≤ n → n ≤ 10 → Refused n ≡ Refused k → (6 ≤ k) × (k ≤ 10)
+      at : (n : ℕ) → 6 ≤ n → n ≤ 10 → ◌≡◌ {A = Result Rule ℕ} (Err n) (Err k) → (6 ≤ k) × (k ≤ 10)
       at n h i e = let s : n ≡ k = cc in (omega arith, omega arith)
 
-      go : (a b c d e : Bool) → first_of a b c d e (rule_of line) ≡ Refused k → (6 ≤ k) × (k ≤ 10)
+      go : (a b c d e : Bool) → first_of a b c d e (rule_of line) ≡ Err k → (6 ≤ k) × (k ≤ 10)
       go true b c d e h = at 6 (omega arith) (omega arith) h
       go false true c d e h = at 7 (omega arith) (omega arith) h
       go false false true d e h = at 8 (omega arith) (omega arith) h
@@ -100,18 +99,18 @@ module _ (firm : ℕ) (line : List ℕ) where
       go false false false false false h = let z : ◌≡◌ {A = ℕ} 0 1 = cc in absurd (omega arith)
 
 -- a name that is read is one, and its number is the name's
-name-read : (least most : ℕ) (f : List ℕ) → is_read (name_of least most f) ≡ true
-    → (is_name least most f ≡ true) × (the_number (name_of least most f) ≡ name_number f)
+name-read : (least most : ℕ) (f : List ℕ) → is_some (name_of least most f) ≡ true
+    → (is_name least most f ≡ true) × (unwrap_or (name_of least most f) 0 ≡ name_number f)
 unfolding name_of
 name-read least most f = go (is_name least most f) refl
   where
-    go : (t : Bool) → is_name least most f ≡ t → is_read (cond t (Read (name_number f)) Bad) ≡ true
-        → (is_name least most f ≡ true) × (the_number (cond t (Read (name_number f)) Bad) ≡ name_number f)
+    go : (t : Bool) → is_name least most f ≡ t → is_some (cond t (Some (name_number f)) None) ≡ true
+        → (is_name least most f ≡ true) × (unwrap_or (cond t (Some (name_number f)) None) 0 ≡ name_number f)
     go true e h = (e, refl)
     go false e h = absurd (false≢true h)
 
 -- the number of a name of at most so many bytes fits them, and it is not 0 where the name has a byte
-name-fits : (least most : ℕ) (f : List ℕ) → is_read (name_of least most f) ≡ true → the_number (name_of least most f) < 256 ^ most
+name-fits : (least most : ℕ) (f : List ℕ) → is_some (name_of least most f) ≡ true → unwrap_or (name_of least most f) 0 < 256 ^ most
 unfolding made
 name-fits least most f h =
     let n = name-read least most f h in
@@ -119,11 +118,11 @@ name-fits least most f h =
     let wide : 256 ^ length f ≤ 256 ^ most = pow-le-pow_right (omega arith) few in
     omega (arith, n.1, name_below least most f n.0)
 
-name-some : (least most : ℕ) (f : List ℕ) → is_read (name_of least most f) ≡ true → 0 < least → 0 < the_number (name_of least most f)
+name-some : (least most : ℕ) (f : List ℕ) → is_some (name_of least most f) ≡ true → 0 < least → 0 < unwrap_or (name_of least most f) 0
 unfolding made
-name-some least most f h l = go (the_number (name_of least most f)) refl
+name-some least most f h l = go (unwrap_or (name_of least most f) 0) refl
   where
-    go : (k : ℕ) → the_number (name_of least most f) ≡ k → 0 < k
+    go : (k : ℕ) → unwrap_or (name_of least most f) 0 ≡ k → 0 < k
     go zero e =
         let n = name-read least most f h in
         let long : least ≤ length f = search tests depth 6 in
@@ -170,13 +169,13 @@ scope-in root false call month few c m e = go (ltb 0 root) refl e (eqb call 0)
 
 -- what a line that is not malformed has read
 read-fields : (line : List ℕ) → malformed line ≡ false
-    → (is_read (firm_field line) ≡ true) × (is_read (root_field line) ≡ true) × (call_put line ≤ 2) × (month line ≤ 2)
+    → (is_some (firm_field line) ≡ true) × (is_some (root_field line) ≡ true) × (call_put line ≤ 2) × (month line ≤ 2)
 unfolding malformed
 read-fields line e =
     let w = rw not-not at (ap not e) in
     (search tests depth 12, search tests depth 12, search tests depth 12, search tests depth 12)
 
-module _ (firm : ℕ) (line : List ℕ) {rule : Rule} (e : line_of firm line ≡ Is rule) where
+module _ (firm : ℕ) (line : List ℕ) {rule : Rule} (e : line_of firm line ≡ Ok rule) where
   -- the rule of an accepted line has all its parts in range
   pub line-rule : Ruled rule
   unfolding rule_of

@@ -17,18 +17,15 @@ use Rattle.laws.specs.Lists.{same}
 use Rattle.laws.proofs.Lists.{same-eq}
 use Rattle.text.specs.Text.{fields, field, index_of}
 use Rattle.text.specs.Inner.Taking.{Cursor, field_at, Near, taken_as}
-use Rattle.text.specs.declared.Number.{Number}
+use Rattle.std.specs.Prelude.{Option, Some, None, Result, Ok, Err}
 use Rattle.text.specs.declared.fields.Taken.{Taken as FieldTaken}
 use Rattle.text.proofs.Lists.{cursor-field, cursor-step, cursor-there, cursor-gone}
 use Rattle.text.proofs.Taking.{field-size, field-small}
 use Rattle.line.specs.Line.{limits_of, limit_of, letter_of, kind_of, is_absolute, type_in, limit_in, time_in, root_in, is_firm_level, call_put, month, malformed, other_firm, out_of_range, level_clash, unit_clash, fault_of, scope_of, rule_of, line_of}
 use Rattle.line.specs.Inner.Parts.{limit_read, after_field, HeadSays, TailSays}
 use Rattle.line.specs.declared.LimitType.{LimitType}
-use Rattle.line.specs.declared.limits.LimitRead.TheVariants.{Is as Ranged, Out}
 use Rattle.line.specs.declared.fields.Head.{Head}
 use Rattle.line.specs.declared.fields.Tail.{Tail}
-use Rattle.line.specs.declared.Line.{Line}
-use Rattle.line.specs.declared.Line.TheVariants.{Is, Refused}
 
 -- a field that is told by its bytes ends behind them
 pub told-end : (f word : List ℕ) (at : ℕ) {n : ℕ} → same f word ≡ true → n ≡ length word + 1 → at + n ≡ at + length f + 1
@@ -67,13 +64,13 @@ module _ {line : List ℕ} {at k : ℕ} (c : Cursor line at k) where
   pub read_here : {A : Type 0} (read : List ℕ → A) {x : A} → x ≡ read (field_at line at) → x ≡ read (field line k)
   read_here read e = e ∙ ap read (cursor-field c refl)
 
-  pub number-here : (read : List ℕ → Number) {t : FieldTaken} → t ≡ taken_as (read (field_at line at)) line at → t.number ≡ read (field line k)
+  pub number-here : (read : List ℕ → Option ℕ) {t : FieldTaken} → t ≡ taken_as (read (field_at line at)) line at → t.number ≡ read (field line k)
   number-here read e = read_here read (ap (λ (t : FieldTaken). t.number) e)
 
   pub goes_on : {next : ℕ} → next ≡ after_field line at → Cursor line next (k + 1)
   goes_on e = cursor-step c refl e
 
-  pub goes-past : (number : Number) {t : FieldTaken} → t ≡ taken_as number line at → Cursor line t.next (k + 1)
+  pub goes-past : (number : Option ℕ) {t : FieldTaken} → t ≡ taken_as number line at → Cursor line t.next (k + 1)
   goes-past number e = goes_on (ap (λ (t : FieldTaken). t.next) e)
 
   pub there-test : leb at (length line) ≡ leb (k + 1) (length (fields line))
@@ -100,38 +97,38 @@ test_in r n e = (search tests, search tests)
 
 -- a limit by what the constructor of its measure answers, and the other way round
 module _ (type : LimitType) (n : ℕ) where
-  pub limit-taken : {m : ℕ} → Taken (limits_of type) n m → Ranged (limit_of type m) ≡ limit_read type n
+  pub limit-taken : {m : ℕ} → Taken (limits_of type) n m → Some (limit_of type m) ≡ limit_read type n
   unfolding limit_read
   limit-taken t = rw (t.0, le-leb _ _ t.1.0, le-leb _ _ t.1.1)
 
-  pub limit-beyond : Beyond (limits_of type) n → Out ≡ limit_read type n
+  pub limit-beyond : Beyond (limits_of type) n → None ≡ limit_read type n
   unfolding limit_read
   limit-beyond b = go (is_in (limits_of type) n) refl
     where
-      go : (t : Bool) → is_in (limits_of type) n ≡ t → Out ≡ cond t (Ranged (limit_of type n)) Out
+      go : (t : Bool) → is_in (limits_of type) n ≡ t → None ≡ cond t (Some (limit_of type n)) None
       go true e = absurd (b (test_in (limits_of type) n e))
       go false e = refl
 
-  pub limit_is : {l : Limit} → limit_read type n ≡ Ranged l → (is_in (limits_of type) n ≡ true) × (limit_of type n ≡ l)
+  pub limit_is : {l : Limit} → limit_read type n ≡ Some l → (is_in (limits_of type) n ≡ true) × (limit_of type n ≡ l)
   unfolding limit_read
   limit_is {l} = go (is_in (limits_of type) n)
     where
-      go : (t : Bool) → cond t (Ranged (limit_of type n)) Out ≡ Ranged l → (t ≡ true) × (limit_of type n ≡ l)
+      go : (t : Bool) → cond t (Some (limit_of type n)) None ≡ Some l → (t ≡ true) × (limit_of type n ≡ l)
       go true e = (refl, cc)
       go false e = let z : ◌≡◌ {A = ℕ} 0 1 = cc in absurd (omega arith)
 
-  pub limit-out : limit_read type n ≡ Out → is_in (limits_of type) n ≡ false
+  pub limit-out : limit_read type n ≡ None → is_in (limits_of type) n ≡ false
   unfolding limit_read
   limit-out = go (is_in (limits_of type) n)
     where
-      go : (t : Bool) → cond t (Ranged (limit_of type n)) Out ≡ Out → t ≡ false
+      go : (t : Bool) → cond t (Some (limit_of type n)) None ≡ None → t ≡ false
       go true e = let z : ◌≡◌ {A = ℕ} 0 1 = cc in absurd (omega arith)
       go false e = refl
 
 -- the first of five faults that applies, or the rule
-abbrev pub first_of : Bool → Bool → Bool → Bool → Bool → Rule → Line
+abbrev pub first_of : Bool → Bool → Bool → Bool → Bool → Rule → Result Rule ℕ
 first_of six seven eight nine ten rule =
-    cond six (Refused 6) (cond seven (Refused 7) (cond eight (Refused 8) (cond nine (Refused 9) (cond ten (Refused 10) (Is rule)))))
+    cond six (Err 6) (cond seven (Err 7) (cond eight (Err 8) (cond nine (Err 9) (cond ten (Err 10) (Ok rule)))))
 
 -- faults 8, 9 and 10 of a line
 abbrev pub range_fault : List ℕ → Bool
@@ -151,7 +148,7 @@ line_first firm line = go (malformed line) (other_firm firm line) (range_fault l
   where
     go : (a b c d e : Bool)
         → let n : ℕ = cond a 6 (cond b 7 (cond c 8 (cond d 9 (cond e 10 0)))) in
-        cond (eqb n 0) (Is (rule_of line)) (Refused n) ≡ first_of a b c d e (rule_of line)
+        cond (eqb n 0) (Ok (rule_of line)) (Err n) ≡ first_of a b c d e (rule_of line)
     go true b c d e = refl
     go false true c d e = refl
     go false false true d e = refl
@@ -160,7 +157,7 @@ line_first firm line = go (malformed line) (other_firm firm line) (range_fault l
     go false false false false false = refl
 
 -- what a line comes to by what its two halves say
-unfoldable pub said : ℕ → Head → Tail → Line
+unfoldable pub said : ℕ → Head → Tail → Result Rule ℕ
 said firm head tail = first_of
     (not (head.well && tail.well))
     (not (eqb head.firm firm))

@@ -12,15 +12,15 @@ use Rattle.rules.specs.declared.Limit.{Limit}
 use Rattle.rules.specs.declared.Limit.TheVariants.{Notional, Volume, Count}
 use Rattle.text.specs.Text.{bytes, all, onto, pieces, made, numeral, name_number, field_number, name_of}
 use Rattle.line.specs.Line.{type_of, is_absolute, limits_of, limit_of, kind_of, time_of, letter_of, malformed, other_firm, out_of_range, level_clash, unit_clash, fault_of, scope_of, rule_of, line_of}
-use Rattle.line.specs.declared.Line.{Line}
-use Rattle.line.specs.declared.Line.TheVariants.{Is, Refused}
+use Rattle.rules.specs.declared.Rule.{Rule}
+use Rattle.std.specs.Prelude.{Result, Ok, Err}
 
 -- a line that says a rule, and one that is refused
-abbrev says : String → Scope → Kind → Limit → String × Line
-says t scope kind limit = (t, Is (record { scope = scope; kind = kind; limit = limit }))
+abbrev says : String → Scope → Kind → Limit → String × Result Rule ℕ
+says t scope kind limit = (t, Ok (record { scope = scope; kind = kind; limit = limit }))
 
-abbrev refused : String → ℕ → String × Line
-refused t k = (t, Refused k)
+abbrev refused : String → ℕ → String × Result Rule ℕ
+refused t k = (t, Err k)
 
 -- the root XYZ as a whole, and one unit of it
 abbrev xyz : Scope
@@ -39,7 +39,7 @@ contracts n = Volume (record { 0 = n })
 abbrev fills : ℕ → Limit
 fills n = Count (record { 0 = n })
 
-abbrev rows : List (String × Line)
+abbrev rows : List (String × Result Rule ℕ)
 rows =
     -- document 01's line, the six types, and 4 to 8 fields
     says "ABCD,abs_vol,XYZ,1000,0" xyz Absolute (contracts 1000)

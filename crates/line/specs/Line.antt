@@ -1,5 +1,5 @@
 -- What one line of a profile says: eight fields, five faults, and the rule of a line that has none. Assumes nothing.
-use Rattle.std.specs.Prelude.{ℕ, ◌+◌, ◌-◌, ◌*◌, max, Bool, true, false, cond, ◌&&◌, ◌||◌, not, List, [], ◌∷◌, length, eqb, leb, ltb}
+use Rattle.std.specs.Prelude.{ℕ, ◌+◌, ◌-◌, ◌*◌, max, Bool, true, false, cond, ◌&&◌, ◌||◌, not, List, [], ◌∷◌, length, eqb, leb, ltb, Option, Some, None, is_some, unwrap_or, Result, Ok, Err}
 use Rattle.std.specs.Bool.{beq}
 use Rattle.laws.specs.Lists.{same}
 use Rattle.measures.specs.Ranges.{Range, is_in, dollar_limits, number_limits}
@@ -11,24 +11,18 @@ use Rattle.rules.specs.declared.Limit.{Limit}
 use Rattle.rules.specs.declared.Limit.TheVariants.{Notional, Volume, Count}
 use Rattle.rules.specs.declared.Rule.{Rule}
 use Rattle.text.specs.Text.{bytes, fields, field, field_number, name_of}
-use Rattle.text.specs.declared.Number.{Number}
-use Rattle.text.specs.declared.Number.TheVariants.{Is as Read, Bad}
 use Rattle.line.specs.declared.LimitType.{LimitType}
 use Rattle.line.specs.declared.LimitType.TheVariants.{RateNtnl, RateVol, RateCount, AbsNtnl, AbsVol, AbsCount}
-use Rattle.line.specs.declared.TypeRead.{TypeRead}
-use Rattle.line.specs.declared.TypeRead.TheVariants.{Known, Unknown}
-use Rattle.line.specs.declared.Line.{Line}
-use Rattle.line.specs.declared.Line.TheVariants.{Is, Refused}
 
 -- the type that a field names
-unfoldable pub type_of : List ℕ → TypeRead
+unfoldable pub type_of : List ℕ → Option LimitType
 type_of f =
-    cond (same f (bytes "rate_ntnl")) (Known RateNtnl)
-    (cond (same f (bytes "rate_vol")) (Known RateVol)
-    (cond (same f (bytes "rate_count")) (Known RateCount)
-    (cond (same f (bytes "abs_ntnl")) (Known AbsNtnl)
-    (cond (same f (bytes "abs_vol")) (Known AbsVol)
-    (cond (same f (bytes "abs_count")) (Known AbsCount) Unknown)))))
+    cond (same f (bytes "rate_ntnl")) (Some RateNtnl)
+    (cond (same f (bytes "rate_vol")) (Some RateVol)
+    (cond (same f (bytes "rate_count")) (Some RateCount)
+    (cond (same f (bytes "abs_ntnl")) (Some AbsNtnl)
+    (cond (same f (bytes "abs_vol")) (Some AbsVol)
+    (cond (same f (bytes "abs_count")) (Some AbsCount) None)))))
 
 unfoldable pub is_absolute : LimitType → Bool
 is_absolute RateNtnl = false
@@ -60,45 +54,28 @@ unfoldable pub kind_of : LimitType → ℕ → Kind
 kind_of type time = cond (is_absolute type) Absolute (Rate (max 100 time))
 
 -- a time limit: an absolute type ignores the field, whichever bytes it has, and an empty one reads as 0
-unfoldable pub time_of : Bool → List ℕ → Number
-time_of absolute f = cond absolute (Read 0) (cond (eqb (length f) 0) (Read 0) (field_number f))
+unfoldable pub time_of : Bool → List ℕ → Option ℕ
+time_of absolute f = cond absolute (Some 0) (cond (eqb (length f) 0) (Some 0) (field_number f))
 
 -- a field that may be empty (0), the letter a (1) or the letter b (2); anything else is 3
 unfoldable pub letter_of : ℕ → ℕ → List ℕ → ℕ
 letter_of a b f = cond (same f []) 0 (cond (same f (a ∷ [])) 1 (cond (same f (b ∷ [])) 2 3))
 
--- whether a type or a number was read, and which
-abbrev pub is_known : TypeRead → Bool
-is_known (Known type) = true
-is_known Unknown = false
-
-abbrev pub the_type : TypeRead → LimitType
-the_type (Known type) = type
-the_type Unknown = RateNtnl
-
-abbrev pub is_read : Number → Bool
-is_read (Read n) = true
-is_read Bad = false
-
-abbrev pub the_number : Number → ℕ
-the_number (Read n) = n
-the_number Bad = 0
-
 -- the fields of a line: firm, limit type, root, limit value, time limit, firm level, call/put, month
-abbrev pub firm_field : List ℕ → Number
+abbrev pub firm_field : List ℕ → Option ℕ
 firm_field line = name_of 1 4 (field line 0)
 
-abbrev pub type_field : List ℕ → TypeRead
+abbrev pub type_field : List ℕ → Option LimitType
 type_field line = type_of (field line 1)
 
-abbrev pub root_field : List ℕ → Number
+abbrev pub root_field : List ℕ → Option ℕ
 root_field line = name_of 0 6 (field line 2)
 
-abbrev pub limit_field : List ℕ → Number
+abbrev pub limit_field : List ℕ → Option ℕ
 limit_field line = field_number (field line 3)
 
-abbrev pub time_field : List ℕ → Number
-time_field line = time_of (is_absolute (the_type (type_field line))) (field line 4)
+abbrev pub time_field : List ℕ → Option ℕ
+time_field line = time_of (is_absolute (unwrap_or (type_field line) RateNtnl)) (field line 4)
 
 abbrev pub is_firm_level : List ℕ → Bool
 is_firm_level line = same (field line 5) (bytes "T")
@@ -111,25 +88,25 @@ month line = letter_of 70 84 (field line 7)
 
 -- what they stand for in a line that is well formed: a name's number is 0 where the field is empty
 abbrev pub firm_in : List ℕ → ℕ
-firm_in line = the_number (firm_field line)
+firm_in line = unwrap_or (firm_field line) 0
 
 abbrev pub type_in : List ℕ → LimitType
-type_in line = the_type (type_field line)
+type_in line = unwrap_or (type_field line) RateNtnl
 
 abbrev pub root_in : List ℕ → ℕ
-root_in line = the_number (root_field line)
+root_in line = unwrap_or (root_field line) 0
 
 abbrev pub limit_in : List ℕ → ℕ
-limit_in line = the_number (limit_field line)
+limit_in line = unwrap_or (limit_field line) 0
 
 abbrev pub time_in : List ℕ → ℕ
-time_in line = the_number (time_field line)
+time_in line = unwrap_or (time_field line) 0
 
 -- 6: the number of fields, a field's length or characters, or an unknown type
 unfoldable pub malformed : List ℕ → Bool
 malformed line =
-    not (leb 4 (length (fields line)) && leb (length (fields line)) 8 && is_read (firm_field line) && is_known (type_field line) && is_read (root_field line)
-    && is_read (limit_field line) && is_read (time_field line) && leb (call_put line) 2 && leb (month line) 2)
+    not (leb 4 (length (fields line)) && leb (length (fields line)) 8 && is_some (firm_field line) && is_some (type_field line) && is_some (root_field line)
+    && is_some (limit_field line) && is_some (time_field line) && leb (call_put line) 2 && leb (month line) 2)
 
 -- 7: the firm differs from line 1's
 unfoldable pub other_firm : ℕ → List ℕ → Bool
@@ -170,9 +147,9 @@ rule_of line = record {
 }
 
 -- a line, where line 1 is the firm's
-unfoldable pub line_of : ℕ → List ℕ → Line
-line_of firm line = cond (eqb (fault_of firm line) 0) (Is (rule_of line)) (Refused (fault_of firm line))
+unfoldable pub line_of : ℕ → List ℕ → Result Rule ℕ
+line_of firm line = cond (eqb (fault_of firm line) 0) (Ok (rule_of line)) (Err (fault_of firm line))
 
 -- a line of any length: one that is longer than a profile may be is refused with 5, as every profile that it stands in
-unfoldable pub any_line : ℕ → List ℕ → Line
-any_line firm line = cond (ltb 65_536 (length line)) (Refused 5) (line_of firm line)
+unfoldable pub any_line : ℕ → List ℕ → Result Rule ℕ
+any_line firm line = cond (ltb 65_536 (length line)) (Err 5) (line_of firm line)

@@ -1,12 +1,12 @@
 // The fields of a line, read one after the other: the four that it must have, and the four that it may have.
 ghost use Rattle.std.specs.Prelude.{◌≡◌, true, ◌≤◌, length};
 ghost use Rattle.text.specs.Inner.Taking.{Cursor, field_at, Near, is_no_comma, taken_as};
-ghost use Rattle.line.specs.Line.{time_of, letter_of, is_read, the_number};
+ghost use Rattle.line.specs.Line.{time_of, letter_of};
 ghost use Rattle.line.specs.Inner.Parts.{after_field, HeadSays, TailSays};
 
 use crate::LimitType;
 use crate::limits::type_at;
-use text::{Number, Taken};
+use text::Taken;
 
 // What the first four fields say, whether they are there and well formed, and the place after them.
 #[derive(Clone, Copy)]
@@ -36,26 +36,6 @@ pub(crate) struct Letter {
     pub(crate) next: usize,
 }
 
-// Whether a number was read.
-fn is_read(n: Number) -> bool
-    ensures { result ≡ is_read n }
-{
-    match n {
-        Number::Is(_) => true,
-        Number::Bad => false,
-    }
-}
-
-// The number that was read, 0 if none was.
-pub(crate) fn number_in(n: Number) -> u64
-    ensures { result ≡ the_number n }
-{
-    match n {
-        Number::Is(v) => v,
-        Number::Bad => 0,
-    }
-}
-
 // A time limit: an absolute type ignores the field, and an empty one reads as 0.
 fn time_at(line: &[u8], at: usize, absolute: bool) -> Taken
     requires { Near line.now at }
@@ -63,13 +43,13 @@ fn time_at(line: &[u8], at: usize, absolute: bool) -> Taken
 {
     if absolute {
         return Taken {
-            number: Number::Is(0),
+            number: Some(0),
             next: text::find(line, at, b',') + 1,
         };
     }
     if text::is_field(line, at, b"") {
         return Taken {
-            number: Number::Is(0),
+            number: Some(0),
             next: at + 1,
         };
     }
@@ -120,14 +100,14 @@ pub(crate) fn read_head(line: &[u8]) -> Head
     let limit = limit_field.number;
     Head {
         well: (root_field.next <= line.len())
-            & is_read(firm)
-            & named.is_known()
-            & is_read(root)
-            & is_read(limit),
-        firm: number_in(firm),
-        named: named.type_in(),
-        root: number_in(root),
-        limit: number_in(limit),
+            & firm.is_some()
+            & named.is_some()
+            & root.is_some()
+            & limit.is_some(),
+        firm: firm.unwrap_or(0),
+        named: named.unwrap_or(LimitType::RateNtnl),
+        root: root.unwrap_or(0),
+        limit: limit.unwrap_or(0),
         next: limit_field.next,
     }
 }
@@ -143,8 +123,8 @@ pub(crate) fn read_tail(line: &[u8], at: usize, absolute: bool) -> Tail
     let month = letter_at(line, call.next, b'F', b'T');
     let time = time_field.number;
     Tail {
-        well: (line.len() < month.next) & is_read(time) & (call.which <= 2) & (month.which <= 2),
-        time: number_in(time),
+        well: (line.len() < month.next) & time.is_some() & (call.which <= 2) & (month.which <= 2),
+        time: time.unwrap_or(0),
         firmwide: level.which == 1,
         call: call.which,
         month: month.which,

@@ -2,13 +2,14 @@
 #![tactic(auto)]
 
 ghost use Rattle.std.specs.Prelude.{◌≡◌, ◌≤◌, ◌<◌, length};
+ghost use Rattle.refusals.specs.Numbers.{numbered};
 ghost use Rattle.line.specs.Line.{firm_in, level_clash, unit_clash, scope_of, line_of, any_line};
 
 mod fields;
 mod limits;
 
-use limits::LimitRead;
 use measures::Time;
+use refusals::Refusal;
 use rules::{Rule, Scope};
 
 // The six types of limit that a profile names.
@@ -20,19 +21,6 @@ pub enum LimitType {
     AbsNtnl,
     AbsVol,
     AbsCount,
-}
-
-#[derive(Clone, Copy)]
-pub enum TypeRead {
-    Known(LimitType),
-    Unknown,
-}
-
-// What a line comes to: a rule whose scope has its root's name for a number, or a refusal.
-#[derive(Clone, Copy)]
-pub enum Line {
-    Is(Rule),
-    Refused(u64),
 }
 
 // Whether a line has a root and T, or neither.
@@ -68,36 +56,36 @@ fn scope_of(root: u64, firmwide: bool, call: u64, month: u64) -> Scope
 pub fn firm_of(line: &[u8]) -> u64
     ensures { result ≡ firm_in line.now }
 {
-    fields::number_in(text::firm_name(text::field_at(line, 0)))
+    text::firm_name(text::field_at(line, 0)).unwrap_or(0)
 }
 
 // What a line of a profile comes to where line 1 names that firm.
-fn line_in(firm: u64, line: &[u8]) -> Line
+fn line_in(firm: u64, line: &[u8]) -> Result<Rule, Refusal>
     requires { length line.now ≤ 65_536 }
-    ensures { result ≡ line_of firm line.now }
+    ensures { numbered result ≡ line_of firm line.now }
 {
     let head = fields::read_head(line);
     let named = head.named;
     let tail = fields::read_tail(line, head.next, named.is_absolute());
     if !(head.well & tail.well) {
-        return Line::Refused(6);
+        return Err(Refusal::Malformed);
     }
     if head.firm != firm {
-        return Line::Refused(7);
+        return Err(Refusal::OtherFirm);
     }
-    let LimitRead::Is(limit) = named.limit(head.limit) else {
-        return Line::Refused(8);
+    let Some(limit) = named.limit(head.limit) else {
+        return Err(Refusal::OutOfRange);
     };
     if Time::WINDOW_MOST < tail.time {
-        return Line::Refused(8);
+        return Err(Refusal::OutOfRange);
     }
     if level_clash(head.root, tail.firmwide) {
-        return Line::Refused(9);
+        return Err(Refusal::LevelClash);
     }
     if unit_clash(tail.firmwide, tail.call, tail.month) {
-        return Line::Refused(10);
+        return Err(Refusal::UnitClash);
     }
-    Line::Is(Rule {
+    Ok(Rule {
         scope: scope_of(head.root, tail.firmwide, tail.call, tail.month),
         kind: named.kind(tail.time),
         limit,
@@ -105,11 +93,11 @@ fn line_in(firm: u64, line: &[u8]) -> Line
 }
 
 // What a line comes to where line 1 names that firm: a line that is longer than a profile may be is refused as such a profile is.
-pub fn read_line(firm: u64, line: &[u8]) -> Line
-    ensures { result ≡ any_line firm line.now }
+pub fn read_line(firm: u64, line: &[u8]) -> Result<Rule, Refusal>
+    ensures { numbered result ≡ any_line firm line.now }
 {
     if 65_536 < line.len() {
-        return Line::Refused(5);
+        return Err(Refusal::ProfileLength);
     }
     line_in(firm, line)
 }

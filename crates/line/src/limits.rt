@@ -1,55 +1,26 @@
 // The six types of limit: the field that names one, and what a number and a time are to each.
-ghost use Rattle.std.specs.Prelude.{◌≡◌, max};
+ghost use Rattle.std.specs.Prelude.{◌≡◌, max, Some};
 ghost use Rattle.text.specs.Inner.Taking.{field_at, Near};
-ghost use Rattle.line.specs.Line.{type_of, is_absolute, kind_of, is_known, the_type};
+ghost use Rattle.line.specs.Line.{type_of, is_absolute, kind_of};
 ghost use Rattle.line.specs.Inner.Parts.{limit_read, after_field};
 
-use crate::{LimitType, TypeRead};
+use crate::LimitType;
 use measures::{Contracts, Dollars, Executions, Time};
 use rules::{Kind, Limit};
-
-// A limit, or that its number is out of range.
-#[derive(Clone, Copy)]
-pub(crate) enum LimitRead {
-    Is(Limit),
-    Out,
-}
 
 // What type a field names, and the place after the field and its comma.
 #[derive(Clone, Copy)]
 pub(crate) struct TypeTaken {
-    pub(crate) named: TypeRead,
+    pub(crate) named: Option<LimitType>,
     pub(crate) next: usize,
-}
-
-impl TypeRead {
-    // Whether a type was read.
-    pub(crate) fn is_known(self) -> bool
-        ensures { result ≡ is_known self }
-    {
-        match self {
-            TypeRead::Known(_) => true,
-            TypeRead::Unknown => false,
-        }
-    }
-
-    // The type that was read, rate_ntnl if none was.
-    pub(crate) fn type_in(self) -> LimitType
-        ensures { result ≡ the_type self }
-    {
-        match self {
-            TypeRead::Known(named) => named,
-            TypeRead::Unknown => LimitType::RateNtnl,
-        }
-    }
 }
 
 // A type that a field names, with the place after the field and its comma.
 fn known(named: LimitType, next: usize) -> TypeTaken
-    ensures { (result.named ≡ TypeRead.Known named) × (result.next ≡ next) }
+    ensures { (result.named ≡ Some named) × (result.next ≡ next) }
 {
     TypeTaken {
-        named: TypeRead::Known(named),
+        named: Some(named),
         next,
     }
 }
@@ -78,7 +49,7 @@ pub(crate) fn type_at(line: &[u8], at: usize) -> TypeTaken
         return known(LimitType::AbsCount, at + 10);
     }
     TypeTaken {
-        named: TypeRead::Unknown,
+        named: None,
         next: text::find(line, at, b',') + 1,
     }
 }
@@ -95,32 +66,32 @@ fn window_of(time: u64) -> u64
 }
 
 // A notional limit, if its dollars are in range.
-fn notional(n: u64) -> LimitRead
+fn notional(n: u64) -> Option<Limit>
     ensures { result ≡ limit_read LimitType.RateNtnl n }
 {
     match Dollars::limit(n) {
-        Some(dollars) => LimitRead::Is(Limit::Notional(dollars)),
-        None => LimitRead::Out,
+        Some(dollars) => Some(Limit::Notional(dollars)),
+        None => None,
     }
 }
 
 // A volume limit, if its contracts are in range.
-fn volume(n: u64) -> LimitRead
+fn volume(n: u64) -> Option<Limit>
     ensures { result ≡ limit_read LimitType.RateVol n }
 {
     match Contracts::limit(n) {
-        Some(contracts) => LimitRead::Is(Limit::Volume(contracts)),
-        None => LimitRead::Out,
+        Some(contracts) => Some(Limit::Volume(contracts)),
+        None => None,
     }
 }
 
 // A count limit, if its executions are in range.
-fn count(n: u64) -> LimitRead
+fn count(n: u64) -> Option<Limit>
     ensures { result ≡ limit_read LimitType.RateCount n }
 {
     match Executions::limit(n) {
-        Some(executions) => LimitRead::Is(Limit::Count(executions)),
-        None => LimitRead::Out,
+        Some(executions) => Some(Limit::Count(executions)),
+        None => None,
     }
 }
 
@@ -140,7 +111,7 @@ impl LimitType {
     }
 
     // A number as the type's limit, if it is in range.
-    pub(crate) fn limit(self, n: u64) -> LimitRead
+    pub(crate) fn limit(self, n: u64) -> Option<Limit>
         ensures { result ≡ limit_read self n }
     {
         match self {

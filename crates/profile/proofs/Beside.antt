@@ -11,7 +11,7 @@ use Rattle.laws.proofs.Tests.{and_l}
 use Rattle.measures.specs.Ranges.{◌to◌, is_in}
 use Rattle.text.specs.Text.{lines}
 use Rattle.line.specs.Line.{firm_in, type_in, limit_in, time_in, root_in, is_firm_level, call_put, month, malformed, other_firm, out_of_range, level_clash, unit_clash, fault_of, rule_of, line_of}
-use Rattle.line.specs.declared.Line.TheVariants.{Is, Refused as Faulty}
+use Rattle.std.specs.Prelude.{Ok, Err}
 use Rattle.text.proofs.Lists.{line-here}
 use Rattle.text.proofs.Numerals.{name-zero}
 use Rattle.text.specs.Text.{is_name, made}
@@ -26,15 +26,15 @@ rest line =
     (cond (level_clash (root_in line) (is_firm_level line)) 9 (cond (unit_clash (is_firm_level line) (call_put line) (month line)) 10 0))
 
 -- a line of a firm, read for none, has 6 or 7
-other-line : (line : List ℕ) → (firm_in line ≡ 0 → ⊥) → line_of 0 line ≡ Faulty (cond (malformed line) 6 7)
+other-line : (line : List ℕ) → (firm_in line ≡ 0 → ⊥) → line_of 0 line ≡ Err (cond (malformed line) 6 7)
 unfolding line_of fault_of other_firm
 other-line line none = go (malformed line)
   where
     differs : eqb (firm_in line) 0 ≡ false
     differs = ne_eqb (firm_in line) 0 none
 
-    go : (b : Bool) → cond (eqb (cond b 6 (cond (not (eqb (firm_in line) 0)) 7 (rest line))) 0) (Is (rule_of line)) (Faulty (cond b 6 (cond (not (eqb (firm_in line) 0)) 7 (rest line))))
-        ≡ Faulty (cond b 6 7)
+    go : (b : Bool) → cond (eqb (cond b 6 (cond (not (eqb (firm_in line) 0)) 7 (rest line))) 0) (Ok (rule_of line)) (Err (cond b 6 (cond (not (eqb (firm_in line) 0)) 7 (rest line))))
+        ≡ Err (cond b 6 7)
     go true = refl
     go false = rw differs
 

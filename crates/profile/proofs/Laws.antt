@@ -15,8 +15,7 @@ use Rattle.rules.specs.declared.Rule.{Rule}
 use Rattle.text.specs.Text.{lines, index_of}
 use Rattle.text.proofs.Lists.{line-here}
 use Rattle.line.specs.Line.{firm_in, line_of}
-use Rattle.line.specs.declared.Line.{Line}
-use Rattle.line.specs.declared.Line.TheVariants.{Is, Refused as Faulty}
+use Rattle.std.specs.Prelude.{Result, Ok, Err}
 use Rattle.profile.specs.Profile.{joined, too_many, Outcome, after_line, read_on, start_of, outcome_of, reading_of}
 use Rattle.machine.specs.State.{Profile}
 use Rattle.profile.specs.declared.Reading.TheVariants.{Accepted, Refused}
@@ -52,7 +51,7 @@ comes p n (l ∷ ls) = go (line_of p.firm l) refl (λ rule. comes (joined p rule
     stop : (k : ℕ) → 6 ≤ k → k ≤ 11 → Comes p n (l ∷ ls) (record { profile = p; refusal = k; line = n + 1 })
     stop k least most = record { lawful = λ law. law; firm = refl; ends = stopped least most (omega arith) (omega arith) }
 
-    many : (rule : Rule) → line_of p.firm l ≡ Is rule → Comes (joined p rule) (n + 1) ls (rest rule) → (t : Bool) → too_many p rule ≡ t
+    many : (rule : Rule) → line_of p.firm l ≡ Ok rule → Comes (joined p rule) (n + 1) ls (rest rule) → (t : Bool) → too_many p rule ≡ t
         → Comes p n (l ∷ ls) (cond t (record { profile = p; refusal = 11; line = n + 1 }) (rest rule))
     many rule e more true h = stop 11 (omega arith) (omega arith)
     many rule e more false h = record {
@@ -61,10 +60,10 @@ comes p n (l ∷ ls) = go (line_of p.firm l) refl (λ rule. comes (joined p rule
       ends = ends_next p rule l more.ends;
     }
 
-    go : (line : Line) → line_of p.firm l ≡ line → ((rule : Rule) → Comes (joined p rule) (n + 1) ls (rest rule))
+    go : (line : Result Rule ℕ) → line_of p.firm l ≡ line → ((rule : Rule) → Comes (joined p rule) (n + 1) ls (rest rule))
         → Comes p n (l ∷ ls) (after_line p n line rest)
-    go (Faulty k) e more = let b = line_refused p.firm l e in stop k b.0 (omega arith)
-    go (Is rule) e more = many rule e (more rule) (too_many p rule) refl
+    go (Err k) e more = let b = line_refused p.firm l e in stop k b.0 (omega arith)
+    go (Ok rule) e more = many rule e (more rule) (too_many p rule) refl
 
 -- a text of 1 to 65,536 bytes is read by its lines, and any other is refused with 5
 module _ (text : List ℕ) where
@@ -132,9 +131,9 @@ unfolding read_on after_line
 first-named p n [] h e = absurd (omega arith)
 first-named p n (l ∷ ls) h e = go (line_of p.firm l) refl e
   where
-    go : (line : Line) → line_of p.firm l ≡ line → (after_line p n line (λ rule. read_on (joined p rule) (n + 1) ls)).refusal ≡ 0 → IsNameNumber 1 4 p.firm
-    go (Faulty k) q z = absurd (omega (arith, line_refused p.firm l q))
-    go (Is rule) q z = firm-named p.firm l q
+    go : (line : Result Rule ℕ) → line_of p.firm l ≡ line → (after_line p n line (λ rule. read_on (joined p rule) (n + 1) ls)).refusal ≡ 0 → IsNameNumber 1 4 p.firm
+    go (Err k) q z = absurd (omega (arith, line_refused p.firm l q))
+    go (Ok rule) q z = firm-named p.firm l q
 
 -- an accepted text
 module _ (text : List ℕ) (ok : (outcome_of text).refusal ≡ 0) where

@@ -17,9 +17,8 @@ use Rattle.rules.specs.declared.Limit.{Limit}
 use Rattle.rules.specs.declared.Limit.TheVariants.{Notional, Volume, Count}
 use Rattle.rules.specs.declared.Rule.{Rule}
 use Rattle.text.specs.Text.{field, all, made, is_name, is_name_byte, name_number, name_of, numeral}
-use Rattle.text.specs.declared.Number.TheVariants.{Is as Read, Bad}
-use Rattle.line.specs.Line.{is_read, the_number, firm_field, root_field, root_in, is_firm_level, call_put, month, malformed, scope_of, rule_of, line_of}
-use Rattle.line.specs.declared.Line.TheVariants.{Is}
+use Rattle.std.specs.Prelude.{Some, None, is_some, unwrap_or, Ok}
+use Rattle.line.specs.Line.{firm_field, root_field, root_in, is_firm_level, call_put, month, malformed, scope_of, rule_of, line_of}
 use Rattle.line.proofs.Laws.{InScope, InWindow, line-accepted, line-rule, line-firm}
 use Rattle.rules.specs.Valid.{is_limit, is_kind}
 use Rattle.profile.specs.Inner.Lawful.{IsNameNumber, SaidScope, Said}
@@ -49,18 +48,18 @@ some_byte least most f e h =
     ap₂ (λ a b. a && b) (ap₂ (λ a b. a && b) (le-leb 1 (length f) h) (and_r low high both)) (and_r (low && high) (all is_name_byte f) e)
 
 -- a field that was read as a number above 0 has the name of that number
-named : (least most : ℕ) (f : List ℕ) → is_read (name_of least most f) ≡ true → 0 < the_number (name_of least most f) → IsNameNumber 1 most (the_number (name_of least most f))
+named : (least most : ℕ) (f : List ℕ) → is_some (name_of least most f) ≡ true → 0 < unwrap_or (name_of least most f) 0 → IsNameNumber 1 most (unwrap_or (name_of least most f) 0)
 unfolding name_of numeral
 named least most f = go f (is_name least most f) refl
   where
-    go : (f : List ℕ) (t : Bool) → is_name least most f ≡ t → is_read (cond t (Read (name_number f)) Bad) ≡ true
-        → 0 < the_number (cond t (Read (name_number f)) Bad) → IsNameNumber 1 most (the_number (cond t (Read (name_number f)) Bad))
+    go : (f : List ℕ) (t : Bool) → is_name least most f ≡ t → is_some (cond t (Some (name_number f)) None) ≡ true
+        → 0 < unwrap_or (cond t (Some (name_number f)) None) 0 → IsNameNumber 1 most (unwrap_or (cond t (Some (name_number f)) None) 0)
     go [] true e h k = absurd (omega arith)
     go (x ∷ xs) true e h k = record { name = x ∷ xs; made = some_byte least most (x ∷ xs) e (omega arith); number = refl }
     go f false e h k = absurd (false≢true h)
 
 -- a line that is not malformed has the firm and the root read
-fields_read : (line : List ℕ) → malformed line ≡ false → (is_read (firm_field line) ≡ true) × (is_read (root_field line) ≡ true)
+fields_read : (line : List ℕ) → malformed line ≡ false → (is_some (firm_field line) ≡ true) × (is_some (root_field line) ≡ true)
 unfolding malformed
 fields_read line e = let w = rw not-not at (ap not e) in (search tests depth 12, search tests depth 12)
 
@@ -76,7 +75,7 @@ scope-said root false call month name h = go (eqb call 0) h
     go true h = name h.0
     go false h = (name h.0.0, in-passes units _ (omega arith, h.1))
 
-module _ (firm : ℕ) (line : List ℕ) {rule : Rule} (e : line_of firm line ≡ Is rule) where
+module _ (firm : ℕ) (line : List ℕ) {rule : Rule} (e : line_of firm line ≡ Ok rule) where
   pub said : Said rule
   unfolding rule_of
   said =

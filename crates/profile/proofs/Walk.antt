@@ -16,7 +16,7 @@ use Rattle.reader.proofs.Lines.{line_on, line-inside}
 use Rattle.line.specs.Line.{firm_in, line_of, any_line}
 use Rattle.line.proofs.Laws.{any-line}
 use Rattle.tables.specs.Inner.Tables.{zeros, flat, table_numbers}
-use Rattle.line.specs.declared.Line.TheVariants.{Is, Refused as Faulty}
+use Rattle.std.specs.Prelude.{Ok, Err}
 use Rattle.line.proofs.Laws.{line_refused}
 use Rattle.admission.specs.Admission.{how_many}
 use Rattle.profile.specs.Profile.{joined, Outcome, after_line, read_on, start_of, firm_beside, outcome_beside, reading_of, roots_table, scan_beside}
@@ -95,14 +95,14 @@ module _ {text : List ℕ} {firm : ℕ} {tally : Tally} {at : ℕ} {roots rules 
     unfolding read_on
     one_line = w.rest ∙ rw (line_on text at h, w.own, is)
 
-    pub walk-fault : {k : ℕ} → line_of firm line ≡ Faulty k → ReadingTold (read_on (start_of firm) 0 (lines text)) (Refused k (tally.rules + 1)) roots rules
+    pub walk-fault : {k : ℕ} → line_of firm line ≡ Err k → ReadingTold (read_on (start_of firm) 0 (lines text)) (Refused k (tally.rules + 1)) roots rules
     unfolding after_line
     walk-fault {k} e =
         let b = line_refused firm line e in
         refused-told w.profile k (tally.rules + 1) b.0 (one_line ∙ rw e) w.held.stored
 
     -- a line's rule, and what became of it
-    module _ {rule : Rule} (e : line_of firm line ≡ Is rule) {roots-after rules-after : List ℕ} (counts-after : List ℕ) {became : Option Tally} where
+    module _ {rule : Rule} (e : line_of firm line ≡ Ok rule) {roots-after rules-after : List ℕ} (counts-after : List ℕ) {became : Option Tally} where
       pub walk-many : became ≡ None → Joins w.profile rule became roots-after rules-after counts-after
           → ReadingTold (read_on (start_of firm) 0 (lines text)) (Refused 11 (tally.rules + 1)) roots-after rules-after
       unfolding after_line Joins

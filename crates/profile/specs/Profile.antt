@@ -1,5 +1,5 @@
 -- A whole profile: line by line, each adds its rule, until one has a fault or is one too many. Assumes nothing.
-use Rattle.std.specs.Prelude.{ℕ, ◌+◌, Bool, cond, List, [], ◌∷◌, ◌++◌, length, get_or, eqb, ltb}
+use Rattle.std.specs.Prelude.{ℕ, ◌+◌, Bool, cond, List, [], ◌∷◌, ◌++◌, length, get_or, eqb, ltb, Result, Ok, Err}
 use Rattle.measures.specs.Ranges.{◌to◌, is_in}
 use Rattle.rules.specs.declared.Scope.{Scope}
 use Rattle.rules.specs.declared.Scope.TheVariants.{EveryFill, WholeRoot, OneUnit}
@@ -8,8 +8,6 @@ use Rattle.machine.specs.State.{Profile}
 use Rattle.admission.specs.Admission.{overfull}
 use Rattle.text.specs.Text.{lines, index_of}
 use Rattle.line.specs.Line.{firm_in, line_of}
-use Rattle.line.specs.declared.Line.{Line}
-use Rattle.line.specs.declared.Line.TheVariants.{Is, Refused as Faulty}
 use Rattle.tables.specs.Inner.Tables.{table_numbers}
 use Rattle.packing.specs.RulePlace.{rules_table}
 use Rattle.profile.specs.declared.Reading.{Reading}
@@ -53,9 +51,9 @@ pub record Outcome : Type 0 where
   pub line : ℕ
 
 -- the line after n lines that gave the profile p: its fault stops the reading, or one rule too many; else the rest is read with its rule
-unfoldable pub after_line : Profile → ℕ → Line → (Rule → Outcome) → Outcome
-after_line p n (Faulty k) rest = record { profile = p; refusal = k; line = n + 1 }
-after_line p n (Is rule) rest = cond (too_many p rule) (record { profile = p; refusal = 11; line = n + 1 }) (rest rule)
+unfoldable pub after_line : Profile → ℕ → Result Rule ℕ → (Rule → Outcome) → Outcome
+after_line p n (Err k) rest = record { profile = p; refusal = k; line = n + 1 }
+after_line p n (Ok rule) rest = cond (too_many p rule) (record { profile = p; refusal = 11; line = n + 1 }) (rest rule)
 
 -- the lines that are left after n lines that gave the profile p
 unfoldable pub read_on : Profile → ℕ → List (List ℕ) → Outcome

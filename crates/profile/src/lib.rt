@@ -13,7 +13,6 @@ ghost use Rattle.profile.specs.Inner.Lawful.{Said, NewestOnce};
 ghost use Rattle.profile.specs.Inner.Held.{Held, HoldsSome, Joins, ReadingTold};
 
 use admission::Tally;
-use line::Line;
 use rules::{Rule, Scope};
 
 // What reading a profile answers: the firm's name and how many rules and roots there are, or a refusal and the line, from 1, that it is for.
@@ -136,11 +135,11 @@ fn read_lines(
         // Every line before this one gave a rule.
         let number = tally.rules + 1;
         match line::read_line(firm, line) {
-            Line::Refused(fault) => return Reading::Refused {
-                number: fault,
+            Err(fault) => return Reading::Refused {
+                number: fault.number(),
                 line: number,
             },
-            Line::Is(rule) => match take_in(tally, rule, roots, rules, counts) {
+            Ok(rule) => match take_in(tally, rule, roots, rules, counts) {
                 None => return Reading::Refused {
                     number: 11,
                     line: number,

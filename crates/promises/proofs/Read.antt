@@ -10,7 +10,7 @@ use lib.Dec.{eqb}
 use borrow.Author.Tests.{ne_eqb}
 use Rattle.rules.specs.declared.Rule.{Rule}
 use Rattle.line.specs.Line.{malformed, other_firm, out_of_range, level_clash, unit_clash, type_in, limit_in, time_in, root_in, is_firm_level, call_put, month, fault_of, rule_of, line_of}
-use Rattle.line.specs.declared.Line.TheVariants.{Is, Refused as Faulty}
+use Rattle.std.specs.Prelude.{Ok, Err}
 use Rattle.profile.specs.Profile.{joined, too_many, Outcome, after_line, read_on}
 use Rattle.machine.specs.State.{Profile}
 use Rattle.machine.specs.Refusals.{first_of}
@@ -34,7 +34,7 @@ line_step p n l rest =
     many false = refl
 
     go : (a b c d e : Bool)
-        → after_line p n (cond (eqb (cond a 6 (cond b 7 (cond c 8 (cond d 9 (cond e 10 0))))) 0) (Is (rule_of l)) (Faulty (cond a 6 (cond b 7 (cond c 8 (cond d 9 (cond e 10 0))))))) rest
+        → after_line p n (cond (eqb (cond a 6 (cond b 7 (cond c 8 (cond d 9 (cond e 10 0))))) 0) (Ok (rule_of l)) (Err (cond a 6 (cond b 7 (cond c 8 (cond d 9 (cond e 10 0))))))) rest
         ≡ cond (eqb (cond a 6 (cond b 7 (cond c 8 (cond d 9 (cond e 10 (cond (too_many p (rule_of l)) 11 0)))))) 0) (rest (rule_of l))
         (stopped_at p (cond a 6 (cond b 7 (cond c 8 (cond d 9 (cond e 10 (cond (too_many p (rule_of l)) 11 0)))))) (n + 1))
     go true b c d e = refl

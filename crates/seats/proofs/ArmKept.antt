@@ -13,7 +13,7 @@ use Rattle.machine.specs.Refusals.{first_of}
 use Rattle.text.specs.Text.{lines, is_name, made}
 use Rattle.text.proofs.Numerals.{name-zero}
 use Rattle.line.specs.Line.{firm_in, malformed, fault_of, line_of}
-use Rattle.line.specs.declared.Line.TheVariants.{Is, Refused as Faulty}
+use Rattle.std.specs.Prelude.{Ok, Err}
 use Rattle.profile.specs.Profile.{Outcome, after_line, read_on, start_of, reading_of, outcome_of, firm_beside, outcome_beside}
 use Rattle.profile.specs.declared.Reading.TheVariants.{Refused as NotRead}
 use Rattle.profile.specs.Inner.Lawful.{IsNameNumber}

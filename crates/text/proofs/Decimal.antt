@@ -10,7 +10,7 @@ use native.Mathlib.Nat.{pow-zero, pow-suc, div-lt_iff_lt-mul, mod-lt}
 use native.Mathlib.Omega.{arith}
 use Rattle.laws.proofs.Tests.{and_i}
 use Rattle.text.specs.Text.{all, is_digit, value, field_number}
-use Rattle.text.specs.declared.Number.TheVariants.{Is}
+use Rattle.std.specs.Prelude.{Some}
 use Rattle.text.specs.Digits.{digits_up_to, decimal}
 use Rattle.text.proofs.Bytes.{all_append, all_map, made_of}
 use Rattle.text.proofs.InBase.{numeral-more, numeral-from, digits-few, digits-all, digits_number}
@@ -64,6 +64,6 @@ decimal-value n h =
     let tenth = digits_number 10 (lit< tt) 19 (n / 10) ((div-lt_iff_lt-mul (lit< tt)).1 (omega arith)) in
     numeral-from 10 48 (above ++ ((n % 10) ∷ [])) ∙ numeral-more 10 0 above (n % 10) ∙ omega arith
 
-pub decimal-read : (n : ℕ) → n < 10 ^ 12 → field_number (decimal n) ≡ Is n
+pub decimal-read : (n : ℕ) → n < 10 ^ 12 → field_number (decimal n) ≡ Some n
 unfolding field_number
 decimal-read n h = rw (made_of is_digit 1 12 (decimal n) (decimal-some n) (decimal-upto 11 n h) (decimal-digits n), decimal-value n (omega arith))

@@ -11,8 +11,7 @@ use native.Mathlib.Decide.{dec_lt}
 use native.Mathlib.Omega.{arith}
 use Rattle.text.specs.Text.{all, made, numeral, index_of}
 use Rattle.text.specs.Inner.Taking.{field_at, Near, front, run_read, is_end, taken_as}
-use Rattle.text.specs.declared.Number.{Number}
-use Rattle.text.specs.declared.Number.TheVariants.{Is, Bad}
+use Rattle.std.specs.Prelude.{Option, Some, None}
 use Rattle.text.specs.declared.fields.Run.{Run}
 use Rattle.laws.proofs.Lists.{ended}
 use Rattle.text.proofs.Lists.{index-le, fields-past, field-here}
@@ -97,20 +96,20 @@ front-part p (suc m) (x ∷ xs) h = go (p x) refl (front-part p m xs) h
     go false t part h = rw (t, and-false)
 
 -- what a field of least to most bytes, each with the property p, is read as
-abbrev pub read_as : (ℕ → Bool) → ℕ → ℕ → ℕ → ℕ → List ℕ → Number
-read_as p least most base naught s = cond (made p least most s) (Is (numeral base naught s)) Bad
+abbrev pub read_as : (ℕ → Bool) → ℕ → ℕ → ℕ → ℕ → List ℕ → Option ℕ
+read_as p least most base naught s = cond (made p least most s) (Some (numeral base naught s)) None
 
 module _ (p : ℕ → Bool) (least most base naught : ℕ) (s : List ℕ) where
-  pub read_short : length s < least → Bad ≡ read_as p least most base naught s
+  pub read_short : length s < least → None ≡ read_as p least most base naught s
   unfolding made
   read_short h = rw (lt-leb least (length s) h)
 
-  read-over : (leb (length s) most && all p s) ≡ false → Bad ≡ read_as p least most base naught s
+  read-over : (leb (length s) most && all p s) ≡ false → None ≡ read_as p least most base naught s
   unfolding made
   read-over e = rw (and_assoc (leb least (length s)) (leb (length s) most) (all p s), e, and-false)
 
   -- it is read where it is the bytes in front, of at most as many
-  read-front : (t : List ℕ) → s ≡ front p (take most t) → least ≤ length s → Is (numeral base naught s) ≡ read_as p least most base naught s
+  read-front : (t : List ℕ) → s ≡ front p (take most t) → least ≤ length s → Some (numeral base naught s) ≡ read_as p least most base naught s
   unfolding made
   read-front t e h =
       let few : length s ≤ most = omega (arith, ap length e, front-le p (take most t), length-take most t) in
@@ -143,7 +142,7 @@ module _ (p : ℕ → Bool) (no : p 44 ≡ false) (least most base naught : ℕ)
   whole e = field_is line at ∙ front-field p no most (drop at line) (behind e)
 
   pub taken-over : is_end (drop run.end line) ≡ false → {n : ℕ} → n ≡ at + index_of 44 (drop at line)
-      → record { number = Bad; next = n + 1 } ≡ taken_as (read_as p least most base naught (field_at line at)) line at
+      → record { number = None; next = n + 1 } ≡ taken_as (read_as p least most base naught (field_at line at)) line at
   taken-over e {n} f =
       let next : n + 1 ≡ at + length (field_at line at) + 1 = omega (arith, field-size line at) in
       let over : (leb (length (field_at line at)) most && all p (field_at line at)) ≡ false = rw (field_is line at) (front-over p no most (drop at line) (behind e)) in
@@ -156,23 +155,23 @@ module _ (p : ℕ → Bool) (no : p 44 ≡ false) (least most base naught : ℕ)
     next-is : run.end + 1 ≡ at + length (field_at line at) + 1
     next-is = omega (arith, run_end, size)
 
-    pub taken-short : run.end < at + least → record { number = Bad; next = run.end + 1 } ≡ taken_as (read_as p least most base naught (field_at line at)) line at
+    pub taken-short : run.end < at + least → record { number = None; next = run.end + 1 } ≡ taken_as (read_as p least most base naught (field_at line at)) line at
     taken-short h = λ i. record { number = read_short p least most base naught (field_at line at) (omega (arith, run_end, size)) i; next = next-is i }
 
-    pub taken_is : at + least ≤ run.end → record { number = Is run.value; next = run.end + 1 } ≡ taken_as (read_as p least most base naught (field_at line at)) line at
+    pub taken_is : at + least ≤ run.end → record { number = Some run.value; next = run.end + 1 } ≡ taken_as (read_as p least most base naught (field_at line at)) line at
     taken_is h = λ i. record {
-      number = (ap Is (run_value ∙ ap (numeral base naught) (sym (whole ends))) ∙ read-front p least most base naught (field_at line at) (drop at line) (whole ends) (omega (arith, run_end, size))) i;
+      number = (ap Some (run_value ∙ ap (numeral base naught) (sym (whole ends))) ∙ read-front p least most base naught (field_at line at) (drop at line) (whole ends) (omega (arith, run_end, size))) i;
       next = next-is i;
     }
 
 -- a run over a whole field: it stops before its end, or it has read it
 module _ (p : ℕ → Bool) (least most base naught : ℕ) (s : List ℕ) {run : Run} (is : run ≡ run_read p base naught (take most s) 0) where
-  pub field-stops : run.end < length s → Bad ≡ read_as p least most base naught s
+  pub field-stops : run.end < length s → None ≡ read_as p least most base naught s
   unfolding run_read
   field-stops h = read-over p least most base naught s (front-part p most s (omega (arith, ap (λ (r : Run). r.end) is)))
 
-  pub field-read : least ≤ length s → length s ≤ run.end → Is run.value ≡ read_as p least most base naught s
+  pub field-read : least ≤ length s → length s ≤ run.end → Some run.value ≡ read_as p least most base naught s
   unfolding run_read
   field-read h k =
       let full = front-full p most s (omega (arith, ap (λ (r : Run). r.end) is)) in
-      ap Is (ap (λ (r : Run). r.value) is ∙ ap (numeral base naught) full) ∙ read-front p least most base naught s s (sym full) h
+      ap Some (ap (λ (r : Run). r.value) is ∙ ap (numeral base naught) full) ∙ read-front p least most base naught s s (sym full) h

@@ -6,34 +6,33 @@ use mathlib.Core.Path.{◌≡◌, refl}
 use mathlib.Core.List.{List, [], ◌∷◌, map}
 use Rattle.text.specs.Text.{bytes, all, onto, pieces, lines, fields, made, numeral, field_number, name_of}
 use Rattle.text.specs.Digits.{digits_up_to, name_bytes, decimal}
-use Rattle.text.specs.declared.Number.{Number}
-use Rattle.text.specs.declared.Number.TheVariants.{Is, Bad}
+use Rattle.std.specs.Prelude.{Option, Some, None}
 
 record Row : Type 0 where
   text : String
   lines : List (List ℕ)
   fields : List (List ℕ)
-  number : Number
-  name : Number
+  number : Option ℕ
+  name : Option ℕ
 
 -- what the definitions say of a text, with names of up to 8 bytes
 abbrev read : String → Row
 read t = record { text = t; lines = lines (bytes t); fields = fields (bytes t); number = field_number (bytes t); name = name_of 0 8 (bytes t) }
 
-abbrev row : String → List String → List String → Number → Number → Row
+abbrev row : String → List String → List String → Option ℕ → Option ℕ → Row
 row t ls fs n m = record { text = t; lines = map bytes ls; fields = map bytes fs; number = n; name = m }
 
 -- a text that is no number and no name
 abbrev text : String → List String → List String → Row
-text t ls fs = row t ls fs Bad Bad
+text t ls fs = row t ls fs None None
 
 -- a text that is one line and one field
-abbrev word : String → Number → Number → Row
+abbrev word : String → Option ℕ → Option ℕ → Row
 word t n m = row t (t ∷ []) (t ∷ []) n m
 
 abbrev rows : List Row
 rows =
-    row "" [] ("" ∷ []) Bad (Is 0)
+    row "" [] ("" ∷ []) None (Some 0)
     ∷ text "\n" ("" ∷ []) ("\n" ∷ [])
     ∷ text "a\n" ("a" ∷ []) ("a\n" ∷ [])
     ∷ text "a\n\n" ("a" ∷ "" ∷ []) ("a\n\n" ∷ [])
@@ -42,19 +41,19 @@ rows =
     ∷ text "," ("," ∷ []) ("" ∷ "" ∷ [])
     ∷ text "a,b," ("a,b," ∷ []) ("a" ∷ "b" ∷ "" ∷ [])
     ∷ text ",,a" (",,a" ∷ []) ("" ∷ "" ∷ "a" ∷ [])
-    ∷ word "x" Bad Bad
-    ∷ word "T\r" Bad Bad
-    ∷ word "0" (Is 0) (Is 48)
-    ∷ word "007" (Is 7) (Is 0x303037)
-    ∷ word "000000000009" (Is 9) Bad
-    ∷ word "999999999999" (Is 999_999_999_999) Bad
-    ∷ word "0000000000001" Bad Bad
-    ∷ word "12a" Bad Bad
-    ∷ word "-1" Bad Bad
-    ∷ word "AB12" Bad (Is 0x41423132)
-    ∷ word "ZZZZZZZZ" Bad (Is 0x5A5A5A5A5A5A5A5A)
-    ∷ word "ABCDEFGHI" Bad Bad
-    ∷ word "A B" Bad Bad
+    ∷ word "x" None None
+    ∷ word "T\r" None None
+    ∷ word "0" (Some 0) (Some 48)
+    ∷ word "007" (Some 7) (Some 0x303037)
+    ∷ word "000000000009" (Some 9) None
+    ∷ word "999999999999" (Some 999_999_999_999) None
+    ∷ word "0000000000001" None None
+    ∷ word "12a" None None
+    ∷ word "-1" None None
+    ∷ word "AB12" None (Some 0x41423132)
+    ∷ word "ZZZZZZZZ" None (Some 0x5A5A5A5A5A5A5A5A)
+    ∷ word "ABCDEFGHI" None None
+    ∷ word "A B" None None
     ∷ []
 
 right : map (λ r. read r.text) rows ≡ rows

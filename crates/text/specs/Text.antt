@@ -1,9 +1,7 @@
 -- Bytes, the pieces of a text between separators, names and numbers, as lists. Assumes nothing.
-use Rattle.std.specs.Prelude.{ℕ, zero, suc, ◌+◌, ◌-◌, ◌*◌, ◌^◌, Bool, true, cond, ◌&&◌, ◌||◌, List, [], ◌∷◌, length, get_or, drop, eqb, leb}
+use Rattle.std.specs.Prelude.{ℕ, zero, suc, ◌+◌, ◌-◌, ◌*◌, ◌^◌, Bool, true, cond, ◌&&◌, ◌||◌, List, [], ◌∷◌, length, get_or, drop, eqb, leb, Option, Some, None}
 use Prim.Native.Char.{code}
 use Prim.Native.String.{String, [] as nothing, ◌∷◌ as then}
-use Rattle.text.specs.declared.Number.{Number}
-use Rattle.text.specs.declared.Number.TheVariants.{Is, Bad}
 
 -- the bytes of a text of ASCII letters
 abbrev pub bytes : String → List ℕ
@@ -80,9 +78,9 @@ abbrev pub name_number : List ℕ → ℕ
 name_number s = numeral 256 0 s
 
 -- a field of digits as its number
-unfoldable pub field_number : List ℕ → Number
-field_number f = cond (is_number f) (Is (value f)) Bad
+unfoldable pub field_number : List ℕ → Option ℕ
+field_number f = cond (is_number f) (Some (value f)) None
 
 -- a field that holds a name as that name's number
-unfoldable pub name_of : ℕ → ℕ → List ℕ → Number
-name_of least most f = cond (is_name least most f) (Is (name_number f)) Bad
+unfoldable pub name_of : ℕ → ℕ → List ℕ → Option ℕ
+name_of least most f = cond (is_name least most f) (Some (name_number f)) None

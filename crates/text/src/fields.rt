@@ -4,12 +4,12 @@ ghost use Rattle.laws.specs.Lists.{same};
 ghost use Rattle.text.specs.Text.{all, is_name_byte, is_digit, name_of, field_number};
 ghost use Rattle.text.specs.Inner.Taking.{field_at, Near, run_read, is_end, is_no_comma, taken_as};
 
-use crate::{Number, find};
+use crate::find;
 
 // What a field is read as, and the place after it and its comma.
 #[derive(Clone, Copy)]
 pub struct Taken {
-    pub number: Number,
+    pub number: Option<u64>,
     pub next: usize,
 }
 
@@ -99,18 +99,18 @@ pub fn name_at(line: &[u8], at: usize, least: usize, most: usize) -> Taken
     let end = run.end;
     if !is_end(line, end) {
         return Taken {
-            number: Number::Bad,
+            number: None,
             next: find(line, at, b',') + 1,
         };
     }
     if end < at + least {
         return Taken {
-            number: Number::Bad,
+            number: None,
             next: end + 1,
         };
     }
     Taken {
-        number: Number::Is(run.value),
+        number: Some(run.value),
         next: end + 1,
     }
 }
@@ -124,18 +124,18 @@ pub fn digits_at(line: &[u8], at: usize) -> Taken
     let end = run.end;
     if !is_end(line, end) {
         return Taken {
-            number: Number::Bad,
+            number: None,
             next: find(line, at, b',') + 1,
         };
     }
     if end == at {
         return Taken {
-            number: Number::Bad,
+            number: None,
             next: end + 1,
         };
     }
     Taken {
-        number: Number::Is(run.value),
+        number: Some(run.value),
         next: end + 1,
     }
 }

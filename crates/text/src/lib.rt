@@ -11,13 +11,6 @@ mod fields;
 use fields::name_run;
 pub use fields::{Taken, digits_at, is_field, name_at};
 
-// What a field is read as: a number, or nothing that may stand there.
-#[derive(Clone, Copy)]
-pub enum Number {
-    Is(u64),
-    Bad,
-}
-
 // The place of the first b from a place on, or the end.
 pub fn find(s: &[u8], from: usize, b: u8) -> usize
     ensures { result ≡ from + index_of b (drop from s.now) }
@@ -77,29 +70,29 @@ pub fn field_at(line: &[u8], at: usize) -> &[u8]
 }
 
 // The number of a name of least to most bytes.
-fn name(f: &[u8], least: usize, most: usize) -> Number
+fn name(f: &[u8], least: usize, most: usize) -> Option<u64>
     requires { most ≤ 8 }
     ensures { result ≡ name_of least most f.now }
 {
     let run = name_run(f, 0, most);
     if f.len() < least {
-        return Number::Bad;
+        return None;
     }
     if run.end < f.len() {
-        return Number::Bad;
+        return None;
     }
-    Number::Is(run.value)
+    Some(run.value)
 }
 
 // The number of a firm's name.
-pub fn firm_name(f: &[u8]) -> Number
+pub fn firm_name(f: &[u8]) -> Option<u64>
     ensures { result ≡ name_of 1 4 f.now }
 {
     name(f, 1, 4)
 }
 
 // The number of a root's name, 0 where the field is empty.
-pub fn root_name(f: &[u8]) -> Number
+pub fn root_name(f: &[u8]) -> Option<u64>
     ensures { result ≡ name_of 0 6 f.now }
 {
     name(f, 0, 6)

@@ -9,7 +9,7 @@ use lib.Seq.{take-length, sets}
 use lib.Dec.{lit<}
 use borrow.Author.Tests.{ne_eqb, le-ltb, lt-ltb, le-leb, lt-leb}
 use Rattle.text.specs.Text.{index_of, made, name_of}
-use Rattle.text.specs.declared.Number.TheVariants.{Is}
+use Rattle.std.specs.Prelude.{Some}
 use Rattle.text.proofs.Written.{sets-front}
 use Rattle.rules.specs.declared.Rule.{Rule}
 use Rattle.machine.specs.State.{roots_in, rules_in}
@@ -58,11 +58,11 @@ module _ (xs : List ℕ) (ready : memory_refusal xs ≡ 0) where
           let all : 4 + roots - 4 ≡ get_or xs 3 0 = omega (arith, roots-are, laid-roots (laid xs ready)) in
           rw (is, all, laid-names (laid xs ready))
 
-      pub place-known : root < roots → Root root ≡ found_root (decode xs).part.profile.roots (Is name)
+      pub place-known : root < roots → Root root ≡ found_root (decode xs).part.profile.roots (Some name)
       unfolding found_root roots_in
       place-known h = rw (place_is, ← roots-are, lt-ltb _ _ h)
 
-      pub place-unknown : roots ≤ root → NotFound 13 ≡ found_root (decode xs).part.profile.roots (Is name)
+      pub place-unknown : roots ≤ root → NotFound 13 ≡ found_root (decode xs).part.profile.roots (Some name)
       unfolding found_root roots_in
       place-unknown h = rw (place_is, ← roots-are, le-ltb _ _ h)
 

@@ -1,8 +1,6 @@
 -- What is answered of a unit's profile: a root's number by its name, a root's name by its number, a rule by its number, and the whole as text. Assumes nothing.
-use Rattle.std.specs.Prelude.{ℕ, ◌+◌, ◌*◌, cond, List, ◌++◌, length, get_or, drop, leb, ltb, eqb}
+use Rattle.std.specs.Prelude.{ℕ, ◌+◌, ◌*◌, cond, List, ◌++◌, length, get_or, drop, leb, ltb, eqb, Option, Some, None}
 use Rattle.text.specs.Text.{index_of, name_of}
-use Rattle.text.specs.declared.Number.{Number}
-use Rattle.text.specs.declared.Number.TheVariants.{Is, Bad}
 use Rattle.rules.specs.declared.Scope.{Scope}
 use Rattle.rules.specs.declared.Scope.TheVariants.{EveryFill, WholeRoot, OneUnit}
 use Rattle.rules.specs.declared.Kind.{Kind}
@@ -29,9 +27,9 @@ unfoldable pub asked : {A : Type 0} → List ℕ → (ℕ → A) → (Profile �
 asked xs refused answer = cond (eqb (memory_refusal xs) 0) (answer (decode xs).part.profile) (refused (memory_refusal xs))
 
 -- the place of a name among the roots, 13 where it does not stand there; bytes that are no name of 1 to 6 capitals or digits stand nowhere
-unfoldable pub found_root : List ℕ → Number → Found
-found_root roots (Is name) = cond (ltb (index_of name roots) (length roots)) (Root (index_of name roots)) (NotFound 13)
-found_root roots Bad = NotFound 13
+unfoldable pub found_root : List ℕ → Option ℕ → Found
+found_root roots (Some name) = cond (ltb (index_of name roots) (length roots)) (Root (index_of name roots)) (NotFound 13)
+found_root roots None = NotFound 13
 
 unfoldable pub root_named : List ℕ → List ℕ → Found
 root_named xs name = asked xs NotFound (λ p. found_root p.roots (name_of 1 6 name))

@@ -1,8 +1,7 @@
 // The public calls that read an armed unit's profile: a root's number by its name, a root's name by its number, a rule by its number, and the whole as text.
 #![tactic(auto)]
 
-ghost use Rattle.std.specs.Prelude.{◌≡◌, ◌+◌, ◌≤◌};
-ghost use Rattle.text.specs.declared.Number.TheVariants.{Is};
+ghost use Rattle.std.specs.Prelude.{◌≡◌, ◌+◌, ◌≤◌, Some};
 ghost use Rattle.packing.specs.RulePlace.{limit_number, measure_number, window_number};
 ghost use Rattle.state.specs.State.{decode};
 ghost use Rattle.calls.specs.Calls.{memory_refusal};
@@ -11,7 +10,6 @@ ghost use Rattle.views.specs.Views.{found_root, root_named, root_name, root_name
 
 use calls::Wording;
 use rules::{Kind, Limit, Rule, Scope};
-use text::Number;
 
 // What a name is answered: the number of its root, or a refusal.
 #[derive(Clone, Copy)]
@@ -44,7 +42,7 @@ pub enum Listing {
 // The root of a name that came as one number.
 fn root_of(m: &[u64], name: u64) -> Found
     requires { memory_refusal m.now ≡ 0 }
-    ensures { result ≡ found_root (decode m.now).part.profile.roots (Is name) }
+    ensures { result ≡ found_root (decode m.now).part.profile.roots (Some name) }
 {
     let roots = state::roots_in(m);
     let end = state::NAMES + roots as usize;
@@ -68,8 +66,8 @@ pub fn root_named(m: &[u64], name: &[u8]) -> Found
     }
     let number = text::root_name(name);
     match number {
-        Number::Is(n) => root_of(m, n),
-        Number::Bad => Found::Refused(13),
+        Some(n) => root_of(m, n),
+        None => Found::Refused(13),
     }
 }
 

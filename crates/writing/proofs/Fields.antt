@@ -20,13 +20,12 @@ use Rattle.rules.specs.declared.Limit.{Limit}
 use Rattle.rules.specs.declared.Limit.TheVariants.{Notional, Volume, Count}
 use Rattle.rules.specs.declared.Rule.{Rule}
 use Rattle.text.specs.Text.{bytes, all, made, numeral, is_name_byte, is_digit, field_number, name_of}
-use Rattle.text.specs.declared.Number.TheVariants.{Is as Read}
+use Rattle.std.specs.Prelude.{Some}
 use Rattle.text.specs.Digits.{name_bytes, decimal}
 use Rattle.text.proofs.Decimal.{decimal-digits, decimal-upto, decimal-some, decimal-read}
 use Rattle.line.specs.Line.{type_of, is_absolute, limits_of, limit_of, time_of, letter_of, level_clash, unit_clash, scope_of}
 use Rattle.line.specs.declared.LimitType.{LimitType}
 use Rattle.line.specs.declared.LimitType.TheVariants.{RateNtnl, RateVol, RateCount, AbsNtnl, AbsVol, AbsCount}
-use Rattle.line.specs.declared.TypeRead.TheVariants.{Known}
 use Rattle.packing.specs.RulePlace.{limit_number, window_number}
 use Rattle.rules.specs.Valid.{is_limit, is_kind, is_scope, is_rule, windows}
 use Rattle.given.specs.Names.{is_name_number}
@@ -83,7 +82,7 @@ type_is Absolute (Count l) = AbsCount
 
 pub record TypeFacts (kind : Kind) (limit : Limit) : Type 0 where
   pub plain : is_field (type_name kind limit) ≡ true
-  pub read : type_of (type_name kind limit) ≡ Known (type_is kind limit)
+  pub read : type_of (type_name kind limit) ≡ Some (type_is kind limit)
   pub absolute : is_absolute (type_is kind limit) ≡ not (is_rate kind)
   pub range : is_in (limits_of (type_is kind limit)) (limit_number limit) ≡ is_limit limit
   pub back : limit_of (type_is kind limit) (limit_number limit) ≡ limit
@@ -101,7 +100,7 @@ type-facts Absolute (Count l) = search
 pub record NumberFacts (text : List ℕ) (n : ℕ) : Type 0 where
   pub plain : is_field text ≡ true
   pub some : 0 < length text
-  pub read : field_number text ≡ Read n
+  pub read : field_number text ≡ Some n
 
 number-facts : (r : Range) (n : ℕ) → r.most < 10 ^ 12 → is_in r n ≡ true → NumberFacts (decimal n) n
 number-facts r n most h =
@@ -117,7 +116,7 @@ limit-facts (Count l) h = number-facts number_limits l.0 (lit< tt) h
 
 pub record WindowFacts (kind : Kind) : Type 0 where
   pub plain : is_field (window_text kind) ≡ true
-  pub read : time_of (not (is_rate kind)) (window_text kind) ≡ Read (window_number kind)
+  pub read : time_of (not (is_rate kind)) (window_text kind) ≡ Some (window_number kind)
   pub range : ltb 86_400_000 (window_number kind) ≡ false
   pub back : cond (not (is_rate kind)) Absolute (Rate (max 100 (window_number kind))) ≡ kind
 
@@ -193,7 +192,7 @@ letter-facts roots (OneUnit root unit) h =
 
 pub record RootFacts (text : List ℕ) (name : ℕ) (every : Bool) : Type 0 where
   pub plain : is_field text ≡ true
-  pub read : name_of 0 6 text ≡ Read name
+  pub read : name_of 0 6 text ≡ Some name
   pub level : level_clash name every ≡ false
 
 name-facts : (name : ℕ) → is_name_number 1 6 name ≡ true → RootFacts (name_bytes name) name false

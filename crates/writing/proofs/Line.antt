@@ -9,11 +9,9 @@ use borrow.Author.Tests.{le-leb, eq-eqb}
 use native.Mathlib.Omega.{arith}
 use Rattle.rules.specs.declared.Rule.{Rule}
 use Rattle.text.specs.Text.{all, fields, field}
-use Rattle.text.specs.declared.Number.TheVariants.{Is as Read}
+use Rattle.std.specs.Prelude.{Some, Ok}
 use Rattle.line.specs.Line.{is_absolute, limit_of, kind_of, time_of, firm_field, type_field, root_field, limit_field, is_firm_level, call_put, month, malformed, other_firm, out_of_range, level_clash, unit_clash, fault_of, scope_of, rule_of, line_of}
 use Rattle.line.specs.declared.LimitType.{LimitType}
-use Rattle.line.specs.declared.TypeRead.TheVariants.{Known}
-use Rattle.line.specs.declared.Line.TheVariants.{Is}
 use Rattle.laws.specs.Folds.{every}
 use Rattle.rules.specs.Valid.{is_rule}
 use Rattle.packing.specs.RulePlace.{limit_number, window_number}
@@ -29,11 +27,11 @@ use Rattle.writing.proofs.Fields.{TypeFacts, RootFacts, NumberFacts, WindowFacts
 pub record Says (line : List ℕ) (firm : ℕ) (type : LimitType) (root limit time : ℕ) (level : Bool) (call months : ℕ) : Type 0 where
   pub enough : 4 ≤ length (fields line)
   pub few : length (fields line) ≤ 8
-  pub firm-is : firm_field line ≡ Read firm
-  pub type-is : type_field line ≡ Known type
-  pub root_is : root_field line ≡ Read root
-  pub limit_is : limit_field line ≡ Read limit
-  pub time-is : time_of (is_absolute type) (field line 4) ≡ Read time
+  pub firm-is : firm_field line ≡ Some firm
+  pub type-is : type_field line ≡ Some type
+  pub root_is : root_field line ≡ Some root
+  pub limit_is : limit_field line ≡ Some limit
+  pub time-is : time_of (is_absolute type) (field line 4) ≡ Some time
   pub level-is : is_firm_level line ≡ level
   pub call-is : call_put line ≡ call
   pub month-is : month line ≡ months
@@ -51,7 +49,7 @@ module _ {line : List ℕ} {firm : ℕ} {type : LimitType} {root limit time : �
   same-firm = rw (s.firm-is, eq-eqb firm firm refl)
 
   pub line-of : leb call 2 ≡ true → leb months 2 ≡ true → out_of_range type limit time ≡ false → level_clash root level ≡ false → unit_clash level call months ≡ false
-      → line_of firm line ≡ Is (record { scope = scope_of root level call months; kind = kind_of type time; limit = limit_of type limit })
+      → line_of firm line ≡ Ok (record { scope = scope_of root level call months; kind = kind_of type time; limit = limit_of type limit })
   unfolding line_of fault_of rule_of
   line-of c m o l u = rw (well-formed c m, same-firm, s.type-is, s.limit_is, s.time-is, s.root_is, s.level-is, s.call-is, s.month-is, o, l, u)
 
@@ -117,7 +115,7 @@ module _ (firm : ℕ) (roots : List ℕ) (rule : Rule) (f : is_name_number 1 4 f
     month-is = rw (line-field 7) letters.month-read;
   }
 
-  pub line-firm : firm_field (line_text firm roots rule) ≡ Read firm
+  pub line-firm : firm_field (line_text firm roots rule) ≡ Some firm
   line-firm = line-says.firm-is
 
   in-range : out_of_range (type_is rule.kind rule.limit) (limit_number rule.limit) (window_number rule.kind) ≡ false
@@ -128,7 +126,7 @@ module _ (firm : ℕ) (roots : List ℕ) (rule : Rule) (f : is_name_number 1 4 f
   unfolding kind_of
   kind-back = rw type.absolute window.back
 
-  pub line-back : line_of firm (line_text firm roots rule) ≡ Is (with_name roots rule)
+  pub line-back : line_of firm (line_text firm roots rule) ≡ Ok (with_name roots rule)
   line-back =
       line-of line-says letters.call-few letters.month-few in-range root.level letters.units
       ∙ rw (letters.back, kind-back, type.back)

@@ -11,7 +11,8 @@ use Rattle.laws.proofs.Tests.{and_i, tests}
 use Rattle.measures.specs.Ranges.{◌to◌, is_in}
 use Rattle.rules.specs.declared.Rule.{Rule}
 use Rattle.text.specs.Text.{lines}
-use Rattle.line.specs.Line.{the_number, firm_in}
+use Rattle.std.specs.Prelude.{Option, unwrap_or}
+use Rattle.line.specs.Line.{firm_in}
 use Rattle.laws.specs.Folds.{every}
 use Rattle.rules.specs.Valid.{is_rule}
 use Rattle.machine.specs.State.{Profile}
@@ -74,7 +75,7 @@ module _ (p : Profile) (m : MadeFacts p) where
           → firm_in (get_or (map (line_text p.firm p.roots) rules) 0 []) ≡ p.firm
       go [] l h = absurd (omega arith)
       go (rule ∷ rules) l h =
-          ap the_number (line-firm p.firm p.roots rule m.firm-ok m.roots-ok (every_first (is_rule (length p.roots)) rule rules h))
+          ap (λ (r : Option ℕ). unwrap_or r 0) (line-firm p.firm p.roots rule m.firm-ok m.roots-ok (every_first (is_rule (length p.roots)) rule rules h))
 
 -- the same profile is read
 pub read_back : (p : Profile) → is_made p ≡ true → outcome_of (text_of p) ≡ record { profile = p; refusal = 0; line = 0 }

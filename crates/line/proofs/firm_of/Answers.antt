@@ -5,4 +5,4 @@ use Rattle.line.proofs.firm_of.Goals as goal
 pub returns : goal.returns
 returns c =
     let line = c.args.line.now in
-    rw (c.number_in.ensures, c.firm_name.ensures, cursor-field (cursor-start line) c.field_at.ensures)
+    rw (c.unwrap_or.ensures, c.firm_name.ensures, cursor-field (cursor-start line) c.field_at.ensures)

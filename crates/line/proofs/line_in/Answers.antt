@@ -30,13 +30,13 @@ returns-in_default c =
 pub returns-then-tail-gt-WINDOW_MOST : goal.returns-then-tail-gt-WINDOW_MOST
 unfolding said out_of_range
 returns-then-tail-gt-WINDOW_MOST c =
-    let limit = limit_is _ _ (sym c.limit.ensures ∙ c.in-Is.is) in
+    let limit = limit_is _ _ (sym c.limit.ensures ∙ c.in-Some.is) in
     rw (whole (goal.at.returns-then-tail-gt-WINDOW_MOST c).After-read_tail-tail, c.if-not-head-tail.false, eq-eqb _ _ c.if-head-firm.false, limit.0, lt-ltb _ _ c.if-tail-gt-WINDOW_MOST.true)
 
 pub returns-then-level_clash : goal.returns-then-level_clash
 unfolding said out_of_range
 returns-then-level_clash c =
-    let limit = limit_is _ _ (sym c.limit.ensures ∙ c.in-Is.is) in
+    let limit = limit_is _ _ (sym c.limit.ensures ∙ c.in-Some.is) in
     rw (
       whole (goal.at.returns-then-level_clash c).After-read_tail-tail,
       c.if-not-head-tail.false,
@@ -49,7 +49,7 @@ returns-then-level_clash c =
 pub returns-then-unit_clash : goal.returns-then-unit_clash
 unfolding said out_of_range
 returns-then-unit_clash c =
-    let limit = limit_is _ _ (sym c.limit.ensures ∙ c.in-Is.is) in
+    let limit = limit_is _ _ (sym c.limit.ensures ∙ c.in-Some.is) in
     rw (
       whole (goal.at.returns-then-unit_clash c).After-read_tail-tail,
       c.if-not-head-tail.false,
@@ -70,7 +70,7 @@ scope_of-requires c =
 pub returns : goal.returns
 unfolding said out_of_range
 returns c =
-    let limit = limit_is _ _ (sym c.limit.ensures ∙ c.in-Is.is) in
+    let limit = limit_is _ _ (sym c.limit.ensures ∙ c.in-Some.is) in
     rw (
       whole (goal.at.returns c).After-read_tail-tail,
       c.if-not-head-tail.false,

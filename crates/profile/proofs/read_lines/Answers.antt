@@ -15,22 +15,22 @@ overflow_add-end c = omega (arith, end-within c.loop-at.invariant c.loop-at-test
 pub overflow_add-number : goal.overflow_add-number
 overflow_add-number c = let held = c.loop-at.invariant.held in omega (arith, held.so_far.rules-are, held.lawful.rules-most)
 
-pub shape_of-roots-in-Refused : goal.shape_of-roots-in-Refused
-shape_of-roots-in-Refused c =
+pub shape_of-roots-in-Err : goal.shape_of-roots-in-Err
+shape_of-roots-in-Err c =
     omega (arith, roots-long c.loop-at.invariant.held, roots-long c.requires.1)
 
-pub shape_of-rules-in-Refused : goal.shape_of-rules-in-Refused
-shape_of-rules-in-Refused c =
+pub shape_of-rules-in-Err : goal.shape_of-rules-in-Err
+shape_of-rules-in-Err c =
     omega (arith, rules-long c.loop-at.invariant.held, rules-long c.requires.1)
 
-pub returns-in-Refused : goal.returns-in-Refused
-returns-in-Refused c =
-    walk-fault c.loop-at.invariant c.loop-at-test.true c.line_from-line.ensures (line-any c.loop-at.invariant c.loop-at-test.true c.line_from-line.ensures c.requires.0 ∙ (sym c.read_line.ensures ∙ c.in-Refused.is))
+pub returns-in-Err : goal.returns-in-Err
+returns-in-Err c =
+    rw c.number.ensures (walk-fault c.loop-at.invariant c.loop-at-test.true c.line_from-line.ensures (line-any c.loop-at.invariant c.loop-at-test.true c.line_from-line.ensures c.requires.0 ∙ sym c.in-Err.ensures))
 
 pub take_in-requires : goal.take_in-requires
 take_in-requires c =
     let w = c.loop-at.invariant in
-    ((w.profile, w.held), said _ _ (line-any c.loop-at.invariant c.loop-at-test.true c.line_from-line.ensures c.requires.0 ∙ (sym c.read_line.ensures ∙ c.in-Is.is)))
+    ((w.profile, w.held), said _ _ (line-any c.loop-at.invariant c.loop-at-test.true c.line_from-line.ensures c.requires.0 ∙ sym c.in-Ok.ensures))
 
 pub shape_of-roots-in-None : goal.shape_of-roots-in-None
 shape_of-roots-in-None c =
@@ -47,7 +47,7 @@ shape_of-counts-in-None c =
 pub returns-in-None : goal.returns-in-None
 returns-in-None c =
     let w = c.loop-at.invariant in
-    walk-many w c.loop-at-test.true c.line_from-line.ensures (line-any c.loop-at.invariant c.loop-at-test.true c.line_from-line.ensures c.requires.0 ∙ (sym c.read_line.ensures ∙ c.in-Is.is)) _
+    walk-many w c.loop-at-test.true c.line_from-line.ensures (line-any c.loop-at.invariant c.loop-at-test.true c.line_from-line.ensures c.requires.0 ∙ sym c.in-Ok.ensures) _
     c.in-None.is (c.take_in.ensures w.profile w.held)
 
 pub overflow_add-at : goal.overflow_add-at
@@ -59,7 +59,7 @@ loop-at-smaller c = omega (arith, c.loop-at-test.true)
 pub loop-at-preserved : goal.loop-at-preserved
 loop-at-preserved c =
     let w = c.loop-at.invariant in
-    walk-next w c.loop-at-test.true c.line_from-line.ensures (line-any c.loop-at.invariant c.loop-at-test.true c.line_from-line.ensures c.requires.0 ∙ (sym c.read_line.ensures ∙ c.in-Is.is)) _
+    walk-next w c.loop-at-test.true c.line_from-line.ensures (line-any c.loop-at.invariant c.loop-at-test.true c.line_from-line.ensures c.requires.0 ∙ sym c.in-Ok.ensures) _
     c.in-Some.is (c.take_in.ensures w.profile w.held)
 
 pub shape_of-roots : goal.shape_of-roots

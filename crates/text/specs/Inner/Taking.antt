@@ -1,7 +1,6 @@
 -- What the functions answer that read the fields of a line where they stand. Assumes nothing.
-use Rattle.std.specs.Prelude.{ℕ, ◌+◌, ◌≤◌, ◌<◌, ◌≡◌, Bool, true, cond, not, List, [], ◌∷◌, length, get_or, drop, eqb}
+use Rattle.std.specs.Prelude.{ℕ, ◌+◌, ◌≤◌, ◌<◌, ◌≡◌, Bool, true, cond, not, List, [], ◌∷◌, length, get_or, drop, eqb, Option}
 use Rattle.text.specs.Text.{fields, fields_from, numeral}
-use Rattle.text.specs.declared.Number.{Number}
 use Rattle.text.specs.declared.fields.Run.{Run}
 use Rattle.text.specs.declared.fields.Taken.{Taken}
 
@@ -37,5 +36,5 @@ abbrev pub is_no_comma : ℕ → Bool
 is_no_comma x = not (eqb x 44)
 
 -- what a field is read as, with the place after the field and its comma
-abbrev pub taken_as : Number → List ℕ → ℕ → Taken
+abbrev pub taken_as : Option ℕ → List ℕ → ℕ → Taken
 taken_as number line at = record { number = number; next = at + length (field_at line at) + 1 }

@@ -14,9 +14,9 @@ returns-then-name-lt1 c = named-empty _ (sym c.memory_refusal-refusal.ensures �
 pub root_of-requires : goal.root_of-requires
 root_of-requires c = sym c.memory_refusal-refusal.ensures ∙ c.if-refusal-ne0.false
 
-pub returns-in-Is : goal.returns-in-Is
-returns-in-Is c = c.root_of.ensures ∙ ap (found_root (decode c.args.m.now).part.profile.roots) (sym c.in-Is.is ∙ c.root_name-number.ensures) ∙ named-is _ (sym c.memory_refusal-refusal.ensures ∙ c.if-refusal-ne0.false) _ c.if-name-lt1.false
+pub returns-in-Some : goal.returns-in-Some
+returns-in-Some c = c.root_of.ensures ∙ ap (found_root (decode c.args.m.now).part.profile.roots) (sym c.in-Some.is ∙ c.root_name-number.ensures) ∙ named-is _ (sym c.memory_refusal-refusal.ensures ∙ c.if-refusal-ne0.false) _ c.if-name-lt1.false
 
-pub returns-in-Bad : goal.returns-in-Bad
+pub returns-in-None : goal.returns-in-None
 unfolding found_root
-returns-in-Bad c = ap (found_root (decode c.args.m.now).part.profile.roots) (sym c.in-Bad.is ∙ c.root_name-number.ensures) ∙ named-is _ (sym c.memory_refusal-refusal.ensures ∙ c.if-refusal-ne0.false) _ c.if-name-lt1.false
+returns-in-None c = ap (found_root (decode c.args.m.now).part.profile.roots) (sym c.in-None.is ∙ c.root_name-number.ensures) ∙ named-is _ (sym c.memory_refusal-refusal.ensures ∙ c.if-refusal-ne0.false) _ c.if-name-lt1.false

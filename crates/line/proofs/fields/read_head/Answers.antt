@@ -39,18 +39,18 @@ returns c =
       well =
           rw (
             there-test limit-place,
-            c.is_read.ensures,
-            c.is_known.ensures,
-            c.is_read-2.ensures,
-            c.is_read-3.ensures,
+            c.is_some.ensures,
+            c.is_some-2.ensures,
+            c.is_some-3.ensures,
+            c.is_some-4.ensures,
             firm-is,
             type-is,
             root_is,
             limit_is,
           );
-      firm = rw (c.number_in.ensures, firm-is);
-      named = rw (c.type_in.ensures, type-is);
-      root = rw (c.number_in-2.ensures, root_is);
-      limit = rw (c.number_in-3.ensures, limit_is);
+      firm = rw (c.unwrap_or.ensures, firm-is);
+      named = rw (c.unwrap_or-2.ensures, type-is);
+      root = rw (c.unwrap_or-3.ensures, root_is);
+      limit = rw (c.unwrap_or-4.ensures, limit_is);
       next = goes-past limit-place _ c.digits_at-limit_field.ensures;
     }

@@ -35,8 +35,8 @@ returns c =
     let call-is = read_here call-place (letter_of 67 80) c.letter_at-call.ensures.0 in
     let month-is = read_here month-place (letter_of 70 84) c.letter_at-month.ensures.0 in
     record {
-      well = rw (gone-test end-place, c.is_read.ensures, time-is, call-is, month-is);
-      time = rw (c.number_in.ensures, time-is);
+      well = rw (gone-test end-place, c.is_some.ensures, time-is, call-is, month-is);
+      time = rw (c.unwrap_or.ensures, time-is);
       firmwide = rw (level-is, letter-one);
       call = call-is;
       month = month-is;
