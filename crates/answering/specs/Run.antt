@@ -83,10 +83,6 @@ record_memory xs s = memory_of xs (read16_of s)
 unfoldable pub record_count : ℕ → ℕ
 record_count bytes = bytes / bytes16 + (bytes % bytes16 + (bytes16 - 1)) / bytes16
 
--- record j of an input: 16 bytes, or what is left of them
-abbrev pub record_at : List ℕ → ℕ → List ℕ
-record_at s j = take bytes16 (drop (j * bytes16) s)
-
 -- the first so many records of an input: 16 bytes each, the last may be shorter
 unfoldable pub first_records : ℕ → List ℕ → List (List ℕ)
 first_records count s = places bytes16 (take bytes16) count s

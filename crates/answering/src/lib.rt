@@ -7,7 +7,7 @@ ghost use Rattle.calls.specs.Calls.{arm_answer, arm_memory, call_answer, call_me
 ghost use Rattle.profile.specs.declared.Reading.TheVariants.{Accepted, Refused as NotArmed};
 ghost use Rattle.records.specs.Event16.{bytes16};
 ghost use Rattle.answering.specs.Lines.{spaced, arm_line, record_line};
-ghost use Rattle.answering.specs.Run.{Line, FitsRoom, Fitted, in_front, opened_of, milliseconds as milliseconds_of, offer_said as offered_of, record_call, record_answer, record_memory, record_at, fitting as fitting_of, taken, memory_after, lines_of, ran_of};
+ghost use Rattle.answering.specs.Run.{Line, FitsRoom, Fitted, in_front, opened_of, milliseconds as milliseconds_of, offer_said as offered_of, record_call, record_answer, record_memory, fitting as fitting_of, taken, memory_after, lines_of, ran_of};
 
 use machine::{Answer, Offer};
 use profile::Reading as Arming;
@@ -18,9 +18,6 @@ pub const SIZE: usize = calls::SIZE;
 
 // How many bytes a record of an input has.
 pub const RECORD_BYTES: usize = records::BYTES16;
-
-// One byte less: any part of a record counts as one.
-const PART: usize = RECORD_BYTES - 1;
 
 // Whether the unit is armed, and how many bytes the line about it has.
 #[derive(Clone, Copy)]
@@ -44,13 +41,11 @@ pub fn put_spaced(numbers: &[u64], room: &mut [u8], at: usize) -> usize
     ensures upper_bound { result ≤ at + length numbers.now * 21 + 1 }
 {
     let mut to = at;
-    let mut i = 0;
-    while i < numbers.len() {
-        room[to] = 32;
-        to = text::put_decimal(numbers[i], room, to + 1);
-        i += 1;
+    for n in numbers {
+        room[to] = b' ';
+        to = text::put_decimal(*n, room, to + 1);
     }
-    room[to] = 10;
+    room[to] = b'\n';
     to + 1
 }
 
@@ -183,24 +178,13 @@ pub fn answer_record(m: &mut [u64], s: &[u8]) -> Answer
     }
 }
 
-// Record j of an input: 16 bytes, or what is left of them.
-fn record_at(s: &[u8], j: usize) -> &[u8]
-    requires { j * bytes16 < length s.now }
-    ensures { result.now ≡ record_at s.now j }
-{
-    let from = j * RECORD_BYTES;
-    let left = s.len() - from;
-    let to = from + numbers::least(left as u64, RECORD_BYTES as u64) as usize;
-    &s[from..to]
-}
-
 // How many records of so many bytes surely find room, from a place on.
+#[tactic(auto, unfolding(crate::specs::Run::fitting, crate::specs::Run::record_count))]
 fn fitting(place: u64, bytes: usize, room: usize) -> usize
     ensures { result ≡ fitting_of place bytes room }
 {
-    let records = bytes / RECORD_BYTES + (bytes % RECORD_BYTES + PART) / RECORD_BYTES;
-    let lines = numbers::least(records as u64, (room / 126) as u64);
-    numbers::least(lines, u64::MAX - place) as usize
+    let lines = bytes.div_ceil(RECORD_BYTES).min(room / 126);
+    lines.min((u64::MAX - place) as usize)
 }
 
 // Answers the records of a piece of input, the first at a place, and writes their lines to the front of a room: as many as surely find room.
@@ -211,12 +195,11 @@ pub fn run(m: &mut [u64], place: u64, s: &[u8], room: &mut [u8]) -> Ran
     ensures room_after { room.new ≡ in_front (lines_of place m.old (taken place s.now (length room.old))) room.old }
 {
     let count = fitting(place, s.len(), room.len());
+    let mut next = place;
     let mut to = 0;
-    let mut j = 0;
-    while j < count {
-        let answer = answer_record(m, record_at(s, j));
-        to = put_line(place + j as u64, answer, room, to);
-        j += 1;
+    for record in s.chunks(RECORD_BYTES).take(count) {
+        to = put_line(next, answer_record(m, record), room, to);
+        next += 1;
     }
     Ran {
         records: count as u64,
