@@ -1,16 +1,14 @@
--- The records of an input as a loop takes them: those from a place on are still to be applied and counted. Assumes nothing.
+-- The records of an input as a loop takes them: those of what is left are still to be applied and counted. Assumes nothing.
 use Prim.Native.Nat.{ℕ, suc, ◌+◌, ◌-◌, ◌*◌, ◌≤◌, ◌<◌, min}
 use mathlib.Core.Path.{◌≡◌, refl, sym, ap, ap₂, ◌∙◌}
 use mathlib.Core.List.{List, [], ◌∷◌, ◌++◌}
-use native.Mathlib.Decide.{dec_le}
 use native.Mathlib.Omega.{arith}
 use lib.ListN.{length, take, drop, length-drop}
-use lib.Seq.{drop-drop}
-use Rattle.laws.proofs.Lists.{ended}
+use Rattle.std.proofs.lemmas.List.{nil_from_length}
 use Rattle.tables.specs.Inner.Tables.{places}
 use Rattle.records.specs.Event16.{bytes16, read16_of}
 use Rattle.answering.specs.Run.{record_count, first_records, records_of}
-use Rattle.answering.proofs.Runs.{sixteen}
+use Rattle.answering.proofs.Runs.{cut}
 use Rattle.answering.proofs.Pieces.{records-append}
 use Rattle.tabled.specs.Tabled.{tabled_memory, account_of, memory_taken, account_taken}
 
@@ -21,60 +19,41 @@ first-record s h =
     let n : record_count (length s) ≡ suc (record_count (length (drop bytes16 s))) = omega (arith, length-drop bytes16 s) in
     rw n
 
-no_record : (s : List ℕ) (at : ℕ) → length s ≤ at → records_of (drop at s) ≡ []
+no_record : (s : List ℕ) → length s ≡ 0 → records_of s ≡ []
 unfolding records_of first_records record_count places
-no_record s at h = rw (ended s at h)
+no_record s h = rw (nil_from_length s h)
 
--- the place after the record at a place
-module _ (s : List ℕ) (at to : ℕ) (h : at < length s) (e : to ≡ at + min (length s - at) bytes16) where
-  record-at : take (to - at) (drop at s) ≡ take bytes16 (drop at s)
-  record-at =
-      let n : to - at ≡ min (length (drop at s)) bytes16 = omega (arith, length-drop at s) in
-      ap (λ (k : ℕ). take k (drop at s)) n ∙ sixteen (drop at s)
-
-  drop-record : drop bytes16 (drop at s) ≡ drop to s
-  drop-record = drop-drop bytes16 at s ∙ go (dec_le (at + bytes16) (length s))
-    where
-      go : Dec (at + bytes16 ≤ length s) → drop (at + bytes16) s ≡ drop to s
-      go (yes k) =
-          let n : at + bytes16 ≡ to = omega arith in
-          ap (λ (k : ℕ). drop k s) n
-      go (no k) = ended s (at + bytes16) (omega arith) ∙ sym (ended s to (omega arith))
-
-  records-on : records_of (drop at s) ≡ take (to - at) (drop at s) ∷ records_of (drop to s)
-  records-on =
-      first-record (drop at s) (omega (arith, length-drop at s))
-      ∙ ap₂ (λ (r rest : List ℕ). r ∷ records_of rest) (sym record-at) drop-record
-
-pub record Taking (s xs was m a : List ℕ) (at : ℕ) : Type 0 where
-  pub within : at ≤ length s
+-- the records of what is left are still to be applied and counted
+pub record Taking (s xs was m a left : List ℕ) : Type 0 where
   pub same : length m ≡ length xs
   pub long : length a ≡ length was
-  pub memory : memory_taken xs was (records_of s) ≡ memory_taken m a (records_of (drop at s))
-  pub account : account_taken xs was (records_of s) ≡ account_taken m a (records_of (drop at s))
+  pub memory : memory_taken xs was (records_of s) ≡ memory_taken m a (records_of left)
+  pub account : account_taken xs was (records_of s) ≡ account_taken m a (records_of left)
 
-pub taking-none : (s xs was : List ℕ) → Taking s xs was xs was 0
-taking-none s xs was = record { within = omega arith; same = refl; long = refl; memory = refl; account = refl }
+pub taking-none : {s left : List ℕ} (xs was : List ℕ) → left ≡ s → Taking s xs was xs was left
+taking-none xs was is = rw is (record { same = refl; long = refl; memory = refl; account = refl })
 
-pub taking-on : {s xs was m a : List ℕ} {at : ℕ} → Taking s xs was m a at → at < length s → (to : ℕ) → to ≡ at + min (length s - at) bytes16
-    → (m' a' : List ℕ) → length m' ≡ length m → length a' ≡ length a → m' ≡ tabled_memory m a (read16_of (take (to - at) (drop at s)))
-    → a' ≡ account_of m a (read16_of (take (to - at) (drop at s))) → Taking s xs was m' a' to
+pub taking-on : {s xs was m a left : List ℕ} → Taking s xs was m a left → (piece rest : List ℕ) → left ≡ piece ++ rest
+    → length piece ≡ min bytes16 (length left) → 0 < length left → (m' a' : List ℕ) → length m' ≡ length m → length a' ≡ length a
+    → m' ≡ tabled_memory m a (read16_of piece) → a' ≡ account_of m a (read16_of piece) → Taking s xs was m' a' rest
 unfolding memory_taken account_taken
-taking-on {s} {xs} {was} {m} {a} {at} w h to e m' a' k l p q =
-    let here = records-on s at to h e in
+taking-on {s} {xs} {was} {m} {a} {left} w piece rest is cuts some m' a' k l p q =
+    let c : (take bytes16 left ≡ piece) × (drop bytes16 left ≡ rest) = cut is cuts in
+    let here : records_of left ≡ piece ∷ records_of rest =
+    first-record left some ∙ ap₂ (λ (r others : List ℕ). r ∷ records_of others) c.0 c.1
+    in
     record {
-      within = omega arith;
       same = k ∙ w.same;
       long = l ∙ w.long;
-      memory = w.memory ∙ ap (memory_taken m a) here ∙ ap₂ (λ (x y : List ℕ). memory_taken x y (records_of (drop to s))) (sym p) (sym q);
-      account = w.account ∙ ap (account_taken m a) here ∙ ap₂ (λ (x y : List ℕ). account_taken x y (records_of (drop to s))) (sym p) (sym q);
+      memory = w.memory ∙ ap (memory_taken m a) here ∙ ap₂ (λ (x y : List ℕ). memory_taken x y (records_of rest)) (sym p) (sym q);
+      account = w.account ∙ ap (account_taken m a) here ∙ ap₂ (λ (x y : List ℕ). account_taken x y (records_of rest)) (sym p) (sym q);
     }
 
-pub taking-end : {s xs was m a : List ℕ} {at : ℕ} → Taking s xs was m a at → length s ≤ at
+pub taking-end : {s xs was m a left : List ℕ} → Taking s xs was m a left → length left ≡ 0
     → (m ≡ memory_taken xs was (records_of s)) × (a ≡ account_taken xs was (records_of s))
 unfolding memory_taken account_taken
-taking-end {s} {xs} {was} {m} {a} {at} w h =
-    let none = no_record s at h in
+taking-end {s} {xs} {was} {m} {a} {left} w h =
+    let none = no_record left h in
     (sym (w.memory ∙ ap (memory_taken m a) none), sym (w.account ∙ ap (account_taken m a) none))
 
 -- ---- an input that comes in pieces

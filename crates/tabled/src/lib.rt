@@ -89,12 +89,8 @@ pub fn run(m: &mut [u64], a: &mut [u64], s: &[u8])
     ensures m_after { m.new ≡ memory_taken m.old a.old (records_of s.now) }
     ensures a_after { a.new ≡ account_taken m.old a.old (records_of s.now) }
 {
-    let mut at = 0;
-    while at < s.len() {
-        let left = s.len() - at;
-        let to = at + numbers::least(left as u64, answering::RECORD_BYTES as u64) as usize;
-        take_record(m, a, &s[at..to]);
-        at = to;
+    for record in s.chunks(answering::RECORD_BYTES) {
+        take_record(m, a, record);
     }
 }
 
@@ -118,12 +114,10 @@ fn put_roots(m: &[u64], a: &[u64], room: &mut [u8]) -> usize
 {
     let roots = state::roots_in(m) as usize;
     let mut to = 0;
-    let mut i = 0;
-    while i < roots {
+    for i in 0..roots {
         let row = i * figures::ROW;
         let end = row + figures::ROW;
         to = put_row(state::name_in(m, i), &a[row..end], room, to);
-        i += 1;
     }
     to
 }

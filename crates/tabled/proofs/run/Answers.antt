@@ -1,34 +1,31 @@
--- `tabled::run` meets its contract: the records from a place on are still to be taken. Assumes nothing.
-use Prim.Native.Nat.{ℕ, ◌+◌}
-use mathlib.Core.Path.{ap}
-use native.Mathlib.Omega.{arith}
+-- `tabled::run` meets its contract: the records of what is left are still to be taken. Assumes nothing.
+use Rattle.std.proofs.Common.{ℕ, ◌≡◌, ◌∙◌, ap, length, min}
+use Rattle.std.specs.Slice.Iter.{chunks_rest, chunks_size}
+use Rattle.records.specs.Event16.{bytes16}
 use Rattle.tabled.proofs.Records.{taking-none, taking-on, taking-end}
 use Rattle.tabled.proofs.run.Goals as goal
 
-pub loop-at-init : goal.loop-at-init
-loop-at-init c = taking-none _ _ _
+pub loop-record-init : goal.loop-record-init
+loop-record-init c =
+    let it = c.into_iter-record-iterator.result in
+    let given = c.into_iter-record-iterator.ensures.into_iter_gives in
+    let size : chunks_size it ≡ bytes16 = rw given c.chunks-record-items.ensures.size in
+    let rest : chunks_rest it ≡ c.args.s.now = rw given c.chunks-record-items.ensures.rest in
+    (size, taking-none _ _ rest)
 
-pub overflow_sub-left : goal.overflow_sub-left
-overflow_sub-left c = omega (arith, c.loop-at-test.true)
-
-pub overflow_add-to : goal.overflow_add-to
-overflow_add-to c = omega (arith, c.least.ensures, c.loop-at-test.true)
-
-pub loop-at-smaller : goal.loop-at-smaller
-loop-at-smaller c = omega (arith, c.least.ensures, c.loop-at-test.true)
-
-pub loop-at-preserved : goal.loop-at-preserved
-loop-at-preserved c =
-    let at = c.loop-at.at in
-    taking-on c.loop-at.invariant c.loop-at-test.true (at + c.least.result) (ap (λ (n : ℕ). at + n) c.least.ensures) c.take_record.new.m c.take_record.new.a c.take_record.auto.m c.take_record.auto.a c.take_record.ensures.m_after c.take_record.ensures.a_after
-
-pub shape_of-m : goal.shape_of-m
-shape_of-m c = c.loop-at.invariant.same
-
-pub shape_of-a : goal.shape_of-a
-shape_of-a c = c.loop-at.invariant.long
+pub loop-record-preserved : goal.loop-record-preserved
+loop-record-preserved c =
+    let before = c.loop-record.invariant in
+    let steps = c.in-Some.ensures.steps in
+    let left = chunks_rest c.loop-record.record-iterator in
+    let cuts : length c.in-Some.record.now ≡ min bytes16 (length left) = steps.1.1 ∙ ap (λ (n : ℕ). min n (length left)) before.0 in
+    (
+      steps.0 ∙ before.0,
+      taking-on before.1 c.in-Some.record.now _ steps.1.0 cuts steps.1.2 c.take_record.new.m c.take_record.new.a c.take_record.auto.m c.take_record.auto.a
+      c.take_record.ensures.m_after c.take_record.ensures.a_after,
+    )
 
 pub returns : goal.returns
 returns c =
-    let d = taking-end c.loop-at.invariant c.loop-at-test.false in
+    let d = taking-end c.loop-record.invariant.1 c.in-None.ensures.steps.1.0 in
     record { m_after = d.0; a_after = d.1 }

@@ -1,11 +1,10 @@
--- `tabled::run` meets its contract: the records from a place on are still to be taken. Assumes nothing.
-use Prim.Native.Nat.{◌-◌}
-use lib.ListN.{length}
+-- `tabled::run` meets its contract: the records of what is left are still to be taken. Assumes nothing.
+use Rattle.std.proofs.Common.{◌≡◌}
+use Rattle.std.specs.Slice.Iter.{chunks_rest, chunks_size}
+use Rattle.records.specs.Event16.{bytes16}
 use Rattle.tabled.proofs.Records.{Taking}
 use Rattle.tabled.proofs.run.Given as goal
 
-abbrev pub invariant-loop-at : goal.invariant-loop-at
-invariant-loop-at l = Taking l.s l.initial.m l.initial.a l.m l.a l.at
-
-abbrev pub decreases-loop-at : goal.decreases-loop-at
-decreases-loop-at l = length l.s - l.at
+abbrev pub invariant-loop-record : goal.invariant-loop-record
+invariant-loop-record l =
+    (chunks_size l.record-iterator ≡ bytes16) × Taking l.s l.initial.m l.initial.a l.m l.a (chunks_rest l.record-iterator)
