@@ -19,7 +19,7 @@ pub const FIRM: usize = 64 * ROW;
 pub const SIZE: usize = FIRM + ROW;
 
 // What no figure may pass, and the most that one event adds to a figure.
-pub const MOST: u64 = TenThousandths::TOTAL_MOST;
+pub const MOST: u64 = measures::TOTAL_MOST;
 
 pub const ADDED_MOST: u64 = TenThousandths::PREMIUM_MOST * Contracts::OFFER_MOST;
 

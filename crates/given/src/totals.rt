@@ -7,7 +7,6 @@ ghost use Rattle.machine.specs.State.{cells_by};
 ghost use Rattle.packing.specs.Gaps.{is_clear};
 ghost use Rattle.given.specs.Parts.{own_hold};
 
-use measures::Contracts;
 use rules::{Kind, Rule, Scope};
 
 // The most that a rule of this kind may have counted in a total: nothing for a rate rule.
@@ -16,7 +15,7 @@ fn total_most(kind: Kind) -> u64
 {
     match kind {
         Kind::Rate(_) => 0,
-        Kind::Absolute => Contracts::TOTAL_MOST,
+        Kind::Absolute => measures::TOTAL_MOST,
     }
 }
 

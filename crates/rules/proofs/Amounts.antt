@@ -1,7 +1,7 @@
 -- Amounts in a limit's measure: their number, and that an amount of that measure is its number in it. Assumes nothing.
 use Prim.Native.Nat.{ℕ}
-use mathlib.Core.Path.{◌≡◌, refl, ap, sym, ◌∙◌}
-use mathlib.Core.Bool.{Bool, true, false, false≢true}
+use mathlib.Core.Path.{◌≡◌, refl}
+use mathlib.Core.Bool.{true, false≢true}
 use Rattle.rules.specs.Amounts.{number_of, amount_in, is_of}
 use Rattle.rules.specs.declared.Limit.{Limit}
 use Rattle.rules.specs.declared.Limit.TheVariants.{Notional, Volume, Count}

@@ -4,10 +4,6 @@ use mathlib.Core.Path.{ap, ◌∙◌}
 use Rattle.rules.specs.Amounts.{number_of, is_of}
 use Rattle.rules.proofs.Amounts.{number_in, of-in}
 use Rattle.rules.proofs.Laws.{added-most}
-use Rattle.rules.proofs.Rule.filled.Reads as reads
-use Rattle.rules.proofs.Rule.filled.Lts as lts
-use Rattle.rules.proofs.Limit.added.Reads as added-reads
-use Rattle.rules.proofs.Limit.sum.Reads as sum-reads
 use Rattle.rules.proofs.Rule.filled.Goals as goal
 
 pub sum-requires : goal.sum-requires
@@ -16,6 +12,3 @@ sum-requires c =
     let more = ap number_of c.added-more.ensures ∙ number_in limit _ in
     let most = added-most limit _ _ c.requires.2 c.requires.3 in
     (c.requires.0, ap (is_of limit) c.added-more.ensures ∙ of-in limit _, omega (arith, more, most))
-
-pub returns : goal.returns
-returns c = rw (c.sum.ensures, c.added-more.ensures, number_in)
