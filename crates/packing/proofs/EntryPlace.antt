@@ -78,6 +78,14 @@ module _ (roots : ℕ) (e : Entry) (few : roots ≤ 64) (h : is_entry roots e �
       let r = entry-ranged roots e h in
       fits (most 0 zero-le tt (most 100_000_000 r.premium.1 tt (most 1_000_000 r.contracts.1 tt done)))
 
+  pub fill_small : (e.time < 134_217_728) × (e.root < 64) × (e.unit < 4)
+  unfolding fill_values Fit
+  fill_small = let f = fill-fit in (f.1.0, f.1.1.0, f.1.1.1.0)
+
+  pub amount_small : (e.premium.0 < 134_217_728) × (e.contracts.0 < 1_048_576)
+  unfolding amount_values Fit
+  amount_small = let f = amount-fit in (f.1.0, f.1.1.0)
+
 -- the values of an entry stand for it
 entry-back : (e : Entry) → entry_from (fill_values e) (amount_values e) ≡ e
 unfolding entry_from fill_values amount_values

@@ -112,6 +112,14 @@ module _ (roots : ℕ) (rule : Rule) (few : roots ≤ 64) (h : is_rule roots rul
       let s = and_r (is_limit rule.limit && is_kind rule.kind) (is_scope roots rule.scope) h in
       scope-fits rule (root-most roots rule.scope few s) (unit-most roots rule.scope s)
 
+  pub limit_small : (limit_number rule.limit < 137_438_953_472) × (window_number rule.kind < 134_217_728)
+  unfolding limit_values Fit
+  limit_small = (limit-fit.0, limit-fit.1.0)
+
+  pub scope_small : (measure_number rule.limit < 4) × (kind_number rule.kind < 2) × (scope_number rule.scope < 4) × (root_number rule.scope < 64) × (unit_number rule.scope < 4)
+  unfolding scope_values Fit
+  scope_small = let f = scope-fit in (f.1.0, f.1.1.0, f.1.1.1.0, f.1.1.1.1.0, f.1.1.1.1.1.0)
+
 -- the values of a rule stand for it
 pub limit-back : (limit : Limit) → limit_from (measure_number limit) (limit_number limit) ≡ limit
 unfolding limit_from

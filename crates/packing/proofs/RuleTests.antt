@@ -25,46 +25,46 @@ zero_test zero = refl
 zero_test (suc n) = rw (lt-leb (suc n) 0 (omega arith), ne_eqb (suc n) 0 (λ e. omega arith))
 
 -- a number lies in a range just if its distance from the least, which wraps below it, is at most the range's width
-pub within-test : (n least most : ℕ) → n < 18_446_744_073_709_551_616 → least ≤ most → most < 18_446_744_073_709_551_616
+pub within_test : (n least most : ℕ) → n < 18_446_744_073_709_551_616 → least ≤ most → most < 18_446_744_073_709_551_616
     → leb (gap_of n least) (most - least) ≡ is_in (least to most) n
 unfolding gap_of
-within-test n least most low some high = go (leb least n) refl (leb n most) refl
+within_test n least most low some high = go (leb least n) refl (leb n most) refl
   where
     go : (x : Bool) → leb least n ≡ x → (y : Bool) → leb n most ≡ y → leb (gap_of n least) (most - least) ≡ (x && y)
     go true e true f = let l = leb-true least n e in let m = leb-true n most f in le-leb (gap_of n least) (most - least) (omega arith)
     go true e false f = let l = leb-true least n e in let m = leb-false n most f in lt-leb (gap_of n least) (most - least) (omega arith)
     go false e y f = let l = leb-false least n e in lt-leb (gap_of n least) (most - least) (omega arith)
 
-pub limit-test : (m n : ℕ) → (leb m 2 && is_in (1 to cond (eqb m 0) 100_000_000_000 1_000_000_000) n) ≡ is_limit_place m n
+pub limit_test : (m n : ℕ) → (leb m 2 && is_in (1 to cond (eqb m 0) 100_000_000_000 1_000_000_000) n) ≡ is_limit_place m n
 unfolding is_limit_place is_limit limit_from
-limit-test zero n = rw (eq-eqb n n refl)
-limit-test (suc zero) n = rw (eq-eqb n n refl)
-limit-test (suc (suc zero)) n = rw (eq-eqb n n refl)
-limit-test (suc (suc (suc m))) n =
+limit_test zero n = rw (eq-eqb n n refl)
+limit_test (suc zero) n = rw (eq-eqb n n refl)
+limit_test (suc (suc zero)) n = rw (eq-eqb n n refl)
+limit_test (suc (suc (suc m))) n =
     let k = suc (suc (suc m)) in
     rw (lt-leb k 2 (omega arith), ne_eqb k 0 (λ e. omega arith), ne_eqb k 1 (λ e. omega arith), ne_eqb k 2 (λ e. omega arith))
 
-pub kind-test : (n w : ℕ) → (leb n 1 && is_in (cond (eqb n 0) 100 0 to cond (eqb n 0) 86_400_000 0) w) ≡ is_kind_place n w
+pub kind_test : (n w : ℕ) → (leb n 1 && is_in (cond (eqb n 0) 100 0 to cond (eqb n 0) 86_400_000 0) w) ≡ is_kind_place n w
 unfolding is_kind_place is_kind kind_from
-kind-test zero w = rw (eq-eqb w w refl)
-kind-test (suc zero) w = rw (le-leb 0 w zero-le, zero_test w, and-true)
-kind-test (suc (suc n)) w =
+kind_test zero w = rw (eq-eqb w w refl)
+kind_test (suc zero) w = rw (le-leb 0 w zero-le, zero_test w, and-true)
+kind_test (suc (suc n)) w =
     let k = suc (suc n) in
     rw (lt-leb k 1 (omega arith), ne_eqb k 0 (λ e. omega arith), ne_eqb k 1 (λ e. omega arith))
 
 -- a scope by its number: every fill, a whole root, and one unit or none of these
 module _ (roots n r u : ℕ) where
-  pub scope-every : n ≡ 0 → (eqb r 0 && eqb u 0) ≡ is_scope_place roots n r u
+  pub scope_every : n ≡ 0 → (eqb r 0 && eqb u 0) ≡ is_scope_place roots n r u
   unfolding is_scope_place is_scope scope_from
-  scope-every e = rw (e, and-true)
+  scope_every e = rw (e, and-true)
 
-  pub scope-whole : n ≡ 1 → (ltb r roots && eqb u 0) ≡ is_scope_place roots n r u
+  pub scope_whole : n ≡ 1 → (ltb r roots && eqb u 0) ≡ is_scope_place roots n r u
   unfolding is_scope_place is_scope scope_from
-  scope-whole e = rw (e, eq-eqb r r refl) (and_comm (ltb r roots) (eqb u 0))
+  scope_whole e = rw (e, eq-eqb r r refl) (and_comm (ltb r roots) (eqb u 0))
 
-  pub scope-unit : (n ≡ 0 → ⊥) → (n ≡ 1 → ⊥) → (eqb n 2 && ltb r roots && leb u 3) ≡ is_scope_place roots n r u
+  pub scope_unit : (n ≡ 0 → ⊥) → (n ≡ 1 → ⊥) → (eqb n 2 && ltb r roots && leb u 3) ≡ is_scope_place roots n r u
   unfolding is_scope_place is_scope scope_from
-  scope-unit e f = rw (ne_eqb n 0 e, ne_eqb n 1 f, eq-eqb r r refl, eq-eqb u u refl, le-leb 0 u zero-le) (go (eqb n 2) (ltb r roots) (leb u 3))
+  scope_unit e f = rw (ne_eqb n 0 e, ne_eqb n 1 f, eq-eqb r r refl, eq-eqb u u refl, le-leb 0 u zero-le) (go (eqb n 2) (ltb r roots) (leb u 3))
     where
       go : (a b c : Bool) → (a && b && c) ≡ (a && true && true && (b && c))
       go true b c = refl
@@ -194,13 +194,13 @@ scope-valid roots scope =
       eq-eqb (unit_number scope) (unit_number scope) refl,
     )
 
-pub rule-valid : (roots : ℕ) (rule : Rule) → let limit = rule.limit in let kind = rule.kind in let scope = rule.scope in
+pub rule_valid : (roots : ℕ) (rule : Rule) → let limit = rule.limit in let kind = rule.kind in let scope = rule.scope in
     (is_limit_place (measure_number limit) (limit_number limit)
     && is_kind_place (kind_number kind) (window_number kind)
     && is_scope_place roots (scope_number scope) (root_number scope) (unit_number scope))
     ≡ is_rule roots rule
 unfolding is_rule
-rule-valid roots rule = rw (limit-valid rule.limit, kind-valid rule.kind, scope-valid roots rule.scope)
+rule_valid roots rule = rw (limit-valid rule.limit, kind-valid rule.kind, scope-valid roots rule.scope)
 
 -- whether a rule stands at a place, by its two numbers as code reads them
 pub is-rule-here : (xs : List ℕ) (at : ℕ) → at + 1 < length xs → (roots : ℕ)

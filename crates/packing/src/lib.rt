@@ -24,26 +24,24 @@ const TWO_27: u64 = 134_217_728;
 // Two to the 63rd: what joined gaps stay below where each is clear.
 pub const CLEAR: u64 = 9_223_372_036_854_775_808;
 
+// The place of what may not stand in one.
+const NOTHING: Place = Place {
+    first: 0,
+    second: 0,
+};
+
 // The root that a scope gives, by its number or its name; 0 where there is none.
 pub fn root_number(scope: Scope) -> u64
     ensures { result ≡ root_number scope }
 {
-    match scope {
-        Scope::EveryFill => 0,
-        Scope::WholeRoot(root) => root,
-        Scope::OneUnit(root, _) => root,
-    }
+    terms::scope_fields(scope).1
 }
 
 // A limit's number.
 pub fn limit_number(limit: Limit) -> u64
     ensures { result ≡ limit_number limit }
 {
-    match limit {
-        Limit::Notional(dollars) => dollars.0,
-        Limit::Volume(contracts) => contracts.0,
-        Limit::Count(executions) => executions.0,
-    }
+    terms::limit_fields(limit).1
 }
 
 // The rule that two numbers stand for.
@@ -77,34 +75,28 @@ pub fn is_rule(first: u64, second: u64, roots: u64) -> bool
 }
 
 // Whether a profile with 64 roots may hold a rule.
+#[tactic(auto, using(crate::proofs::RuleTests::rule_valid))]
 fn may_hold(rule: Rule) -> bool
     ensures { result ≡ is_rule 64 rule }
 {
-    let limit = rule.limit;
-    let kind = rule.kind;
-    let scope = rule.scope;
-    terms::is_limit(terms::measure_number(limit), limit_number(limit))
-        & terms::is_kind(terms::kind_number(kind), terms::window_number(kind))
-        & terms::is_scope(
-            64,
-            terms::scope_number(scope),
-            root_number(scope),
-            terms::unit_number(scope),
-        )
+    let (measure, n) = terms::limit_fields(rule.limit);
+    let (kind, window) = terms::kind_fields(rule.kind);
+    let (scope, root, unit) = terms::scope_fields(rule.scope);
+    terms::is_limit(measure, n)
+        & terms::is_kind(kind, window)
+        & terms::is_scope(64, scope, root, unit)
 }
 
 // The two numbers of a rule, 0 and 0 for one that no profile may hold.
 pub fn rule_place(rule: Rule) -> Place
     ensures { result ≡ rule_place rule }
 {
-    if may_hold(rule) {
-        let first = words::limit_word(rule);
-        let second = words::scope_word(rule);
-        return Place { first, second };
+    if !may_hold(rule) {
+        return NOTHING;
     }
     Place {
-        first: 0,
-        second: 0,
+        first: words::limit_word(rule),
+        second: words::scope_word(rule),
     }
 }
 
@@ -138,6 +130,7 @@ fn are_ranged(roots: u64, root: u64, premium: u64, contracts: u64) -> bool
 
 // How far a number is above another, modulo 2^64: clear, which is below 2^63, just where it is not less, if both are below 2^63. Gaps are joined by |, and
 // what they are joined to is clear just where each is.
+#[tactic(auto, unfolding(crate::specs::Gaps::gap_of))]
 pub fn gap(a: u64, b: u64) -> u64
     ensures { result ≡ gap_of a b }
 {
@@ -145,6 +138,7 @@ pub fn gap(a: u64, b: u64) -> u64
 }
 
 // The gaps that tell whether two numbers are those of an entry, its time aside: every other number is in its range, with so many roots.
+#[tactic(auto, unfolding(crate::specs::Gaps::entry_gaps))]
 pub fn entry_gaps(first: u64, second: u64, roots: u64) -> u64
     ensures { result ≡ entry_gaps roots first second }
 {
@@ -152,7 +146,7 @@ pub fn entry_gaps(first: u64, second: u64, roots: u64) -> u64
     // A premium in range has nothing above it.
     let premium = second / TWO_20;
     let contracts = second % TWO_20;
-    gap(numbers::least(roots, 64), root + 1)
+    gap(roots.min(64), root + 1)
         | (gap(premium, TenThousandths::PREMIUM_LEAST) | gap(TenThousandths::PREMIUM_MOST, premium))
         | (gap(contracts, Contracts::OFFER_LEAST) | gap(Contracts::OFFER_MOST, contracts))
 }
@@ -161,16 +155,14 @@ pub fn entry_gaps(first: u64, second: u64, roots: u64) -> u64
 pub fn entry_place(e: Entry) -> Place
     ensures { result ≡ entry_place e }
 {
-    if measures::is_in(e.time, 0, Time::MOST)
+    if !(measures::is_in(e.time, 0, Time::MOST)
         & are_ranged(64, e.root, e.premium.0, e.contracts.0)
-        & measures::is_in(e.unit, 0, 3)
+        & measures::is_in(e.unit, 0, 3))
     {
-        let first = words::fill_word(e);
-        let second = words::amount_word(e);
-        return Place { first, second };
+        return NOTHING;
     }
     Place {
-        first: 0,
-        second: 0,
+        first: words::fill_word(e),
+        second: words::amount_word(e),
     }
 }

@@ -1,14 +1,12 @@
 -- `packing::is_kind` meets its contract: each kind has its windows. Assumes nothing.
-use Rattle.std.proofs.Common.{◌≤◌, Bool, true, false, cond, eqb, arith}
-use Rattle.packing.proofs.RuleTests.{kind-test}
+use Rattle.std.proofs.Common.{eq-eqb, ne_eqb}
+use Rattle.packing.proofs.RuleTests.{kind_test}
+use Rattle.packing.proofs.terms.is_kind.Goals.{then-n-eq0, else-n-eq0}
 use Rattle.packing.proofs.terms.is_kind.Goals as goal
 
-pub is_within-requires : goal.is_within-requires
-is_within-requires c = rw (c.pick.ensures, c.pick-2.ensures) (go (eqb c.args.n 0))
-  where
-    go : (t : Bool) → cond t 100 0 ≤ cond t 86_400_000 0
-    go true = omega arith
-    go false = omega arith
-
 pub returns : goal.returns
-returns c = rw (c.is_within.ensures, c.pick.ensures, c.pick-2.ensures) (kind-test _ _)
+returns c =
+    elim c.if-n-eq0.branch [
+      | then-n-eq0 w ↦ rw (c.is_within.ensures, w.least-is) (rw (eq-eqb _ _ w.if-n-eq0.true) at (kind_test c.args.n c.args.window))
+      | else-n-eq0 w ↦ rw (c.is_within.ensures, w.least-is) (rw (ne_eqb _ _ w.if-n-eq0.false) at (kind_test c.args.n c.args.window))
+    ]
