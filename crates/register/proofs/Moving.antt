@@ -1,27 +1,23 @@
 -- Numbers that have gone two places up, and the two that become 0. Assumes nothing.
-use Prim.Native.Nat.{ℕ, ◌+◌}
-use mathlib.Core.Path.{◌≡◌, sym, ap, ◌∙◌}
-use mathlib.Core.List.{List, [], ◌∷◌, ◌++◌}
+use Prim.Native.Nat.{ℕ, ◌-◌, ◌≤◌}
+use mathlib.Core.Path.{◌≡◌, ap, ap₂, ◌∙◌}
+use mathlib.Core.List.{List, ◌++◌, append-nil}
 use native.Mathlib.Omega.{arith}
-use lib.ListN.{length, get_or, take, drop, set, length-append, length-drop, drop_of_length-le}
-use lib.Seq.{take_all, append_snoc, set_at}
+use lib.ListN.{length, take, drop, length-append, length-drop, drop_of_length-le, replicate}
+use lib.Seq.{take_all, take_at, length-take-le}
+use borrow.Rule.Slice.PartMut.{put_mid, Post-is}
 use Rattle.tables.specs.Inner.Tables.{zeros}
-use Rattle.packing.proofs.Parts.{two}
 
-module _ (s : List ℕ) (j : ℕ) where
-  -- the first j numbers are those that stood two places after them, and the others as they were
-  abbrev pub moved_up : List ℕ
-  moved_up = take j (drop 2 s) ++ drop j s
-
-  -- all have moved, and the last two become 0
-  pub moved_all : {t : List ℕ} → j + 2 ≡ length s → t ≡ moved_up → set (set t j 0) (j + 1) 0 ≡ drop 2 s ++ zeros 2
-  unfolding zeros
-  moved_all {t} e is =
-      let front : take j (drop 2 s) ≡ drop 2 s = take_all j (drop 2 s) (omega (arith, length-drop 2 s)) in
-      let none : drop (j + 2) s ≡ [] = drop_of_length-le s {i = j + 2} (omega arith) in
-      let long : length (drop 2 s) ≡ j = length-drop 2 s ∙ omega arith in
-      let more : length (drop 2 s ++ (0 ∷ [])) ≡ j + 1 = length-append (drop 2 s) (0 ∷ []) ∙ ap (λ (n : ℕ). n + 1) long in
-      let last = get_or s (j + 1) 0 in
-      ap (λ (l : List ℕ). set (set l j 0) (j + 1) 0) (is ∙ (λ i. front i ++ (two s j (omega arith) ∙ ap (λ (l : List ℕ). get_or s j 0 ∷ last ∷ l) none) i))
-      ∙ ap (λ (l : List ℕ). set l (j + 1) 0) (set_at (drop 2 s) (get_or s j 0) (last ∷ []) 0 j long ∙ sym (append_snoc (drop 2 s) 0 (last ∷ [])))
-      ∙ set_at (drop 2 s ++ (0 ∷ [])) last [] 0 (j + 1) more ∙ append_snoc (drop 2 s) 0 (0 ∷ [])
+-- all have moved, and the last two become 0
+pub moved_all : (s t z : List ℕ) → 2 ≤ length s → let n = length s - 2 in t ≡ take n (drop 2 s) ++ drop n s
+    → z ≡ replicate (length (take (length t - n) (drop n t))) 0 → put_mid n (length t - n) t z ≡ drop 2 s ++ zeros 2
+unfolding zeros
+moved_all s t z some is none =
+    let n = length s - 2 in
+    let long : length (drop 2 s) ≡ n = length-drop 2 s in
+    let all : take n (drop 2 s) ≡ drop 2 s = take_all n (drop 2 s) (omega arith) in
+    let front : take n t ≡ drop 2 s = ap (take n) (is ∙ ap (λ (l : List ℕ). l ++ drop n s) all) ∙ take_at (drop 2 s) (drop n s) n long in
+    let many : length t ≡ length s = omega (arith, ap length is, length-append (take n (drop 2 s)) (drop n s), ap length all, length-drop n s) in
+    let two : length (take (length t - n) (drop n t)) ≡ 2 = length-take-le (length t - n) (drop n t) (omega (arith, length-drop n t)) ∙ omega arith in
+    ap₂ (λ (a b : List ℕ). a ++ (z ++ b)) front (Post-is n (length t) t (omega arith) ∙ drop_of_length-le t {i = length t} (omega arith))
+    ∙ ap (λ (l : List ℕ). drop 2 s ++ l) (append-nil z ∙ none ∙ ap (λ (k : ℕ). replicate k 0) two)

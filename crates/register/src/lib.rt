@@ -59,10 +59,8 @@ pub fn kept(register: &[u64]) -> u64
 {
     let k = register[0] as usize;
     let mut sum: u64 = 0;
-    let mut i: usize = 0;
-    while i < k {
+    for i in 0..k {
         sum += words::reports_of(register[1 + i * 2]);
-        i += 1;
     }
     sum
 }
@@ -85,8 +83,8 @@ pub fn use_up(register: &mut [u64], i: usize, contracts: u64)
     ensures { register.new ≡ register_numbers (map (used_up (sent_at_place (register_in register.old) i).identity contracts) (register_in register.old)) }
 {
     let at = 1 + i * 2;
-    register[at] = register[at] - 1;
-    register[at + 1] = register[at + 1] - contracts;
+    register[at] -= 1;
+    register[at + 1] -= contracts;
 }
 
 // The order at place i leaves: those after it move up, and the place that becomes free holds 0.

@@ -10,12 +10,10 @@ pub(crate) fn place_from(register: &[u64], k: usize, from: usize, identity: u64)
     requires { (length register.now ≡ 129) × (k ≤ 64) × (from ≤ k) }
     ensures { result ≡ from + place_of_identity (drop from (register_of k register.now)) identity }
 {
-    let mut i = from;
-    while i < k {
+    for i in from..k {
         if words::identity_of(register[1 + i * 2]) == identity {
             return i;
         }
-        i += 1;
     }
     k
 }
@@ -27,6 +25,5 @@ pub(crate) fn move_up(s: &mut [u64])
 {
     let n = s.len() - 2;
     tables::move_down(s, 2, n);
-    s[n] = 0;
-    s[n + 1] = 0;
+    s[n..].fill(0);
 }

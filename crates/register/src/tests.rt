@@ -13,12 +13,10 @@ pub(crate) fn are_orders(register: &[u64], k: usize, roots: u64) -> bool
     ensures { result ≡ (places_pass 2 (is_sent_place roots) k (drop 1 register.now) && all_zero (drop (k * 2) (drop 1 register.now))) }
 {
     let mut gaps: u64 = 0;
-    let mut i: usize = 0;
-    while i < k {
+    for i in 0..k {
         let at = 1 + i * 2;
         // No way out of the loop before its end, so that the orders can be tested side by side.
-        gaps = gaps | words::sent_gaps(register[at], register[at + 1], roots);
-        i += 1;
+        gaps |= words::sent_gaps(register[at], register[at + 1], roots);
     }
     (gaps < packing::CLEAR) & tables::is_zero(&register[1 + k * 2..])
 }
@@ -28,10 +26,7 @@ fn is_new(register: &[u64], k: usize, from: usize, identity: u64, marked: bool) 
     requires { (length register.now ≡ 129) × (k ≤ 64) × (from ≤ k) × (marked ≡ false → is_open (drop from (register_of k register.now)) identity ≡ false) }
     ensures { result ≡ not (is_open (drop from (register_of k register.now)) identity) }
 {
-    if !marked {
-        return true;
-    }
-    places::place_from(register, k, from, identity) == k
+    !marked || places::place_from(register, k, from, identity) == k
 }
 
 // Whether no two of the orders in the first k places have one identity. From the last order on; the identities that were looked at are marked by a
@@ -42,13 +37,10 @@ pub(crate) fn are_different(register: &[u64], k: usize) -> bool
 {
     let mut good = true;
     let mut marks: u64 = 0;
-    let mut i = k;
-    while 0 < i {
-        let next = i;
-        i -= 1;
+    for i in (0..k).rev() {
         let identity = words::identity_of(register[1 + i * 2]);
         let slot = identity % 64;
-        good = is_new(register, k, next, identity, bits::marked(marks, slot)) & good;
+        good &= is_new(register, k, i + 1, identity, bits::marked(marks, slot));
         marks = bits::mark(marks, slot);
     }
     good

@@ -1,5 +1,5 @@
 // An order sent away in two numbers: its numbers put together of their fields, and the fields taken from them.
-ghost use Rattle.std.specs.Prelude.{◌≡◌, true, [], ◌∷◌, min};
+ghost use Rattle.std.specs.Prelude.{◌≡◌, true, [], ◌∷◌};
 ghost use Rattle.bits.specs.Fields.{packed};
 ghost use Rattle.machine.specs.Register.{is_sent};
 ghost use Rattle.packing.specs.EntryPlace.{amount_widths};
@@ -62,13 +62,6 @@ pub(crate) fn sent_of(first: u64, second: u64) -> Sent
     }
 }
 
-// So many roots, 64 if there are more.
-fn few(roots: u64) -> u64
-    ensures { result ≡ min roots 64 }
-{
-    if roots <= 64 { roots } else { 64 }
-}
-
 // The gaps that tell whether two numbers are those of an order with so many roots, and nothing else.
 pub(crate) fn sent_gaps(first: u64, second: u64, roots: u64) -> u64
     ensures { result ≡ sent_gaps roots first second }
@@ -76,7 +69,7 @@ pub(crate) fn sent_gaps(first: u64, second: u64, roots: u64) -> u64
     // An identity and a premium in range have nothing above them.
     let premium = second / TWO_20;
     packing::gap(IDENTITY_MOST, first / 8192)
-        | packing::gap(few(roots), first / 128 % 64 + 1)
+        | packing::gap(roots.min(64), first / 128 % 64 + 1)
         | packing::gap(REPORTS_MOST, first % 32)
         | (packing::gap(premium, TenThousandths::PREMIUM_LEAST)
             | packing::gap(TenThousandths::PREMIUM_MOST, premium))

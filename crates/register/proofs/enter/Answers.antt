@@ -1,9 +1,9 @@
 -- `register::enter` meets its contract: the order's two numbers in the first free place, and the count. Assumes nothing.
 use mathlib.Core.Path.{ap₂}
-use Prim.Native.Nat.{ℕ, ◌+◌, ◌*◌, ◌<◌}
+use Prim.Native.Nat.{ℕ, ◌<◌}
 use mathlib.Core.List.{[], ◌∷◌}
 use native.Mathlib.Omega.{arith}
-use lib.ListN.{get_or, length-set}
+use lib.ListN.{get_or}
 use Rattle.register.specs.SentPlace.{sent_numbers}
 use Rattle.register.proofs.Registers.{register-many}
 use Rattle.register.proofs.Changing.{entered}
@@ -13,15 +13,6 @@ use Rattle.register.proofs.enter.Goals as goal
 -- a place is free
 free : (s : Start) → get_or s.args.register.now 0 0 < 64
 free s = omega (arith, s.requires.1, register-many s.args.register.now)
-
-pub bounds-register-at : goal.bounds-register-at
-bounds-register-at c = let s = c in omega (arith, free (goal.at.bounds-register-at s).Start, s.requires.0.long)
-
-pub bounds-register-at-2 : goal.bounds-register-at-2
-bounds-register-at-2 c =
-    let s = c in
-    let xs = s.args.register.now in
-    omega (arith, free (goal.at.bounds-register-at-2 s).Start, s.requires.0.long, length-set xs (1 + get_or xs 0 0 * 2) c.sent_word.result)
 
 pub returns : goal.returns
 unfolding sent_numbers

@@ -11,27 +11,6 @@ use Rattle.register.proofs.sent_in.Goals as goal
 used : (s : Start) → s.args.i < get_or s.args.register.now 0 0
 used s = omega (arith, s.requires.1, register-many s.args.register.now)
 
-pub overflow_mul-at : goal.overflow_mul-at
-overflow_mul-at c = omega (arith, used (goal.at.overflow_mul-at c).Start, c.requires.0.few)
-
-pub overflow_add-at : goal.overflow_add-at
-overflow_add-at c = omega (arith, used (goal.at.overflow_add-at c).Start, c.requires.0.few)
-
-pub offset_bounds-register-at : goal.offset_bounds-register-at
-offset_bounds-register-at c = omega (arith, used (goal.at.offset_bounds-register-at c).Start, c.requires.0.few)
-
-pub bounds-register-at : goal.bounds-register-at
-bounds-register-at c = omega (arith, used (goal.at.bounds-register-at c).Start, c.requires.0.few, c.requires.0.long)
-
-pub overflow_add-at-2 : goal.overflow_add-at-2
-overflow_add-at-2 c = omega (arith, used (goal.at.overflow_add-at-2 c).Start, c.requires.0.few)
-
-pub offset_bounds-register-at-2 : goal.offset_bounds-register-at-2
-offset_bounds-register-at-2 c = omega (arith, used (goal.at.offset_bounds-register-at-2 c).Start, c.requires.0.few)
-
-pub bounds-register-at-2 : goal.bounds-register-at-2
-bounds-register-at-2 c = let s = c in omega (arith, used (goal.at.bounds-register-at-2 s).Start, s.requires.0.few, s.requires.0.long)
-
 pub returns : goal.returns
 returns c =
     let s = c in

@@ -18,7 +18,7 @@ returns-then-identity_of-identity c =
     let a = c.args in
     let t = c.loop-i-test.true in
     let e = identity-at a.k a.register.now l.i t ∙ sym c.identity_of.ensures ∙ c.if-identity_of-identity.true in
-    sym (place_here a.identity _ _ l.i (eq-eqb _ _ e)) ∙ ap (λ (q : List Sent). l.i + place_of_identity q a.identity) (sym (orders-from a.k a.register.now l.i t)) ∙ l.invariant.1
+    sym (place_here a.identity _ _ l.i (eq-eqb _ _ e)) ∙ ap (λ (q : List Sent). l.i + place_of_identity q a.identity) (sym (orders-from a.k a.register.now l.i t)) ∙ l.invariant
 
 pub loop-i-preserved : goal.loop-i-preserved
 unfolding has_identity
@@ -26,14 +26,12 @@ loop-i-preserved c =
     let l = c.loop-i in
     let a = c.args in
     let t = c.loop-i-test.true in
-    let e = identity-at a.k a.register.now l.i t ∙ sym c.identity_of.ensures in (
-      omega arith,
-      sym (place-later a.identity _ _ l.i (ne_eqb _ _ (λ s. c.if-identity_of-identity.false (sym e ∙ s)))) ∙ ap (λ (q : List Sent). l.i + place_of_identity q a.identity) (sym (orders-from a.k a.register.now l.i t)) ∙ l.invariant.1,
-    )
+    let e = identity-at a.k a.register.now l.i t ∙ sym c.identity_of.ensures in
+    sym (place-later a.identity _ _ l.i (ne_eqb _ _ (λ s. c.if-identity_of-identity.false (sym e ∙ s)))) ∙ ap (λ (q : List Sent). l.i + place_of_identity q a.identity) (sym (orders-from a.k a.register.now l.i t)) ∙ l.invariant
 
 pub returns : goal.returns
 returns c =
     let l = c.loop-i in
     let a = c.args in
     let same : a.k ≡ l.i = omega arith in
-    same ∙ sym (place_end a.identity (register_of a.k a.register.now) l.i (omega (arith, register-long a.k a.register.now))) ∙ l.invariant.1
+    same ∙ sym (place_end a.identity (register_of a.k a.register.now) l.i (omega (arith, register-long a.k a.register.now))) ∙ l.invariant

@@ -1,5 +1,4 @@
 -- `register::tests::are_different` meets its contract: the orders from place i on are marked, and whether they differ is known. Assumes nothing.
-use Prim.Native.Nat.{◌≤◌}
 use mathlib.Core.Path.{◌≡◌}
 use lib.ListN.{drop}
 use Rattle.machine.specs.Register.{are_different}
@@ -8,7 +7,4 @@ use Rattle.register.proofs.Differing.{Marked}
 use Rattle.register.proofs.tests.are_different.Given as goal
 
 abbrev pub invariant-loop-i : goal.invariant-loop-i
-invariant-loop-i l = (l.i ≤ l.k) × (l.good ≡ are_different (drop l.i (register_of l.k l.register))) × Marked l.marks (drop l.i (register_of l.k l.register))
-
-abbrev pub decreases-loop-i : goal.decreases-loop-i
-decreases-loop-i l = l.i
+invariant-loop-i l = (l.good ≡ are_different (drop l.i (register_of l.k l.register))) × Marked l.marks (drop l.i (register_of l.k l.register))

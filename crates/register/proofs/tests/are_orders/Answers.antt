@@ -15,7 +15,7 @@ use Rattle.register.proofs.Registers.{passing-start, passing-on, passing-end}
 use Rattle.register.proofs.tests.are_orders.Goals as goal
 
 pub loop-i-init : goal.loop-i-init
-loop-i-init c = let a = c.args in (omega arith, passing-start a.roots a.k a.register.now)
+loop-i-init c = let a = c.args in passing-start a.roots a.k a.register.now
 
 pub loop-i-preserved : goal.loop-i-preserved
 loop-i-preserved c =
@@ -28,12 +28,10 @@ loop-i-preserved c =
     let next = places_pass 2 (is_sent_place a.roots) (a.k - (l.i + 1)) (drop ((l.i + 1) * 2) (drop 1 xs)) in
     let clear =
     ap is_clear c.sent_gaps-gaps.ensures
-    ∙ sent-clear a.roots (get_or xs at 0) (get_or xs (at + 1) 0) (omega (arith, c.shared_slice_known-in-loop-i-1.given at)) (omega (arith, c.shared_slice_known-in-loop-i-2-1.given (at + 1)))
-    ∙ is-sent-here xs at (omega (arith, s.requires, t.loop-i-test.true)) a.roots in (
-      omega arith,
-      l.invariant.1 ∙ passing-on a.roots a.k xs l.i t.loop-i-test.true (is_clear l.gaps) clear
-          ∙ ap (λ (b : Bool). b && next) (sym (or-clear l.gaps c.sent_gaps-gaps.result)),
-    )
+    ∙ sent-clear a.roots (get_or xs at 0) (get_or xs (at + 1) 0) (omega (arith, c.type_inv.register at)) (omega (arith, c.type_inv.register (at + 1)))
+    ∙ is-sent-here xs at (omega (arith, s.requires, t.loop-i-test.true)) a.roots in
+    l.invariant ∙ passing-on a.roots a.k xs l.i t.loop-i-test.true (is_clear l.gaps) clear
+    ∙ ap (λ (b : Bool). b && next) (sym (or-clear l.gaps c.sent_gaps-gaps.result))
 
 pub returns : goal.returns
 returns c =
@@ -44,4 +42,4 @@ returns c =
     let z : c.is_zero.result ≡ all_zero (take n (drop (1 + a.k * 2) xs)) = c.is_zero.ensures in
     let rest : take n (drop (1 + a.k * 2) xs) ≡ drop (a.k * 2) (drop 1 xs) =
     take_all n (drop (1 + a.k * 2) xs) (omega (arith, length-drop (1 + a.k * 2) xs)) ∙ sym (drop-drop (a.k * 2) 1 xs) in
-    ap₂ (λ (p q : Bool). p && q) (sym (l.invariant.1 ∙ passing-end a.roots a.k xs l.i c.loop-i-test.false (is_clear l.gaps))) (z ∙ ap all_zero rest)
+    ap₂ (λ (p q : Bool). p && q) (sym (l.invariant ∙ passing-end a.roots a.k xs l.i c.loop-i-test.false (is_clear l.gaps))) (z ∙ ap all_zero rest)

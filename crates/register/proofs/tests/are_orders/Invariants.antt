@@ -1,5 +1,5 @@
 -- `register::tests::are_orders` meets its contract: what is left from place i on decides as the whole does. Assumes nothing.
-use Prim.Native.Nat.{◌-◌, ◌*◌, ◌≤◌}
+use Prim.Native.Nat.{◌-◌, ◌*◌}
 use mathlib.Core.Path.{◌≡◌}
 use mathlib.Core.Bool.{◌&&◌}
 use lib.ListN.{drop}
@@ -10,7 +10,4 @@ use Rattle.register.proofs.tests.are_orders.Given as goal
 
 abbrev pub invariant-loop-i : goal.invariant-loop-i
 invariant-loop-i l =
-    (l.i ≤ l.k) × (places_pass 2 (is_sent_place l.roots) l.k (drop 1 l.register) ≡ (is_clear l.gaps && places_pass 2 (is_sent_place l.roots) (l.k - l.i) (drop (l.i * 2) (drop 1 l.register))))
-
-abbrev pub decreases-loop-i : goal.decreases-loop-i
-decreases-loop-i l = l.k - l.i
+    places_pass 2 (is_sent_place l.roots) l.k (drop 1 l.register) ≡ (is_clear l.gaps && places_pass 2 (is_sent_place l.roots) (l.k - l.i) (drop (l.i * 2) (drop 1 l.register)))

@@ -6,4 +6,4 @@ pub returns : goal.returns
 unfolding sent_gaps
 returns c =
     let third = c in
-    rw (third.gap.ensures, third.gap-2.ensures, third.gap-3.ensures, c.gap-4.ensures, c.gap-5.ensures, c.gap-6.ensures, third.few.ensures)
+    rw (third.gap.ensures, third.gap-2.ensures, third.gap-3.ensures, c.gap-4.ensures, c.gap-5.ensures, c.gap-6.ensures, third.min.ensures)
