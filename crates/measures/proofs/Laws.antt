@@ -4,10 +4,10 @@ use mathlib.Core.Path.{◌≡◌, refl}
 use native.Mathlib.Omega.{arith}
 use Rattle.measures.specs.Ranges.{executions}
 
-pub executions-one : (n : ℕ) → (n ≡ 0 → ⊥) → executions n ≡ 1
+pub executions_one : (n : ℕ) → (n ≡ 0 → ⊥) → executions n ≡ 1
 unfolding executions
-executions-one zero h = absurd (h refl)
-executions-one (suc n) h = refl
+executions_one zero h = absurd (h refl)
+executions_one (suc n) h = refl
 
 pub executions-most : (n : ℕ) → executions n ≤ 1
 unfolding executions
