@@ -18,6 +18,8 @@ KEY = [
     ("List A", "A list: `[]`, which is empty, or `x ∷ xs`, which has `x` in front. `xs ++ ys` is one after the other.", "List [] ◌∷◌ ◌++◌"),
     ("length xs, take n xs, drop n xs", "How long a list is; its first `n`; what comes after them. `get_or xs i d` is what stands at place `i`, counted from 0, and `d` where "
      "the list is too short, `slice_index xs i` the same of numbers, with 0; `set xs i x` is the list with `x` there, and `sets xs i ys` the list with the numbers of `ys` in the places from `i` on.", "length take drop get_or slice_index set sets"),
+    ("Option A, Result A E", "`Some x` or `None`: an `A`, or nothing. `Ok x` or `Err e`: an `A`, or an `E` that says why there is none. `is_some o` is the test for a `Some`, "
+     "`unwrap_or o d` what it holds, and `d` where it holds nothing.", "Option Some None Result Ok Err is_some unwrap_or"),
     ("map f xs", "`f` of each, in order. `replicate n x` is `n` times `x`. `Memᴰ x xs` is: `x` is one of `xs`.", "map replicate Memᴰ"),
     ("String, code", "A text, and the number of one of its characters.", "String [] ◌∷◌ code"),
     ("record R where ..", "What an `R` has, by name. `record { a = x; b = y }` makes one; `r.a` is its `a`. If its parts are statements, `R` says all of them.", ""),
