@@ -8,7 +8,10 @@ from rattle import read_rattle
 from scopes import Walk, free_names, tokens
 
 MODULE = re.compile(r"^Rattle\.([a-z0-9_]+)\.(specs|proofs)\.(.+)$")
-CONSTRUCTORS = {"zero", "suc", "true", "false", "[]", "◌∷◌", "refl"}
+CONSTRUCTORS = {"zero", "suc", "true", "false", "[]", "◌∷◌", "refl", "Some", "None", "Ok", "Err"}
+
+# types of the kit that code names without an import
+BROUGHT = {"Option", "Result"}
 
 
 class Sources:
@@ -107,6 +110,8 @@ class Sources:
         found = []
         for name in self.names(item, statement_only):
             there = self.lookup(file, name)
+            if there is None and name in BROUGHT and item.path.endswith(".rt"):
+                there = f"std {name}"
             if isinstance(there, str):
                 self.kit.setdefault(there, []).append(item)
             elif there is None:
