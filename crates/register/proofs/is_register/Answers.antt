@@ -7,5 +7,4 @@ returns-then-k-gt-PLACES c = register-over _ _ c.if-k-gt-PLACES.true
 
 pub returns : goal.returns
 returns c =
-    let s = c in
-    register-within s.args.roots s.args.register.now s.requires c.if-k-gt-PLACES.false _ _ c.are_orders.ensures c.are_different.ensures
+    register-within c.args.roots c.args.register.now c.requires c.if-k-gt-PLACES.false _ _ c.are_orders.ensures c.are_different.ensures

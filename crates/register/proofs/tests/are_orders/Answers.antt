@@ -19,18 +19,16 @@ loop-i-init c = let a = c.args in passing-start a.roots a.k a.register.now
 
 pub loop-i-preserved : goal.loop-i-preserved
 loop-i-preserved c =
-    let t = c in
-    let l = t.loop-i in
-    let s = t in
-    let a = s.args in
+    let l = c.loop-i in
+    let a = c.args in
     let at = 1 + l.i * 2 in
     let xs = a.register.now in
     let next = places_pass 2 (is_sent_place a.roots) (a.k - (l.i + 1)) (drop ((l.i + 1) * 2) (drop 1 xs)) in
     let clear =
     ap is_clear c.sent_gaps-gaps.ensures
     ∙ sent-clear a.roots (get_or xs at 0) (get_or xs (at + 1) 0) (omega (arith, c.type_inv.register at)) (omega (arith, c.type_inv.register (at + 1)))
-    ∙ is-sent-here xs at (omega (arith, s.requires, t.loop-i-test.true)) a.roots in
-    l.invariant ∙ passing-on a.roots a.k xs l.i t.loop-i-test.true (is_clear l.gaps) clear
+    ∙ is-sent-here xs at (omega (arith, c.requires, c.loop-i-test.true)) a.roots in
+    l.invariant ∙ passing-on a.roots a.k xs l.i c.loop-i-test.true (is_clear l.gaps) clear
     ∙ ap (λ (b : Bool). b && next) (sym (or-clear l.gaps c.sent_gaps-gaps.result))
 
 pub returns : goal.returns

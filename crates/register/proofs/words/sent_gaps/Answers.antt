@@ -4,6 +4,4 @@ use Rattle.register.proofs.words.sent_gaps.Goals as goal
 
 pub returns : goal.returns
 unfolding sent_gaps
-returns c =
-    let third = c in
-    rw (third.gap.ensures, third.gap-2.ensures, third.gap-3.ensures, c.gap-4.ensures, c.gap-5.ensures, c.gap-6.ensures, third.min.ensures)
+returns c = rw (c.gap.ensures, c.gap-2.ensures, c.gap-3.ensures, c.gap-4.ensures, c.gap-5.ensures, c.gap-6.ensures, c.min.ensures)
