@@ -32,7 +32,7 @@ use Rattle.state.proofs.After.{Holds, held-laid, held-state, step-on, register-a
 use Rattle.state.proofs.Exactly.{sound-decode}
 use Rattle.state.specs.Sound.{SoundState}
 use Rattle.grant.specs.Inner.Grant.{Returning, Returned}
-use Rattle.grant.specs.declared.Trips.{Trips}
+use Rattle.grant.specs.declared.Levels.{Levels}
 use Rattle.calls.specs.Calls.{refusal_in, call_answer, call_memory}
 use Rattle.calls.proofs.Armed.{sound-memory}
 use Rattle.calls.proofs.Steps.{laid, ready_by, accepted-by, acts, done}
@@ -204,7 +204,7 @@ module _ (xs : List ℕ) (time identity n : ℕ) (e : refusal_in xs (report time
       pub report-ready : Returning xs fill i
       report-ready = subst (λ (o : Offer). Returning xs o i) (sym same) ready
 
-      pub report-done : {ys : List ℕ} {trips : Trips} → Returned xs fill (sent_at_place orders i).identity ys trips
+      pub report-done : {ys : List ℕ} {trips : Levels Bool} → Returned xs fill (sent_at_place orders i).identity ys trips
           → (Judged 0 n trips.root trips.firm ≡ call_answer xs back) × (ys ≡ call_memory xs back)
       unfolding judged filled is_refusal fill_of
       report-done {ys} {trips} r =

@@ -31,7 +31,7 @@ use Rattle.machine.specs.Step.{after, part_after, accounts_after, locks_after, l
 use Rattle.machine.proofs.Lists.{ordered-wider}
 use Rattle.machine.proofs.Windows.{rate-longest}
 use Rattle.grant.specs.Inner.Grant.{Fillable, AreCuts, Ready, HasRoom}
-use Rattle.grant.specs.declared.Cuts.{Cuts}
+use Rattle.grant.specs.declared.Levels.{Levels}
 use Rattle.grant.proofs.Trip.{grant-cuts}
 use Rattle.calls.specs.Calls.{memory_refusal, timed_refusal, refusal_in, offer_refusal, call_answer, call_memory, is_short_of, Met, Granting}
 use Rattle.calls.proofs.Armed.{sound-memory}
@@ -113,7 +113,7 @@ module _ (xs : List ℕ) (o : Offer) (g : Granting xs o) (grant : ℕ) (is : gra
       let d = acts xs g.met.ready (offer o) (refusal_is false t) (rw g.free) in
       (rw (p, q, is) (rw g.free at d.0), rw is (rw g.free at d.1))
 
-  pub ready-is : (cuts : Cuts) → AreCuts xs o cuts → (ltb 0 grant && is_short_of (decode xs) o.time 1) ≡ false → Ready xs o grant cuts
+  pub ready-is : (cuts : Levels ℕ) → AreCuts xs o cuts → (ltb 0 grant && is_short_of (decode xs) o.time 1) ≡ false → Ready xs o grant cuts
   ready-is cuts k t = record {
     asked = g.asked;
     totals = (sound-decode xs (sound-memory xs g.met.ready)).totals;
@@ -122,7 +122,7 @@ module _ (xs : List ℕ) (o : Offer) (g : Granting xs o) (grant : ℕ) (is : gra
     room = has_room t;
   }
 
-pub least-is : (xs : List ℕ) (o : Offer) (cuts : Cuts) → AreCuts xs o cuts → (n : ℕ) → n ≡ min cuts.root cuts.firm → n ≡ grant_of (decode xs).log o (decode xs).part.accounts
+pub least-is : (xs : List ℕ) (o : Offer) (cuts : Levels ℕ) → AreCuts xs o cuts → (n : ℕ) → n ≡ min cuts.root cuts.firm → n ≡ grant_of (decode xs).log o (decode xs).part.accounts
 least-is xs o cuts k n e = rw (e, k.root, k.firm) (sym (grant-cuts (decode xs).log o (decode xs).part.accounts))
 
 -- an offer's refusal by its numbers, after that by the memory and the time

@@ -22,49 +22,32 @@ fn logged(m: &[u64], rule: Rule, time: u64) -> Amount
     requires { Laid m.now × (is_rule 64 rule ≡ true) × (are_ordered 0 time (decode m.now).log ≡ true) }
     ensures { IsLogged (decode m.now).log rule time result }
 {
-    let kind = rule.kind;
-    match kind {
+    match rule.kind {
         Kind::Rate(_) => daylog::counted(&m[state::LOG..state::SIZE], rule, time),
-        Kind::Absolute => {
-            let limit = rule.limit;
-            limit.amount(0)
-        }
+        Kind::Absolute => rule.limit.amount(0),
     }
 }
 
-// Memos of which the last says what the log counts for a rule at a time, as far as the rule asks for it.
-fn memos_for(m: &[u64], rule: Rule, time: u64, memos: Two) -> Two
-    requires { Laid m.now × (is_rule 64 rule ≡ true) × (are_ordered 0 time (decode m.now).log ≡ true) × RightTwo (decode m.now).log memos }
-    ensures { RightTwo (decode m.now).log result × IsLogged (decode m.now).log rule time (amount_in rule.limit (memo_sum rule.limit result.last)) × (result ≡ memos_after (decode m.now).log rule time memos) }
+// The last of the memos comes to say what the log counts for a rule at a time, as far as the rule asks for it.
+fn recall(m: &[u64], rule: Rule, time: u64, memos: &mut Two)
+    requires { Laid m.now × (is_rule 64 rule ≡ true) × (are_ordered 0 time (decode m.now).log ≡ true) × RightTwo (decode m.now).log memos.old }
+    ensures { RightTwo (decode m.now).log memos.new × IsLogged (decode m.now).log rule time (amount_in rule.limit (memo_sum rule.limit memos.new.last)) × (memos.new ≡ memos_after (decode m.now).log rule time memos.old) }
 {
-    let kind = rule.kind;
-    match kind {
-        Kind::Rate(_) => daylog::recalled(&m[state::LOG..state::SIZE], rule, time, memos),
-        Kind::Absolute => memos,
+    match rule.kind {
+        Kind::Rate(_) => daylog::recall(&m[state::LOG..state::SIZE], rule, time, memos),
+        Kind::Absolute => {}
     }
 }
 
-// What an account has counted, and the memos after the log was asked for it.
-#[derive(Clone, Copy)]
-pub struct Told {
-    pub amount: Amount,
-    pub memos: Two,
-}
-
-// What account i has counted at a time: its total, or what the log counts for its rule.
-pub fn counted_by(m: &[u64], i: usize, rule: Rule, time: u64, memos: Two) -> Told
-    requires { Laid m.now × (i < length (decode m.now).part.accounts) × (rule ≡ (account_in m.now i).rule) × RightTwo (decode m.now).log memos × (are_ordered 0 time (decode m.now).log ≡ true) }
-    ensures { (result.amount ≡ amount_in rule.limit (counted (decode m.now).log time (account_in m.now i))) × RightTwo (decode m.now).log result.memos × (result.memos ≡ memos_after (decode m.now).log rule time memos) }
+// What account i has counted at a time: its total, or what the log counts for its rule, by the memos after the log was asked for it.
+pub fn counted_by(m: &[u64], i: usize, rule: Rule, time: u64, memos: &mut Two) -> Amount
+    requires { Laid m.now × (i < length (decode m.now).part.accounts) × (rule ≡ (account_in m.now i).rule) × RightTwo (decode m.now).log memos.old × (are_ordered 0 time (decode m.now).log ≡ true) }
+    ensures amount { result ≡ amount_in rule.limit (counted (decode m.now).log time (account_in m.now i)) }
+    ensures memos_after { RightTwo (decode m.now).log memos.new × (memos.new ≡ memos_after (decode m.now).log rule time memos.old) }
 {
-    let limit = rule.limit;
-    let total = state::total_in(m, i, limit);
-    let next = memos_for(m, rule, time, memos);
-    let last = next.last;
-    let amount = rule.counted(total, daylog::sum_in(limit, last));
-    Told {
-        amount,
-        memos: next,
-    }
+    let total = state::total_in(m, i, rule.limit);
+    recall(m, rule, time, memos);
+    rule.counted(total, daylog::sum_in(rule.limit, memos.last))
 }
 
 // What account i has counted at a time, with no memos kept.
@@ -72,8 +55,7 @@ pub fn counted_at(m: &[u64], i: usize, rule: Rule, time: u64) -> Amount
     requires { Laid m.now × (i < length (decode m.now).part.accounts) × (rule ≡ (account_in m.now i).rule) × (are_ordered 0 time (decode m.now).log ≡ true) }
     ensures { result ≡ amount_in rule.limit (counted (decode m.now).log time (account_in m.now i)) }
 {
-    let limit = rule.limit;
-    let total = state::total_in(m, i, limit);
+    let total = state::total_in(m, i, rule.limit);
     rule.counted(total, logged(m, rule, time))
 }
 

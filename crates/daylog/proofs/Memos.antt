@@ -109,7 +109,7 @@ pub record Memoed (s : Sieve) (es : List Entry) (m : Memo) : Type 0 where
   pub all : m ≡ memo_for s es
   pub many : Passed es m
 
-memo-many : (s : Sieve) (es : List Entry) → (memo_for s es).passed ≡ reading_since (memo_for s es).from es
+memo-many : (s : Sieve) (es : List Entry) → (memo_for s es).passed ≡ reading_since (memo_for s es).sieve.from es
 unfolding memo_for
 memo-many s es = refl
 
@@ -121,7 +121,7 @@ memoed {s} clock {es} {m} ordered is =
       right = subst (Right es) (sym whole) (memo-right s es);
       is-for = ap (is_memo_of s) whole ∙ memo-for s es;
       all = whole;
-      many = λ some. subst (λ (m : Memo). m.passed ≡ reading_since m.from es) (sym whole) (memo-many s es);
+      many = λ some. subst (λ (m : Memo). m.passed ≡ reading_since m.sieve.from es) (sym whole) (memo-many s es);
     }
 
 -- a memo of a rule's sieve says what the rule counts
@@ -134,12 +134,12 @@ for-rule {k} {xs} held rule time ok m right {s} is e =
     ∙ ap (λ (t : Sieve). sum_of (sifted rule.limit t) (entries_of k xs)) (same ∙ is)
     ∙ sieve-counts rule time ok held
   where
-    a : (eqb m.mask s.mask && eqb m.want s.want) ≡ true
-    a = and_l (eqb m.mask s.mask && eqb m.want s.want) (eqb m.from s.from) e
+    rest : (eqb m.sieve.want s.want && eqb m.sieve.from s.from) ≡ true
+    rest = and_r (eqb m.sieve.mask s.mask) (eqb m.sieve.want s.want && eqb m.sieve.from s.from) e
 
     same : sieve_for m ≡ s
     same =
-        let p = eqb-true m.mask s.mask (and_l (eqb m.mask s.mask) (eqb m.want s.want) a) in
-        let q = eqb-true m.want s.want (and_r (eqb m.mask s.mask) (eqb m.want s.want) a) in
-        let r = eqb-true m.from s.from (and_r (eqb m.mask s.mask && eqb m.want s.want) (eqb m.from s.from) e) in
+        let p = eqb-true m.sieve.mask s.mask (and_l (eqb m.sieve.mask s.mask) (eqb m.sieve.want s.want && eqb m.sieve.from s.from) e) in
+        let q = eqb-true m.sieve.want s.want (and_l (eqb m.sieve.want s.want) (eqb m.sieve.from s.from) rest) in
+        let r = eqb-true m.sieve.from s.from (and_r (eqb m.sieve.want s.want) (eqb m.sieve.from s.from) rest) in
         λ i. record { mask = p i; want = q i; from = r i }

@@ -16,12 +16,13 @@ ghost use Rattle.daylog.specs.Inner.Reading.{window_reading};
 ghost use Rattle.daylog.specs.Inner.Sieve.{sieve_of};
 
 mod clearing;
-mod sieves;
+pub mod sieves;
 mod windows;
 
 use machine::{Effect, Entry};
 use measures::{Contracts, Executions, TenThousandths, Time};
 use rules::{Amount, Kind, Limit, Rule};
+use sieves::Sieve;
 
 // How many entries the log has room for, and how many numbers its table takes: a count, then two for each place.
 pub const PLACES: usize = 512;
@@ -87,9 +88,7 @@ pub fn read_window(log: &[u64], window: u64, time: u64) -> Reading
 // What the entries that pass a sieve count in each measure, and how many are not before its time.
 #[derive(Clone, Copy)]
 pub struct Memo {
-    pub mask: u64,
-    pub want: u64,
-    pub from: u64,
+    pub sieve: Sieve,
     pub passed: usize,
     pub notional: TenThousandths,
     pub volume: Contracts,
@@ -109,9 +108,11 @@ pub fn memos_of(read: Reading) -> Two
     ensures { ((es : List Entry) → IsRead es read → RightTwo es result) × (result ≡ record { last = no_memo; other = no_memo; read = read }) }
 {
     let none = Memo {
-        mask: 0,
-        want: 1,
-        from: 0,
+        sieve: Sieve {
+            mask: 0,
+            want: 1,
+            from: 0,
+        },
         passed: 0,
         notional: TenThousandths(0),
         volume: Contracts(0),
@@ -150,33 +151,24 @@ pub fn counted(log: &[u64], rule: Rule, time: u64) -> Amount
     sum_in(limit, sieves::memo_of(&log[1..SIZE], k, passed, s))
 }
 
-// Memos of which the last is that of a rule at a time: one of those before, or a new one.
-pub fn recalled(log: &[u64], rule: Rule, time: u64, before: Two) -> Two
-    requires { HeldIn log.now × (is_rule 64 rule ≡ true) × RightTwo (entries_in log.now) before × (are_ordered 0 time (entries_in log.now) ≡ true) }
-    ensures { RightTwo (entries_in log.now) result × (memo_sum rule.limit result.last ≡ sum_of (entry_share rule time) (entries_in log.now)) × (result ≡ recalled_of (sieve_of rule time) (entries_in log.now) before) }
+// The last of the memos becomes that of a rule at a time: one of those before, or a new one.
+pub fn recall(log: &[u64], rule: Rule, time: u64, memos: &mut Two)
+    requires { HeldIn log.now × (is_rule 64 rule ≡ true) × RightTwo (entries_in log.now) memos.old × (are_ordered 0 time (entries_in log.now) ≡ true) }
+    ensures { RightTwo (entries_in log.now) memos.new × (memo_sum rule.limit memos.new.last ≡ sum_of (entry_share rule time) (entries_in log.now)) × (memos.new ≡ recalled_of (sieve_of rule time) (entries_in log.now) memos.old) }
 {
     let s = sieves::sieve_of(rule, time);
-    let last = before.last;
-    let other = before.other;
-    let read = before.read;
-    if sieves::is_for(s, last) {
-        return Two { last, other, read };
+    let before = *memos;
+    if before.last.sieve == s {
+        return;
     }
-    if sieves::is_for(s, other) {
-        return Two {
-            last: other,
-            other: last,
-            read,
-        };
+    memos.other = before.last;
+    if before.other.sieve == s {
+        memos.last = before.other;
+        return;
     }
     let k = log[0] as usize;
     let passed = sieves::passed_from(&log[1..SIZE], k, s.from, before);
-    let new = sieves::memo_of(&log[1..SIZE], k, passed, s);
-    Two {
-        last: new,
-        other: last,
-        read,
-    }
+    memos.last = sieves::memo_of(&log[1..SIZE], k, passed, s);
 }
 
 // Clears the flags of the log's entries that an effect for a root clears: the entries that keep none leave the log.

@@ -3,7 +3,7 @@ ghost use Rattle.std.specs.Prelude.{◌≡◌, true, cond, ◌&&◌, ℕ, ◌≤
 ghost use Rattle.rules.specs.Valid.{is_rule};
 ghost use Rattle.machine.specs.Entries.{are_ordered};
 ghost use Rattle.daylog.specs.Inner.Log.{HeldLog, entries_of};
-ghost use Rattle.daylog.specs.Inner.Memo.{memo_for, is_memo_of, RightTwo};
+ghost use Rattle.daylog.specs.Inner.Memo.{memo_for, RightTwo};
 ghost use Rattle.daylog.specs.Newest.{newest};
 ghost use Rattle.daylog.specs.Inner.Sieve.{first_time, sieve_of, is_wanted};
 
@@ -14,11 +14,11 @@ use rules::{Kind, Rule, Scope};
 
 // What counts for a rule at a time: the digits of an entry's first number under a mask, which hold its root, its unit and the flag of the rule's level as
 // far as the rule asks for them, are those that are wanted, and the entry is not before a first time.
-#[derive(Clone, Copy)]
-pub(crate) struct Sieve {
-    mask: u64,
-    want: u64,
-    pub(crate) from: u64,
+#[derive(Clone, Copy, PartialEq, Eq)]
+pub struct Sieve {
+    pub mask: u64,
+    pub want: u64,
+    pub from: u64,
 }
 
 // The first time that still counts at this one, or a day's end if none does.
@@ -75,18 +75,11 @@ fn sieved(s: Sieve, fill: u64, n: u64) -> u64
     if fill & s.mask == s.want { n } else { 0 }
 }
 
-// Whether a memo is that of a sieve.
-pub(crate) fn is_for(s: Sieve, m: Memo) -> bool
-    ensures { result ≡ is_memo_of s m }
-{
-    (m.mask == s.mask) & (m.want == s.want) & (m.from == s.from)
-}
-
 // Whether a memo says how many entries a reading from a first time on passes.
 fn has_read(m: Memo, from: u64) -> bool
-    ensures { result ≡ (ltb 0 m.mask && eqb m.from from) }
+    ensures { result ≡ (ltb 0 m.sieve.mask && eqb m.sieve.from from) }
 {
-    (0 < m.mask) & (m.from == from)
+    (0 < m.sieve.mask) & (m.sieve.from == from)
 }
 
 // How many entries a reading from a first time on passes: as many as one that was made before did, else the log is read.
@@ -132,9 +125,7 @@ pub(crate) fn memo_of(log: &[u64], k: usize, passed: usize, s: Sieve) -> Memo
         count = count.plus(one);
     }
     Memo {
-        mask: s.mask,
-        want: s.want,
-        from: s.from,
+        sieve: s,
         passed,
         notional,
         volume,

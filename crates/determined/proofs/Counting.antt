@@ -9,8 +9,8 @@ use Rattle.counting.proofs.left.Reads as left-reads
 use Rattle.counting.proofs.counted_at.Kinds as counted-at-kinds
 use Rattle.counting.proofs.counted_at.Reads as counted-at-reads
 
-pub counted-by : Determines 1 counted-by-kinds.ps counted-by-kinds.r counted-by-reads.Asked counted-by-reads.Learnt
-counted-by κs args asked x y u v p q = (λ i. record { amount = alike p.0 q.0 i; memos = alike p.2 q.2 i }, refl)
+pub counted-by : Determines 2 counted-by-kinds.ps counted-by-kinds.r counted-by-reads.Asked counted-by-reads.Learnt
+counted-by κs args asked x y u v p q = (alike p.amount q.amount, λ i. (v.0, (alike p.memos_after.1 q.memos_after.1 i, v.1.1)))
 
 pub left : Determines 1 left-kinds.ps left-kinds.r left-reads.Asked left-reads.Learnt
 left κs args asked x y u v p q = (alike p q, refl)

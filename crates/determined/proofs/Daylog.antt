@@ -20,8 +20,8 @@ use Rattle.daylog.proofs.read_window.Kinds as read-window-kinds
 use Rattle.daylog.proofs.read_window.Reads as read-window-reads
 use Rattle.daylog.proofs.sum_in.Kinds as sum-in-kinds
 use Rattle.daylog.proofs.sum_in.Reads as sum-in-reads
-use Rattle.daylog.proofs.recalled.Kinds as recalled-kinds
-use Rattle.daylog.proofs.recalled.Reads as recalled-reads
+use Rattle.daylog.proofs.recall.Kinds as recall-kinds
+use Rattle.daylog.proofs.recall.Reads as recall-reads
 
 pub is-log : Determines 1 is-log-kinds.ps is-log-kinds.r is-log-reads.Asked is-log-reads.Learnt
 is-log κs args asked x y u v p q = (alike p q, refl)
@@ -50,5 +50,5 @@ read-window κs args asked x y u v p q = (alike p q, refl)
 pub sum-in : Determines 0 sum-in-kinds.ps sum-in-kinds.r sum-in-reads.Asked sum-in-reads.Learnt
 sum-in κs args asked x y u v p q = (alike p q, refl)
 
-pub recalled : Determines 1 recalled-kinds.ps recalled-kinds.r recalled-reads.Asked recalled-reads.Learnt
-recalled κs args asked x y u v p q = (alike p.2 q.2, refl)
+pub recall : Determines 2 recall-kinds.ps recall-kinds.r recall-reads.Asked recall-reads.Learnt
+recall κs args asked x y u v p q = (refl, λ i. (v.0, (alike p.2 q.2 i, v.1.1)))

@@ -13,12 +13,12 @@ use Rattle.state.specs.State.{decode}
 use Rattle.state.specs.Inner.Laid.{Laid}
 use Rattle.state.proofs.Done.{Doing, doing-none, doing-at, doing-more, doing-all}
 use Rattle.grant.specs.Inner.Grant.{concerns, fills_by, reached_at, Credited, AllCredited}
-use Rattle.grant.specs.declared.Reached.{Reached}
+use Rattle.grant.specs.declared.Levels.{Levels}
 use Rattle.grant.proofs.Credits.{credit-fair}
 use Rattle.grant.proofs.Tested.{Tested, tested-none, tested-more, tested-done}
 
 -- the same account by another number
-pub credited-there : {o : Offer} {grant i j : ℕ} {xs ys : List ℕ} {before after : Reached} → i ≡ j → Credited o grant i xs ys before after
+pub credited-there : {o : Offer} {grant i j : ℕ} {xs ys : List ℕ} {before after : Levels Bool} → i ≡ j → Credited o grant i xs ys before after
     → Credited o grant j xs ys before after
 credited-there {o} {grant} {xs = xs} {ys = ys} {before = before} {after = after} e h = subst (λ (n : ℕ). Credited o grant n xs ys before after) e h
 
@@ -28,7 +28,7 @@ module _ (o : Offer) (grant : ℕ) where
   filled_at level a = concerns o level a && fills_by o grant a
 
   -- the first i accounts of xs are credited in ys, and reached tells whether one of these stands at its limit
-  pub record Crediting (xs : List ℕ) (i : ℕ) (ys : List ℕ) (reached : Reached) : Type 0 where
+  pub record Crediting (xs : List ℕ) (i : ℕ) (ys : List ℕ) (reached : Levels Bool) : Type 0 where
     pub doing : Doing (credited o grant) xs i ys
     pub root : Tested (filled_at (Root o.root)) (decode xs).part.accounts i reached.root
     pub firm : Tested (filled_at Firm) (decode xs).part.accounts i reached.firm
@@ -41,8 +41,8 @@ module _ (o : Offer) (grant : ℕ) where
       firm = tested-none (filled_at Firm) (decode xs).part.accounts;
     }
 
-    module _ {i : ℕ} {ys : List ℕ} {reached : Reached} (c : Crediting xs i ys reached) where
-      pub crediting-more : {zs : List ℕ} {after : Reached} → i < length (decode xs).part.accounts → Credited o grant i ys zs reached after
+    module _ {i : ℕ} {ys : List ℕ} {reached : Levels Bool} (c : Crediting xs i ys reached) where
+      pub crediting-more : {zs : List ℕ} {after : Levels Bool} → i < length (decode xs).part.accounts → Credited o grant i ys zs reached after
           → Crediting xs (i + 1) zs after
       crediting-more l one =
           let at = doing-at (credit-fair o grant) h c.doing in

@@ -22,7 +22,7 @@ use Rattle.state.specs.Inner.Laid.{Laid, account_in}
 use Rattle.state.proofs.After.{held-laid}
 use Rattle.state.proofs.Done.{change-none, doing-at}
 use Rattle.grant.specs.Inner.Grant.{concerns, fills_by, lowered, Credited}
-use Rattle.grant.specs.declared.Reached.{Reached}
+use Rattle.grant.specs.declared.Levels.{Levels}
 use Rattle.grant.proofs.Cut.{Cut, lowered-off, cut-more}
 use Rattle.grant.proofs.Credits.{credit-fair, credited-off, fills-off}
 use Rattle.grant.proofs.Accounts.{Crediting, crediting-more}
@@ -71,14 +71,14 @@ module _ {xs : List ℕ} (h : Laid xs) where
             skip i k l out d = cut-more no_account d l (lowered-off o (account_in xs i) refl (sym out) (decode xs).log level k refl)
 
         -- the accounts credited after the rule
-        pub crediting-rule : {grant : ℕ} {ys zs : List ℕ} {before after : Reached} → Crediting o grant xs place ys before
+        pub crediting-rule : {grant : ℕ} {ys zs : List ℕ} {before after : Levels Bool} → Crediting o grant xs place ys before
             → Credited o grant (place + n) ys zs before after → Crediting o grant xs next zs after
         unfolding covers_offer
         crediting-rule {grant} {ys} {zs} {before} {after} c e =
-            past-rule (λ i (a : List ℕ × Reached). Crediting o grant xs i a.0 a.1) skip on {a = (ys, before)} {b = (zs, after)} c
+            past-rule (λ i (a : List ℕ × Levels Bool). Crediting o grant xs i a.0 a.1) skip on {a = (ys, before)} {b = (zs, after)} c
             (λ d. crediting-more o grant h d faced-low e)
           where
-            skip : (i : ℕ) (a : List ℕ × Reached) → i < length accounts → covers_offer o (account_in xs i).rule ≡ false
+            skip : (i : ℕ) (a : List ℕ × Levels Bool) → i < length accounts → covers_offer o (account_in xs i).rule ≡ false
                 → Crediting o grant xs i a.0 a.1 → Crediting o grant xs (i + 1) a.0 a.1
             skip i (us, reached) l out d =
                 let a = account_in us i in

@@ -27,10 +27,8 @@ use Rattle.machine.specs.Deeds.{Source, granted, reported, filling, clock_after}
 use Rattle.machine.specs.Step.{after, part_after, accounts_after, locks_after, log_after}
 use Rattle.machine.proofs.Grants.{grant-le}
 use Rattle.grant.specs.Inner.Grant.{inside_of, least_at, reached_at, Fillable, HasRoom, AllCredited, marked, Ready, Returning}
-use Rattle.grant.specs.declared.Cuts.{Cuts}
+use Rattle.grant.specs.declared.Levels.{Levels}
 use Rattle.grant.specs.declared.Inside.{Inside}
-use Rattle.grant.specs.declared.Reached.{Reached}
-use Rattle.grant.specs.declared.Trips.{Trips}
 use Rattle.grant.proofs.Trip.{grant-cuts, level-trips}
 use Rattle.grant.proofs.Credits.{credit-fair}
 use Rattle.grant.proofs.Reports.{report-trips}
@@ -66,7 +64,7 @@ module _ {xs : List ℕ} {o : Offer} {n : ℕ} (f : Filling xs o n) where
   paid-room = f.room
 
   -- the totals
-  pub paid-holds : {ys : List ℕ} {reached : Reached} → AllCredited o n xs ys reached → Holds (paid o n (decode xs)) xs ys
+  pub paid-holds : {ys : List ℕ} {reached : Levels Bool} → AllCredited o n xs ys reached → Holds (paid o n (decode xs)) xs ys
   paid-holds c = record { fits = fits_all (credit-fair o n) f.asked.laid.fits; is = c.memory }
 
   module _ {ys : List ℕ} (h : Holds (paid o n (decode xs)) xs ys) where
@@ -107,7 +105,7 @@ module _ {xs : List ℕ} {o : Offer} {n : ℕ} (f : Filling xs o n) where
     used-root = subst (λ (s : State). o.root < length s.part.profile.roots) (sym (held-state h)) f.asked.root
 
     -- all together
-    module _ {trips : Trips} (root : trips.root ≡ level_trips source (decode xs).log o n (decode xs).part.accounts (Root o.root))
+    module _ {trips : Levels Bool} (root : trips.root ≡ level_trips source (decode xs).log o n (decode xs).part.accounts (Root o.root))
         (firm : trips.firm ≡ level_trips source (decode xs).log o n (decode xs).part.accounts Firm) where
       filled_is : marked (used source n (logged o n (paid o n (decode xs)))) o trips ≡ after (filling source o n) (decode xs)
       unfolding after part_after clock_after accounts_after locks_after log_after register_after rules_in
@@ -120,7 +118,7 @@ module _ {xs : List ℕ} {o : Offer} {n : ℕ} (f : Filling xs o n) where
       filled-memory e = step-on h (λ t. marked t o trips) e ∙ ap (λ (s : State). stored s xs) filled_is
 
 -- a grant, and what it trips
-module _ {xs : List ℕ} {o : Offer} {grant : ℕ} {cuts : Cuts} (r : Ready xs o grant cuts) where
+module _ {xs : List ℕ} {o : Offer} {grant : ℕ} {cuts : Levels ℕ} (r : Ready xs o grant cuts) where
   pub ready-filling : Filling xs o grant
   ready-filling = record {
     asked = r.asked;
@@ -138,7 +136,7 @@ module _ {xs : List ℕ} {o : Offer} {grant : ℕ} {cuts : Cuts} (r : Ready xs o
       ap₂ (λ (b : Bool) (n : ℕ). b || (ltb grant o.contracts && eqb n grant)) reached cut
       ∙ sym (level-trips (decode xs).log o grant (decode xs).part.accounts level below)
 
-  module _ {ys : List ℕ} {reached : Reached} (c : AllCredited o grant xs ys reached) where
+  module _ {ys : List ℕ} {reached : Levels Bool} (c : AllCredited o grant xs ys reached) where
     pub trips-root : (reached.root || (ltb grant o.contracts && eqb cuts.root grant))
         ≡ level_trips granted (decode xs).log o grant (decode xs).part.accounts (Root o.root)
     trips-root = trips-by (Root o.root) c.root r.levels.root (omega (arith, grant-least))

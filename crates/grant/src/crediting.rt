@@ -20,8 +20,7 @@ fn credit_one(m: &mut [u64], o: Offer, grant: u64, i: usize, rule: Rule, before:
     requires { Laid m.old × (i < length (decode m.old).part.accounts) × (rule ≡ (account_in m.old i).rule) × (is_total (account_in m.old i).rule (account_in m.old i).total ≡ true) × (o.premium ≤ premiums.most) × (grant ≤ offers.most) × ((not (is_rate rule.kind) && covers_offer o rule) ≡ true) }
     ensures { Credited o grant i m.old m.new before result }
 {
-    let limit = rule.limit;
-    let total = state::total_in(m, i, limit);
+    let total = state::total_in(m, i, rule.limit);
     let account = rule.filled(total, TenThousandths(o.premium), Contracts(grant));
     let after = account.total;
     state::put_total(m, i, after);

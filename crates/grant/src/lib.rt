@@ -23,26 +23,21 @@ use machine::{Entry, Offer};
 use measures::{Contracts, TenThousandths};
 use rules::{Rule, Scope};
 
-// The least that the rules of the offer's root allow of it, and the least that those of the firm do.
+// What holds of the offer's root, and what holds of the firm.
 #[derive(Clone, Copy)]
-pub struct Cuts {
-    pub root: u64,
-    pub firm: u64,
+pub struct Levels<T> {
+    pub root: T,
+    pub firm: T,
 }
 
-// Whether an absolute rule of the offer's root stands at its limit, and whether one of the firm does.
-#[derive(Clone, Copy)]
-pub struct Reached {
-    pub root: bool,
-    pub firm: bool,
-}
+// The least that the rules of a level allow of an offer.
+pub type Cuts = Levels<u64>;
 
-// Whether a fill trips the offer's root, and whether it trips the firm.
-#[derive(Clone, Copy)]
-pub struct Trips {
-    pub root: bool,
-    pub firm: bool,
-}
+// Whether an absolute rule of a level stands at its limit.
+pub type Reached = Levels<bool>;
+
+// Whether a fill trips a level.
+pub type Trips = Levels<bool>;
 
 // The longest window of the rules, 0 if none is a rate rule, and its reading at a time.
 #[derive(Clone, Copy)]
@@ -65,57 +60,35 @@ pub fn inside_at(m: &[u64], time: u64) -> Inside
 pub(crate) fn is_firm(rule: Rule) -> bool
     ensures { result ≡ same_level (level_of rule.scope) Firm }
 {
-    let scope = rule.scope;
-    match scope {
-        Scope::EveryFill => true,
-        Scope::WholeRoot(_) => false,
-        Scope::OneUnit(_, _) => false,
-    }
-}
-
-// The cuts after some rules, and the memos after these.
-#[derive(Clone, Copy)]
-struct Lowering {
-    cuts: Cuts,
-    memos: Two,
+    matches!(rule.scope, Scope::EveryFill)
 }
 
 // The cuts after account i, which has this rule, and which covers the offer: that of its level is lowered to what it allows.
-fn lower(m: &[u64], o: Offer, i: usize, rule: Rule, cuts: Cuts, memos: Two) -> Lowering
-    requires { Fillable m.now o × (i < length (decode m.now).part.accounts) × (rule ≡ (account_in m.now i).rule) × RightTwo (decode m.now).log memos × (covers_offer o rule ≡ true) }
-    ensures { Lowered m.now o i cuts result.cuts × RightTwo (decode m.now).log result.memos }
+fn lower(m: &[u64], o: Offer, i: usize, rule: Rule, cuts: Cuts, memos: &mut Two) -> Cuts
+    requires { Fillable m.now o × (i < length (decode m.now).part.accounts) × (rule ≡ (account_in m.now i).rule) × RightTwo (decode m.now).log memos.old × (covers_offer o rule ≡ true) }
+    ensures { Lowered m.now o i cuts result × RightTwo (decode m.now).log memos.new }
 {
-    let told = counting::counted_by(m, i, rule, o.time, memos);
-    let next = told.memos;
-    let counted = told.amount;
+    let counted = counting::counted_by(m, i, rule, o.time, memos);
     let most = rule.allowance(counted, TenThousandths(o.premium), Contracts(o.contracts));
     if is_firm(rule) {
-        let lowered = Cuts {
-            root: cuts.root,
-            firm: numbers::least(most.0, cuts.firm),
-        };
-        return Lowering {
-            cuts: lowered,
-            memos: next,
+        return Cuts {
+            firm: most.0.min(cuts.firm),
+            ..cuts
         };
     }
-    let lowered = Cuts {
-        root: numbers::least(most.0, cuts.root),
-        firm: cuts.firm,
-    };
-    Lowering {
-        cuts: lowered,
-        memos: next,
+    Cuts {
+        root: most.0.min(cuts.root),
+        ..cuts
     }
 }
 
 // The cuts after rule i, whose accounts begin at a place: those that it leaves as they are if it does not cover the offer.
-fn lower_at(m: &[u64], o: Offer, i: usize, place: usize, cuts: Cuts, memos: Two) -> Lowering
-    requires { Fillable m.now o × (i < length (rules_in (decode m.now))) × (place ≡ first_cell (rules_in (decode m.now)) i) × RightTwo (decode m.now).log memos }
-    ensures { Lowered m.now o (faced_by m.now o i) cuts result.cuts × RightTwo (decode m.now).log result.memos }
+fn lower_at(m: &[u64], o: Offer, i: usize, place: usize, cuts: Cuts, memos: &mut Two) -> Cuts
+    requires { Fillable m.now o × (i < length (rules_in (decode m.now))) × (place ≡ first_cell (rules_in (decode m.now)) i) × RightTwo (decode m.now).log memos.old }
+    ensures { Lowered m.now o (faced_by m.now o i) cuts result × RightTwo (decode m.now).log memos.new }
 {
     if !state::covering::covers_at(m, i, o) {
-        return Lowering { cuts, memos };
+        return cuts;
     }
     let rule = state::rule_in(m, i);
     let own = rule.of_unit(o.unit);
@@ -135,9 +108,7 @@ pub fn cuts_of(m: &[u64], o: Offer, read: Reading) -> Cuts
     let mut memos = daylog::memos_of(read);
     let mut place: usize = 0;
     for i in 0..rules {
-        let after = lower_at(m, o, i, place, cuts, memos);
-        cuts = after.cuts;
-        memos = after.memos;
+        cuts = lower_at(m, o, i, place, cuts, &mut memos);
         place += state::covering::accounts_at(m, i);
     }
     cuts

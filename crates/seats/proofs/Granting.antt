@@ -32,7 +32,7 @@ use Rattle.state.specs.Sound.{is_sound}
 use Rattle.state.specs.Inner.Laid.{Laid, Fits, with_clock}
 use Rattle.state.proofs.Map.{map-test}
 use Rattle.state.proofs.Exactly.{taken-apart, sound-decode, sound-is-laid}
-use Rattle.grant.specs.declared.Cuts.{Cuts}
+use Rattle.grant.specs.declared.Levels.{Levels}
 use Rattle.grant.specs.declared.Inside.{Inside}
 use Rattle.grant.specs.Inner.Grant.{inside_of, AreCuts, Ready, HasRoom}
 use Rattle.grant.proofs.Joined.{window-is, passed_is}
@@ -213,7 +213,7 @@ module _ (xs : List ℕ) (o : Offer) (g : Granting xs o) (room : ℕ) (few : roo
     has_room has pos =
         omega (arith, few, leb-false room (inside.read.passed + kept) (rw (lt-ltb 0 grant pos, rated ∙ has) at e), many)
 
-    pub ready-is : {cuts : Cuts} → AreCuts xs o cuts → Ready xs o grant cuts
+    pub ready-is : {cuts : Levels ℕ} → AreCuts xs o cuts → Ready xs o grant cuts
     ready-is k = record {
       asked = g.asked;
       totals = (sound-decode xs (sound-memory xs g.met.ready)).totals;

@@ -19,11 +19,11 @@ memo_sum (Count l) m = m.count.0
 
 -- the sieve of a memo
 abbrev pub sieve_for : Memo → Sieve
-sieve_for m = record { mask = m.mask; want = m.want; from = m.from }
+sieve_for m = m.sieve
 
 -- a memo is that of a sieve
 abbrev pub is_memo_of : Sieve → Memo → Bool
-is_memo_of s m = eqb m.mask s.mask && eqb m.want s.want && eqb m.from s.from
+is_memo_of s m = eqb m.sieve.mask s.mask && (eqb m.sieve.want s.want && eqb m.sieve.from s.from)
 
 -- how many of these entries are not before a time
 unfoldable pub reading_since : ℕ → List Entry → ℕ
@@ -32,9 +32,7 @@ reading_since first es = sum_of (λ e. cond (is_since first e) 1 0) es
 -- the memo of a sieve over these entries
 unfoldable pub memo_for : Sieve → List Entry → Memo
 memo_for s es = record {
-  mask = s.mask;
-  want = s.want;
-  from = s.from;
+  sieve = s;
   passed = reading_since s.from es;
   notional = record { 0 = sum_of (sifted (Notional (record { 0 = 0 })) s) es };
   volume = record { 0 = sum_of (sifted (Volume (record { 0 = 0 })) s) es };
@@ -43,7 +41,7 @@ memo_for s es = record {
 
 -- a memo of a sieve that no entry passes
 unfoldable pub no_memo : Memo
-no_memo = record { mask = 0; want = 1; from = 0; passed = 0; notional = record { 0 = 0 }; volume = record { 0 = 0 }; count = record { 0 = 0 } }
+no_memo = record { sieve = record { mask = 0; want = 1; from = 0 }; passed = 0; notional = record { 0 = 0 }; volume = record { 0 = 0 }; count = record { 0 = 0 } }
 
 -- memos of which the last is that of a sieve: one of those before, or a new one
 unfoldable pub recalled_of : Sieve → List Entry → Two → Two
@@ -62,7 +60,7 @@ IsRead es read = read.passed ≡ reading_since read.from es
 
 -- a memo of a sieve with a mask says how many of these entries are not before its time
 abbrev pub Passed : List Entry → Memo → Type 0
-Passed es m = 0 < m.mask → m.passed ≡ reading_since m.from es
+Passed es m = 0 < m.sieve.mask → m.passed ≡ reading_since m.sieve.from es
 
 pub record RightTwo (es : List Entry) (t : Two) : Type 0 where
   pub last : Right es t.last

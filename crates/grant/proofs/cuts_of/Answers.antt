@@ -30,8 +30,8 @@ loop-i-init c =
       refl,
     )
 
-pub lower_at-after-requires : goal.lower_at-after-requires
-lower_at-after-requires c =
+pub lower_at-cuts-requires : goal.lower_at-cuts-requires
+lower_at-cuts-requires c =
     let start = c in
     (start.requires.0, omega (arith, c.rules_in-rules.ensures, c.loop-i-test.true), c.loop-i.invariant.3, c.loop-i.invariant.2)
 
@@ -56,7 +56,7 @@ loop-i-preserved c =
     let xs = start.args.m.now in
     let low : l.i < length (rules_in (decode xs)) = omega (arith, c.rules_in-rules.ensures, c.loop-i-test.true) in
     let laid = start.requires.0.laid in
-    let e = c.lower_at-after.ensures in
+    let e = c.lower_at-cuts.ensures in
     let on = next_place laid low l.invariant.3 refl c.accounts_at-place.ensures in
     let from : (level : Level) (n : ℕ) → Cut (decode xs).log o (decode xs).part.accounts level l.place n
     → Cut (decode xs).log o (decode xs).part.accounts level (first_cell (rules_in (decode xs)) l.i) n =

@@ -17,7 +17,7 @@ allowance-most-requires c =
     let p = start.requires in
     let limit = start.args.rule.limit in (
       subst (λ (r : Rule). InRange r.limit) (sym p.2) (laid-in-range p.0.laid p.1).0,
-      ap (is_of limit) c.counted_by-told.ensures.0 ∙ of-in limit _,
+      ap (is_of limit) c.counted_by-counted.ensures.amount ∙ of-in limit _,
       p.0.premium.0,
     )
 
@@ -31,14 +31,14 @@ returns-then-is_firm c =
     let at_most = c in
     let told = at_most in
     let is = start.requires.2 in
-    let allows = allows-is (decode xs).log args.o a is told.counted_by-told.ensures.0 at_most.allowance-most.ensures in
+    let allows = allows-is (decode xs).log args.o a is told.counted_by-counted.ensures.amount at_most.allowance-most.ensures in
     let covered = sym start.requires.4 in
     let firm = c.is_firm.ensures in (
       record {
         root = sym (rw c.if-is_firm.true at (lowered-root args.o a is covered refl firm (decode xs).log allows args.cuts.root));
-        firm = c.least.ensures ∙ sym (rw c.if-is_firm.true at (lowered-firm args.o a is covered refl firm (decode xs).log allows args.cuts.firm));
+        firm = c.min.ensures ∙ sym (rw c.if-is_firm.true at (lowered-firm args.o a is covered refl firm (decode xs).log allows args.cuts.firm));
       },
-      told.counted_by-told.ensures.1,
+      told.counted_by-counted.ensures.memos_after.0,
     )
 
 pub returns : goal.returns
@@ -51,12 +51,12 @@ returns c =
     let at_most = c in
     let told = at_most in
     let is = start.requires.2 in
-    let allows = allows-is (decode xs).log args.o a is told.counted_by-told.ensures.0 at_most.allowance-most.ensures in
+    let allows = allows-is (decode xs).log args.o a is told.counted_by-counted.ensures.amount at_most.allowance-most.ensures in
     let covered = sym start.requires.4 in
     let firm = c.is_firm.ensures in (
       record {
-        root = c.least-2.ensures ∙ sym (rw c.if-is_firm.false at (lowered-root args.o a is covered refl firm (decode xs).log allows args.cuts.root));
+        root = c.min-2.ensures ∙ sym (rw c.if-is_firm.false at (lowered-root args.o a is covered refl firm (decode xs).log allows args.cuts.root));
         firm = sym (rw c.if-is_firm.false at (lowered-firm args.o a is covered refl firm (decode xs).log allows args.cuts.firm));
       },
-      told.counted_by-told.ensures.1,
+      told.counted_by-counted.ensures.memos_after.0,
     )

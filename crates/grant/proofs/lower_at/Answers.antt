@@ -65,4 +65,4 @@ returns c =
     let args = start.args in
     let p = start.requires in
     let at = facing p.0.laid p.1 p.2 c.rule_in-rule.ensures args.o p.0.unit c.place_of.ensures in
-    (subst (λ (j : ℕ). Lowered args.m.now args.o j args.cuts c.lower.result.cuts) at c.lower.ensures.0, c.lower.ensures.1)
+    (subst (λ (j : ℕ). Lowered args.m.now args.o j args.cuts c.lower.result) at c.lower.ensures.0, c.lower.ensures.1)

@@ -26,10 +26,8 @@ use Rattle.machine.specs.Deeds.{granted, reported, filling}
 use Rattle.machine.specs.Register.{are_different}
 use Rattle.machine.specs.Locks.{tripped_by}
 use Rattle.machine.specs.Step.{after}
-use Rattle.grant.specs.declared.Cuts.{Cuts}
+use Rattle.grant.specs.declared.Levels.{Levels}
 use Rattle.grant.specs.declared.Inside.{Inside}
-use Rattle.grant.specs.declared.Reached.{Reached}
-use Rattle.grant.specs.declared.Trips.{Trips}
 
 -- the longest window of a state's rules, and its reading at a time
 unfoldable pub inside_of : State → ℕ → Inside
@@ -90,23 +88,23 @@ pub record Creditable (xs : List ℕ) (o : Offer) (grant : ℕ) : Type 0 where
   pub most : grant ≤ offers.most
 
 -- what account i leaves of the cuts
-pub record Lowered (xs : List ℕ) (o : Offer) (i : ℕ) (before after : Cuts) : Type 0 where
+pub record Lowered (xs : List ℕ) (o : Offer) (i : ℕ) (before after : Levels ℕ) : Type 0 where
   pub root : after.root ≡ lowered (decode xs).log o (Root o.root) (account_in xs i) before.root
   pub firm : after.firm ≡ lowered (decode xs).log o Firm (account_in xs i) before.firm
 
 -- the least that the rules of the offer's root allow, and of the firm
-pub record AreCuts (xs : List ℕ) (o : Offer) (cuts : Cuts) : Type 0 where
+pub record AreCuts (xs : List ℕ) (o : Offer) (cuts : Levels ℕ) : Type 0 where
   pub root : cuts.root ≡ least_at (decode xs).log o (decode xs).part.accounts (Root o.root)
   pub firm : cuts.firm ≡ least_at (decode xs).log o (decode xs).part.accounts Firm
 
 -- account i of a memory is credited with a grant, and after tells whether it, or one before, stands at its limit
-pub record Credited (o : Offer) (grant i : ℕ) (xs ys : List ℕ) (before after : Reached) : Type 0 where
+pub record Credited (o : Offer) (grant i : ℕ) (xs ys : List ℕ) (before after : Levels Bool) : Type 0 where
   pub memory : ys ≡ stored (with_accounts (decode xs) (set (decode xs).part.accounts i (credited o grant (account_in xs i)))) xs
   pub root : after.root ≡ (before.root || (concerns o (Root o.root) (account_in xs i) && fills_by o grant (account_in xs i)))
   pub firm : after.firm ≡ (before.firm || (concerns o Firm (account_in xs i) && fills_by o grant (account_in xs i)))
 
 -- every account of a memory is credited with a grant, and after tells which levels have an absolute rule at its limit
-pub record AllCredited (o : Offer) (grant : ℕ) (xs ys : List ℕ) (after : Reached) : Type 0 where
+pub record AllCredited (o : Offer) (grant : ℕ) (xs ys : List ℕ) (after : Levels Bool) : Type 0 where
   pub memory : ys ≡ stored (with_accounts (decode xs) (map (credited o grant) (decode xs).part.accounts)) xs
   pub root : after.root ≡ reached_at o grant (decode xs).part.accounts (Root o.root)
   pub firm : after.firm ≡ reached_at o grant (decode xs).part.accounts Firm
@@ -116,11 +114,11 @@ abbrev pub HasRoom : State → Offer → ℕ → Type 0
 HasRoom s o grant = has_rate (rules_in s) ≡ true → 0 < grant → length (recent (longest (rules_in s)) o.time s.log) < 512
 
 -- a state at the offer's time, with the trips of its root and of the firm
-abbrev pub marked : State → Offer → Trips → State
+abbrev pub marked : State → Offer → Levels Bool → State
 marked s o trips = with_locks (with_clock s o.time) (tripped_by (tripping trips.root trips.firm) o.root s.part.locks)
 
 -- an offer with its cuts and its grant, for which the log has a place
-pub record Ready (xs : List ℕ) (o : Offer) (grant : ℕ) (cuts : Cuts) : Type 0 where
+pub record Ready (xs : List ℕ) (o : Offer) (grant : ℕ) (cuts : Levels ℕ) : Type 0 where
   pub asked : Fillable xs o
   pub totals : are_totals (decode xs) ≡ true
   pub levels : AreCuts xs o cuts
@@ -128,7 +126,7 @@ pub record Ready (xs : List ℕ) (o : Offer) (grant : ℕ) (cuts : Cuts) : Type 
   pub room : HasRoom (decode xs) o grant
 
 -- the memory after a grant, and the levels that it trips
-pub record Filled (xs : List ℕ) (o : Offer) (grant : ℕ) (ys : List ℕ) (trips : Trips) : Type 0 where
+pub record Filled (xs : List ℕ) (o : Offer) (grant : ℕ) (ys : List ℕ) (trips : Levels Bool) : Type 0 where
   pub memory : ys ≡ stored (after (filling granted o grant) (decode xs)) xs
   pub root : trips.root ≡ level_trips granted (decode xs).log o grant (decode xs).part.accounts (Root o.root)
   pub firm : trips.firm ≡ level_trips granted (decode xs).log o grant (decode xs).part.accounts Firm
@@ -144,7 +142,7 @@ pub record Returning (xs : List ℕ) (o : Offer) (i : ℕ) : Type 0 where
   pub room : HasRoom (decode xs) o o.contracts
 
 -- the memory after a report for the order of an identity, and the levels that it trips
-pub record Returned (xs : List ℕ) (o : Offer) (identity : ℕ) (ys : List ℕ) (trips : Trips) : Type 0 where
+pub record Returned (xs : List ℕ) (o : Offer) (identity : ℕ) (ys : List ℕ) (trips : Levels Bool) : Type 0 where
   pub memory : ys ≡ stored (after (filling (reported identity) o o.contracts) (decode xs)) xs
   pub root : trips.root ≡ level_trips (reported identity) (decode xs).log o o.contracts (decode xs).part.accounts (Root o.root)
   pub firm : trips.firm ≡ level_trips (reported identity) (decode xs).log o o.contracts (decode xs).part.accounts Firm

@@ -17,12 +17,12 @@ use Rattle.daylog.proofs.Memos.{passed-many}
 use Rattle.daylog.proofs.sieves.passed_from.Goals as goal
 
 -- a memo with the first time says so
-told : (es : List Entry) (clock : ℕ) → are_ordered 0 clock es ≡ true → (m : Memo) (from : ℕ) → Passed es m → {b : Bool} → b ≡ (ltb 0 m.mask && eqb m.from from)
+told : (es : List Entry) (clock : ℕ) → are_ordered 0 clock es ≡ true → (m : Memo) (from : ℕ) → Passed es m → {b : Bool} → b ≡ (ltb 0 m.sieve.mask && eqb m.sieve.from from)
     → b ≡ true → m.passed ≡ length (newest from es)
 told es clock ordered m from right is taken =
     let both = sym is ∙ taken in
-    let some = ltb-true 0 m.mask (and_l (ltb 0 m.mask) (eqb m.from from) both) in
-    let same = eqb-true m.from from (and_r (ltb 0 m.mask) (eqb m.from from) both) in
+    let some = ltb-true 0 m.sieve.mask (and_l (ltb 0 m.sieve.mask) (eqb m.sieve.from from) both) in
+    let same = eqb-true m.sieve.from from (and_r (ltb 0 m.sieve.mask) (eqb m.sieve.from from) both) in
     right some ∙ ap (λ (n : ℕ). reading_since n es) same ∙ passed-many from clock es ordered
 
 pub returns-then-read-from : goal.returns-then-read-from

@@ -2,7 +2,7 @@
 use Prim.Native.Nat.{ℕ, ◌+◌, ◌-◌, ◌<◌}
 use native.Mathlib.Omega.{arith}
 use mathlib.Core.Path.{◌≡◌, refl, sym, ap, ◌∙◌, subst}
-use mathlib.Core.Bool.{true}
+use mathlib.Core.Bool.{Bool, true}
 use mathlib.Core.List.{List}
 use lib.ListN.{length}
 use Rattle.rules.specs.Units.{units_of}
@@ -18,7 +18,7 @@ use Rattle.state.proofs.Laid.{laid-few}
 use Rattle.state.proofs.Walked.{place-within, walked, next_place}
 use Rattle.state.proofs.After.{held-laid, held-length}
 use Rattle.state.proofs.Done.{doing-rules, doing-past}
-use Rattle.grant.specs.declared.Reached.{Reached}
+use Rattle.grant.specs.declared.Levels.{Levels}
 use Rattle.grant.specs.Inner.Grant.{faced_in, faced_by}
 use Rattle.grant.proofs.Credits.{credit-fair, laid-totals}
 use Rattle.grant.proofs.Accounts.{credited-there, Crediting, crediting-none, crediting-done}
@@ -37,7 +37,7 @@ loop-i-init c =
     (refl, crediting-none start.args.o start.args.grant start.requires.0.laid, refl)
 
 -- the rules stand as they were
-still : (o : Offer) (grant : ℕ) {xs ys : List ℕ} {i : ℕ} {reached : Reached} → Laid xs → Crediting o grant xs i ys reached → rules_in (decode ys) ≡ rules_in (decode xs)
+still : (o : Offer) (grant : ℕ) {xs ys : List ℕ} {i : ℕ} {reached : Levels Bool} → Laid xs → Crediting o grant xs i ys reached → rules_in (decode ys) ≡ rules_in (decode xs)
 still o grant h c = doing-rules (credit-fair o grant) h c.doing
 
 pub accounts_at-own-requires : goal.accounts_at-own-requires
