@@ -16,7 +16,7 @@ use Rattle.packing.specs.EntryPlace.{entry_at, entry_numbers, is_entry_place, lo
 use Rattle.shapes.proofs.Tables.{length-zeros}
 use Rattle.tables.proofs.Tables.{length-flat, length-places, length-table, place-table, read_table, put-at, put_next}
 use Rattle.tables.proofs.AllZero.{zeros-add}
-use Rattle.daylog.specs.Inner.Log.{HeldLog, entries_of, last_of, moved_log, joined_entries}
+use Rattle.daylog.specs.Inner.Log.{HeldLog, entries_of, last_of, joined_entries, Left}
 use Rattle.daylog.proofs.Logs.{codec, held-valid, held-table}
 
 -- a list p and then another from p's length on: what stands past p, one more at p's end, and how long they are
@@ -154,11 +154,15 @@ rest-blanked {k = k} {r = r} {xs = xs} {ys = ys} h p count most log is =
     let rest : length (drop r es) * 2 ≡ n = omega (arith, length-drop r es) in
     rw (is, many, log) (blanked p (drop r es) (r * 2) n (omega (arith, h.fits)) (ap (λ (m : ℕ). m * 2) count) rest)
 
--- an entry put after those that stay, once the places after these are set to 0
-pub joined-log : {k r : ℕ} {xs ys bs : List ℕ} → HeldLog k xs → r ≤ k → ys ≡ moved_log r (entries_of k xs) → (e : Entry) → r < 512
-    → bs ≡ zeros (length (take (k * 2 - r * 2) (drop (r * 2) ys)))
-    → sets (take (r * 2) ys ++ (bs ++ drop (k * 2 - r * 2) (drop (r * 2) ys))) (r * 2) (entry_numbers e) ≡ log_table (joined_entries r e (entries_of k xs))
-joined-log {k = k} {r = r} {xs = xs} h most moved e room is =
-    let rs = last_of r (entries_of k xs) in
-    let count : length rs ≡ r = omega (arith, length-drop (length (entries_of k xs) - r) (entries_of k xs), length-places codec k xs) in
-    rw (rest-blanked h rs count most moved is) (ap (λ (n : ℕ). sets (log_table rs) (n * 2) (entry_numbers e)) (sym count) ∙ put_next codec 512 rs e (omega arith))
+-- an entry put after those that stay
+pub joined-log : (es : List Entry) {r : ℕ} {ys zs : List ℕ} → Left (last_of r es) ys r → r < 512 → (e : Entry) → zs ≡ sets ys (r * 2) (entry_numbers e)
+    → Left (joined_entries r e es) zs (r + 1)
+joined-log es {r} kept room e is =
+    let rs = last_of r es in
+    let many : length rs ≡ r = sym kept.count in
+    record {
+      count = sym (length-append rs (e ∷ []) ∙ ap (λ (n : ℕ). n + 1) many);
+      log =
+          is ∙ ap (λ (l : List ℕ). sets l (r * 2) (entry_numbers e)) kept.log
+          ∙ ap (λ (n : ℕ). sets (log_table rs) (n * 2) (entry_numbers e)) (sym many) ∙ put_next codec 512 rs e (omega (arith, many));
+    }

@@ -14,13 +14,7 @@ use machine::Effect;
 fn flag_digits(forroot: bool, forfirm: bool) -> u64
     ensures { result ≡ flag_number forroot * 2 + flag_number forfirm }
 {
-    if forroot {
-        if forfirm { 3 } else { 2 }
-    } else if forfirm {
-        1
-    } else {
-        0
-    }
+    u64::from(forroot) * 2 + u64::from(forfirm)
 }
 
 // The first number of an entry without the flags that an effect for a root clears.

@@ -10,7 +10,7 @@ ghost use Rattle.machine.specs.Order.{unflagged_log};
 ghost use Rattle.laws.specs.Folds.{sum_of};
 ghost use Rattle.rules.specs.Amounts.{amount_in};
 ghost use Rattle.tables.specs.Inner.Tables.{zeros};
-ghost use Rattle.daylog.specs.Inner.Log.{entries_hold, log_holds, HeldIn, entries_in, log_numbers, joined_entries};
+ghost use Rattle.daylog.specs.Inner.Log.{entries_hold, log_holds, HeldIn, entries_in, log_numbers, last_of, joined_entries};
 ghost use Rattle.daylog.specs.Inner.Memo.{memo_sum, no_memo, recalled_of, IsRead, RightTwo};
 ghost use Rattle.daylog.specs.Inner.Reading.{window_reading};
 ghost use Rattle.daylog.specs.Inner.Sieve.{sieve_of};
@@ -129,13 +129,10 @@ pub fn memos_of(read: Reading) -> Two
 pub fn sum_in(limit: Limit, m: Memo) -> Amount
     ensures { result ≡ amount_in limit (memo_sum limit m) }
 {
-    let notional = m.notional;
-    let volume = m.volume;
-    let count = m.count;
     match limit {
-        Limit::Notional(_) => Amount::Notional(notional),
-        Limit::Volume(_) => Amount::Volume(volume),
-        Limit::Count(_) => Amount::Count(count),
+        Limit::Notional(_) => Amount::Notional(m.notional),
+        Limit::Volume(_) => Amount::Volume(m.volume),
+        Limit::Count(_) => Amount::Count(m.count),
     }
 }
 
@@ -144,11 +141,10 @@ pub fn counted(log: &[u64], rule: Rule, time: u64) -> Amount
     requires { HeldIn log.now × (is_rule 64 rule ≡ true) × (are_ordered 0 time (entries_in log.now) ≡ true) }
     ensures { result ≡ amount_in rule.limit (sum_of (entry_share rule time) (entries_in log.now)) }
 {
-    let limit = rule.limit;
     let k = log[0] as usize;
     let s = sieves::sieve_of(rule, time);
     let passed = windows::since(&log[1..SIZE], k, s.from);
-    sum_in(limit, sieves::memo_of(&log[1..SIZE], k, passed, s))
+    sum_in(rule.limit, sieves::memo_of(&log[1..SIZE], k, passed, s))
 }
 
 // The last of the memos becomes that of a rule at a time: one of those before, or a new one.
@@ -195,6 +191,16 @@ pub fn blank(s: &mut [u64])
     ensures { s.new ≡ zeros (length s.old) }
 {
     s.fill(0);
+}
+
+// Of the log's entries the last ones stay.
+pub fn keep_last(log: &mut [u64], stay: usize)
+    requires { HeldIn log.old × (stay ≤ length (entries_in log.old)) }
+    ensures { log.new ≡ log_numbers (last_of stay (entries_in log.old)) }
+{
+    let k = log[0] as usize;
+    windows::keep_places(&mut log[1..SIZE], k, stay);
+    log[0] = stay as u64;
 }
 
 // Of the log's entries the last ones stay, and e joins.

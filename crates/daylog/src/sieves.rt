@@ -46,10 +46,8 @@ pub(crate) fn sieve_of(rule: Rule, time: u64) -> Sieve
     requires { is_rule 64 rule ≡ true }
     ensures { result ≡ sieve_of rule time }
 {
-    let scope = rule.scope;
-    let kind = rule.kind;
-    let from = first_time(kind, time);
-    match scope {
+    let from = first_time(rule.kind, time);
+    match rule.scope {
         Scope::EveryFill => Sieve {
             mask: 1,
             want: 1,
@@ -87,17 +85,14 @@ pub(crate) fn passed_from(log: &[u64], k: usize, from: u64, before: Two) -> usiz
     requires { HeldLog k log.now × (from ≤ 86_400_000) × RightTwo (entries_of k log.now) before × ((clock : ℕ) × (are_ordered 0 clock (entries_of k log.now) ≡ true)) }
     ensures { result ≡ length (newest from (entries_of k log.now)) }
 {
-    let read = before.read;
-    let last = before.last;
-    let other = before.other;
-    if read.from == from {
-        return read.passed;
+    if before.read.from == from {
+        return before.read.passed;
     }
-    if has_read(last, from) {
-        return last.passed;
+    if has_read(before.last, from) {
+        return before.last.passed;
     }
-    if has_read(other, from) {
-        return other.passed;
+    if has_read(before.other, from) {
+        return before.other.passed;
     }
     since(log, k, from)
 }
@@ -117,11 +112,9 @@ pub(crate) fn memo_of(log: &[u64], k: usize, passed: usize, s: Sieve) -> Memo
         let fill = log[at];
         let amount = log[at + 1];
         let e = packing::entry_of(fill, sieved(s, fill, amount));
-        let premium = e.premium;
-        let contracts = e.contracts;
         let one = Executions(sieved(s, fill, 1));
-        notional = notional.plus(premium.times(contracts));
-        volume = volume.plus(contracts);
+        notional = notional.plus(e.premium.times(e.contracts));
+        volume = volume.plus(e.contracts);
         count = count.plus(one);
     }
     Memo {

@@ -4,7 +4,7 @@ ghost use Rattle.machine.specs.declared.Entry.{Entry};
 ghost use Rattle.machine.specs.Entries.{is_entry, are_ordered};
 ghost use Rattle.std.proofs.lemmas.List.Edits.{sets};
 ghost use Rattle.packing.specs.EntryPlace.{entry_numbers};
-ghost use Rattle.daylog.specs.Inner.Log.{HeldLog, entries_of, moved_log, joined_entries, Last, Left};
+ghost use Rattle.daylog.specs.Inner.Log.{HeldLog, entries_of, last_of, moved_log, joined_entries, Last, Left};
 ghost use Rattle.daylog.specs.Newest.{newest};
 ghost use Rattle.daylog.specs.Inner.Reading.{OfFour};
 
@@ -90,6 +90,17 @@ fn keep(log: &mut [u64], k: usize, left: usize)
     tables::move_down(log, from, n);
 }
 
+// Of the log's k entries the last ones stay, and the places after them hold 0.
+pub(crate) fn keep_places(log: &mut [u64], k: usize, left: usize)
+    requires { HeldLog k log.old × (left ≤ k) }
+    ensures { Left (last_of left (entries_of k log.old)) log.new left }
+{
+    keep(log, k, left);
+    let from = left * 2;
+    let end = k * 2;
+    blank(&mut log[from..end]);
+}
+
 // Puts an entry at place i of a log.
 fn put_entry(log: &mut [u64], i: usize, e: Entry)
     requires { (length log.old ≡ 1024) × (i < 512) × (is_entry 64 e ≡ true) }
@@ -106,10 +117,7 @@ pub(crate) fn join_places(log: &mut [u64], k: usize, left: usize, e: Entry) -> u
     requires { HeldLog k log.old × (left ≤ k) × (left < 512) × (is_entry 64 e ≡ true) }
     ensures { Left (joined_entries left e (entries_of k log.old)) log.new result }
 {
-    keep(log, k, left);
-    let from = left * 2;
-    let end = k * 2;
-    blank(&mut log[from..end]);
+    keep_places(log, k, left);
     put_entry(log, left, e);
     left + 1
 }

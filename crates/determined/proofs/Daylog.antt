@@ -14,6 +14,8 @@ use Rattle.daylog.proofs.blank.Kinds as blank-kinds
 use Rattle.daylog.proofs.blank.Reads as blank-reads
 use Rattle.daylog.proofs.join.Kinds as join-kinds
 use Rattle.daylog.proofs.join.Reads as join-reads
+use Rattle.daylog.proofs.keep_last.Kinds as keep-last-kinds
+use Rattle.daylog.proofs.keep_last.Reads as keep-last-reads
 use Rattle.daylog.proofs.memos_of.Kinds as memos-of-kinds
 use Rattle.daylog.proofs.memos_of.Reads as memos-of-reads
 use Rattle.daylog.proofs.read_window.Kinds as read-window-kinds
@@ -40,6 +42,9 @@ blank κs args asked x y u v p q = (refl, λ i. (alike p q i, v.1))
 
 pub join : Determines 1 join-kinds.ps join-kinds.r join-reads.Asked join-reads.Learnt
 join κs args asked x y u v p q = (refl, λ i. (alike p q i, v.1))
+
+pub keep-last : Determines 1 keep-last-kinds.ps keep-last-kinds.r keep-last-reads.Asked keep-last-reads.Learnt
+keep-last κs args asked x y u v p q = (refl, λ i. (alike p q i, v.1))
 
 pub memos-of : Determines 0 memos-of-kinds.ps memos-of-kinds.r memos-of-reads.Asked memos-of-reads.Learnt
 memos-of κs args asked x y u v p q = (alike p.1 q.1, refl)

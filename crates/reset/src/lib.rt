@@ -30,6 +30,7 @@ pub fn lock_out(m: &mut [u64], time: u64, level: u64, root: u64)
 pub fn effect_of(reset: u64) -> Effect
     ensures { result ≡ effect_of reset }
 {
+    // Numbers, as the call and the definition name the resets: an enum would be made of them only to be matched here.
     let zeroroot = (reset == 1) | (reset == 3);
     let zerofirm = (reset == 2) | (reset == 3);
     let liftroot = zeroroot | (reset == 4) | (reset == 6);
@@ -46,11 +47,9 @@ pub fn effect_of(reset: u64) -> Effect
 fn zeroes(rule: Rule, root: u64, effect: Effect) -> bool
     ensures { result ≡ zeroing effect root (level_of rule.scope) }
 {
-    let scope = rule.scope;
-    match scope {
+    match rule.scope {
         Scope::EveryFill => effect.zerofirm,
-        Scope::WholeRoot(r) => (r == root) & effect.zeroroot,
-        Scope::OneUnit(r, _) => (r == root) & effect.zeroroot,
+        Scope::WholeRoot(r) | Scope::OneUnit(r, _) => (r == root) & effect.zeroroot,
     }
 }
 
@@ -65,9 +64,8 @@ fn wipe_rule(m: &mut [u64], i: usize, place: usize, root: u64, effect: Effect) -
     if !zeroes(rule, root, effect) {
         return next;
     }
-    let limit = rule.limit;
     for j in place..next {
-        state::put_total(m, j, limit.amount(0));
+        state::put_total(m, j, rule.limit.amount(0));
     }
     next
 }

@@ -1,4 +1,4 @@
--- Loops that write a slice from its front: what stands before place i is done, and the rest is as it was. Assumes nothing.
+-- Numbers written over the front of others, part after part. Assumes nothing.
 use Prim.Native.Nat.{ℕ, suc, ◌+◌, ◌-◌, ◌≤◌, ◌<◌}
 use native.Mathlib.Omega.{arith}
 use native.Mathlib.Numerals.{add-one}
@@ -7,36 +7,6 @@ use mathlib.Core.List.{List, [], ◌∷◌, ◌++◌, append_assoc, append-nil}
 use lib.ListN.{length, get_or, take, drop, set, length-append, length-drop, length-set, take-append-drop, drop_of_length-le}
 use lib.Seq.{take-suc-set, drop-set-lt, take-suc, take_all, drop-drop, take_at, drop_at}
 use Rattle.state.specs.State.{rest_size, size, totals_at}
-
--- after i stores of a list `to` into a list that was `was`
-pub record Written (to was s : List ℕ) (i : ℕ) : Type 0 where
-  pub long : length s ≡ length was
-  pub within : i ≤ length to
-  pub room : length to ≤ length was
-  pub done : take i s ≡ take i to
-  pub rest : drop i s ≡ drop i was
-
-pub written_none : (to s : List ℕ) → length to ≤ length s → Written to s s 0
-written_none to s h = record { long = refl; within = omega arith; room = h; done = refl; rest = refl }
-
-pub written-more : {to was s : List ℕ} {i : ℕ} → Written to was s i → i < length to → (v : ℕ) → v ≡ get_or to i 0 → Written to was (set s i v) (i + 1)
-written-more {to} {was} {s} {i} w h v e = record {
-  long = length-set s i v ∙ w.long;
-  within = omega arith;
-  room = w.room;
-  done =
-      rw (add-one i)
-      (take-suc-set s i v (omega (arith, w.long, w.room)) ∙ ap₂ (λ (p : List ℕ) (x : ℕ). p ++ (x ∷ [])) w.done e ∙ sym (take-suc to i 0 h));
-  rest = rw (add-one i) (drop-set-lt (suc i) s i v (omega arith) ∙ rest-suc s ∙ ap (drop 1) w.rest ∙ sym (rest-suc was));
-}
-  where
-    rest-suc : (l : List ℕ) → drop (suc i) l ≡ drop 1 (drop i l)
-    rest-suc l = ap (λ (n : ℕ). drop n l) (sym (add-one i)) ∙ sym (drop-drop 1 i l)
-
-pub written_all : {to was s : List ℕ} {i : ℕ} → Written to was s i → length to ≤ i → s ≡ to ++ drop (length to) was
-written_all {to} {was} {s} {i} w h =
-    let e : i ≡ length to = omega (arith, w.within) in
-    sym (take-append-drop i s) ∙ ap₂ (λ (p q : List ℕ). p ++ q) (w.done ∙ take_all i to (omega arith)) (w.rest ∙ ap (λ (n : ℕ). drop n was) e)
 
 -- numbers written over the front of what follows p
 pub over-tail : (xs p rest new y : List ℕ) (a : ℕ) → xs ≡ p ++ rest → length p ≡ a → y ≡ new ++ drop (length new) (take (length xs - a) (drop a xs))

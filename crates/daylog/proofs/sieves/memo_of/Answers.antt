@@ -79,7 +79,7 @@ module _ (c : After-sieved-in-loop-i) where
       more-count c.requires.0 sieve c.loop-i.i some within not-before c.sieved.ensures c.entry_of-e.ensures c.loop-i.invariant.2 c.sieved-in-loop-i.ensures
 
 pub times-requires : goal.times-requires
-times-requires c = in-range c
+times-requires c = in-range (goal.at.times-requires c).After-sieved-in-loop-i
 
 pub plus-notional-requires : goal.plus-notional-requires
 plus-notional-requires c = let t = c in sum_fits t.requires.0 (notional-with (goal.at.plus-notional-requires t).After-sieved-in-loop-i _ c.times.ensures)

@@ -25,11 +25,11 @@ told es clock ordered m from right is taken =
     let same = eqb-true m.sieve.from from (and_r (ltb 0 m.sieve.mask) (eqb m.sieve.from from) both) in
     right some ∙ ap (λ (n : ℕ). reading_since n es) same ∙ passed-many from clock es ordered
 
-pub returns-then-read-from : goal.returns-then-read-from
-returns-then-read-from c =
+pub returns-then-before-from : goal.returns-then-before-from
+returns-then-before-from c =
     let s = c in
     let es = entries_of s.args.k s.args.log.now in
-    s.requires.2.read ∙ ap (λ (n : ℕ). reading_since n es) c.if-read-from.true ∙ passed-many s.args.from s.requires.3.0 es s.requires.3.1
+    s.requires.2.read ∙ ap (λ (n : ℕ). reading_since n es) c.if-before-from.true ∙ passed-many s.args.from s.requires.3.0 es s.requires.3.1
 
 pub returns-then-has_read : goal.returns-then-has_read
 returns-then-has_read c =

@@ -1,4 +1,4 @@
--- `trims::keep_places` meets its contract. Assumes nothing.
+-- `daylog::keep_places` meets its contract. Assumes nothing.
 use Prim.Native.Nat.{◌-◌}
 use mathlib.Core.Path.{◌≡◌, sym}
 use native.Mathlib.Omega.{arith}
@@ -7,7 +7,7 @@ use Rattle.tables.proofs.Tables.{length-places}
 use Rattle.daylog.specs.Inner.Log.{entries_of, last_of}
 use Rattle.daylog.proofs.Logs.{codec}
 use Rattle.daylog.proofs.Turns.{rest-blanked}
-use Rattle.seats.proofs.trims.keep_places.Goals as goal
+use Rattle.daylog.proofs.windows.keep_places.Goals as goal
 
 pub returns : goal.returns
 returns c =

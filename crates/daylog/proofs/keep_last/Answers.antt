@@ -1,10 +1,10 @@
--- `trims::keep_last` meets its contract. Assumes nothing.
+-- `daylog::keep_last` meets its contract: the places of those that stay, and their count. Assumes nothing.
 use native.Mathlib.Omega.{arith}
 use lib.ListN.{get_or}
 use Rattle.tables.proofs.Tables.{length-places}
 use Rattle.daylog.specs.Inner.Log.{places_in}
 use Rattle.daylog.proofs.Logs.{codec, set-table}
-use Rattle.seats.proofs.trims.keep_last.Goals as goal
+use Rattle.daylog.proofs.keep_last.Goals as goal
 
 pub keep_places-requires : goal.keep_places-requires
 keep_places-requires c =
