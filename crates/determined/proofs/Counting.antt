@@ -10,7 +10,7 @@ use Rattle.counting.proofs.counted_at.Kinds as counted-at-kinds
 use Rattle.counting.proofs.counted_at.Reads as counted-at-reads
 
 pub counted-by : Determines 2 counted-by-kinds.ps counted-by-kinds.r counted-by-reads.Asked counted-by-reads.Learnt
-counted-by κs args asked x y u v p q = (alike p.amount q.amount, λ i. (v.0, (alike p.memos_after.1 q.memos_after.1 i, v.1.1)))
+counted-by κs args asked x y u v p q = (alike p.0 q.0, λ i. (v.0, (v.1.0, (v.1.1.0, (v.1.1.1.0, (alike p.1.1 q.1.1 i, v.1.1.1.1.1))))))
 
 pub left : Determines 1 left-kinds.ps left-kinds.r left-reads.Asked left-reads.Learnt
 left κs args asked x y u v p q = (alike p q, refl)

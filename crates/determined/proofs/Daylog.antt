@@ -56,4 +56,4 @@ pub sum-in : Determines 0 sum-in-kinds.ps sum-in-kinds.r sum-in-reads.Asked sum-
 sum-in κs args asked x y u v p q = (alike p q, refl)
 
 pub recall : Determines 2 recall-kinds.ps recall-kinds.r recall-reads.Asked recall-reads.Learnt
-recall κs args asked x y u v p q = (refl, λ i. (v.0, (alike p.2 q.2 i, v.1.1)))
+recall κs args asked x y u v p q = (refl, λ i. (v.0, (v.1.0, (v.1.1.0, (alike p.2 q.2 i, v.1.1.1.1)))))
