@@ -22,6 +22,8 @@ pub const IDENTITY_MOST: u64 = words::IDENTITY_MOST;
 
 pub const REPORTS_MOST: u64 = words::REPORTS_MOST;
 
+// Each function takes the numbers that C lends under one named fact, RegisterHeld, as docs/DECISIONS.md promises it.
+
 // Whether the register's table holds as many orders as it says, with so many roots, no two of one identity, and 0 in the places not used.
 pub fn is_register(register: &[u64], roots: u64) -> bool
     requires { length register.now ≡ 129 }
