@@ -12,7 +12,7 @@ use Rattle.std.proofs.lemmas.List.{take_at, drop_at, nil_from_length, append-nil
 use lib.Seq.{sets, sets-eq, length-sets, take_all}
 use Rattle.text.proofs.Written.{sets-append}
 use Rattle.tables.specs.Inner.Tables.{places}
-use Rattle.profile.specs.declared.Reading.{Reading as Arming}
+use Rattle.profile.specs.Reading.{Reading as Arming}
 use Rattle.records.specs.Event16.{bytes16}
 use Rattle.answering.specs.Lines.{arm_line, record_line}
 use Rattle.answering.specs.Run.{Line, in_front, is_armed, opened_of, record_answer, record_memory, record_count, first_records, fitting, taken, memory_after, lines_of, ran_of}

@@ -6,7 +6,7 @@ use mathlib.Core.Bool.{true, false}
 use mathlib.Core.List.{List, [], ◌∷◌, ◌++◌}
 use Rattle.text.specs.Text.{bytes, numeral, name_number}
 use Rattle.text.specs.Digits.{digits_up_to, name_bytes, decimal}
-use Rattle.profile.specs.declared.Reading.TheVariants.{Accepted, Refused as NotArmed}
+use Rattle.profile.specs.Reading.{Accepted, Refused as NotArmed}
 use Rattle.machine.specs.Judge.{numbers}
 use Rattle.machine.specs.declared.Answer.TheVariants.{Refused, Judged}
 use Rattle.answering.specs.Lines.{spaced, arm_line, record_line}

@@ -2,8 +2,7 @@
 use Rattle.std.specs.Prelude.{ℕ, List, [], ◌∷◌, ◌++◌}
 use Rattle.text.specs.Text.{bytes}
 use Rattle.text.specs.Digits.{name_bytes, decimal}
-use Rattle.profile.specs.declared.Reading.{Reading}
-use Rattle.profile.specs.declared.Reading.TheVariants.{Accepted, Refused}
+use Rattle.profile.specs.Reading.{Reading, Accepted, Refused}
 use Rattle.machine.specs.Judge.{numbers}
 use Rattle.machine.specs.declared.Answer.{Answer}
 

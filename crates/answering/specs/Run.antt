@@ -1,8 +1,7 @@
 -- A run of event records over lent memory: what each is answered, the memory that it leaves, and the lines of all. Assumes nothing.
 use Rattle.std.specs.Prelude.{Result, ℕ, ◌+◌, ◌-◌, ◌*◌, ◌/◌, ◌%◌, ◌^◌, min, ◌≤◌, ◌<◌, Bool, true, false, List, [], ◌∷◌, ◌++◌, length, take, drop}
 use Rattle.tables.specs.Inner.Tables.{places}
-use Rattle.profile.specs.declared.Reading.{Reading as Arming}
-use Rattle.profile.specs.declared.Reading.TheVariants.{Accepted, Refused as NotArmed}
+use Rattle.profile.specs.Reading.{Reading as Arming, Accepted, Refused as NotArmed}
 use Rattle.machine.specs.Calls.{Call, order, lockout, offer, send, report, close}
 use Rattle.machine.specs.declared.Offer.{Offer as Offered}
 use Rattle.machine.specs.declared.Answer.{Answer}

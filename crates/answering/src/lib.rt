@@ -4,13 +4,14 @@
 ghost use Rattle.std.specs.Prelude.{◌≡◌, ◌+◌, ◌*◌, ◌≤◌, ◌<◌, length};
 ghost use Rattle.std.proofs.lemmas.List.Edits.{sets};
 ghost use Rattle.calls.specs.Calls.{arm_answer, arm_memory, call_answer, call_memory};
-ghost use Rattle.profile.specs.declared.Reading.TheVariants.{Accepted, Refused as NotArmed};
+ghost use Rattle.std.specs.declared.result.Result.TheVariants.{Ok, Err};
+ghost use Rattle.profile.specs.Reading.{reading_told};
 ghost use Rattle.records.specs.Event16.{bytes16};
 ghost use Rattle.answering.specs.Lines.{spaced, arm_line, record_line};
 ghost use Rattle.answering.specs.Run.{Line, FitsRoom, Fitted, in_front, opened_of, milliseconds as milliseconds_of, offer_said as offered_of, record_call, record_answer, record_memory, fitting as fitting_of, taken, memory_after, lines_of, ran_of};
 
 use machine::{Answer, Offer};
-use profile::Reading as Arming;
+use profile::{Armed, Fault};
 use records::Event16;
 
 // How many numbers the memory takes that a program lends.
@@ -50,26 +51,26 @@ pub fn put_spaced(numbers: &[u64], room: &mut [u8], at: usize) -> usize
 }
 
 // Writes the line of an armed unit to the front of a room, and answers how many bytes it has.
-fn put_armed(firm: u64, rules: u64, roots: u64, room: &mut [u8]) -> usize
+fn put_armed(armed: Armed, room: &mut [u8]) -> usize
     requires { 126 ≤ length room.old }
     ensures fits_room { FitsRoom result 126 }
-    ensures value { result ≡ length (arm_line (Accepted firm rules roots)) }
-    ensures room_after { room.new ≡ sets room.old 0 (arm_line (Accepted firm rules roots)) }
+    ensures value { result ≡ length (arm_line (reading_told (Ok armed))) }
+    ensures room_after { room.new ≡ sets room.old 0 (arm_line (reading_told (Ok armed))) }
 {
     let name = text::put_words(b"armed ", room, 0);
-    let numbers = text::put_name(firm, room, name);
-    put_spaced(&[rules, roots], room, numbers)
+    let numbers = text::put_name(armed.firm, room, name);
+    put_spaced(&[armed.rules, armed.roots], room, numbers)
 }
 
 // Writes the line of a refused profile to the front of a room, and answers how many bytes it has.
-fn put_refused(number: u64, line: u64, room: &mut [u8]) -> usize
+fn put_refused(fault: Fault, room: &mut [u8]) -> usize
     requires { 126 ≤ length room.old }
     ensures fits_room { FitsRoom result 126 }
-    ensures value { result ≡ length (arm_line (NotArmed number line)) }
-    ensures room_after { room.new ≡ sets room.old 0 (arm_line (NotArmed number line)) }
+    ensures value { result ≡ length (arm_line (reading_told (Err fault))) }
+    ensures room_after { room.new ≡ sets room.old 0 (arm_line (reading_told (Err fault))) }
 {
     let numbers = text::put_words(b"refused", room, 0);
-    put_spaced(&[number, line], room, numbers)
+    put_spaced(&[fault.refusal.number(), fault.line], room, numbers)
 }
 
 // Arms memory from a profile's text, and writes the line about it to the front of a room.
@@ -81,12 +82,12 @@ pub fn arm(m: &mut [u64], profile: &[u8], room: &mut [u8; 126]) -> Opened
 {
     let arming = calls::arm(m, profile);
     match arming {
-        Arming::Accepted { firm, rules, roots } => {
-            let bytes = put_armed(firm, rules, roots, room);
+        Ok(armed) => {
+            let bytes = put_armed(armed, room);
             Opened { armed: true, bytes }
         }
-        Arming::Refused { number, line } => {
-            let bytes = put_refused(number, line, room);
+        Err(fault) => {
+            let bytes = put_refused(fault, room);
             Opened {
                 armed: false,
                 bytes,

@@ -28,8 +28,7 @@ use Rattle.text.specs.Text.{bytes, all, onto, pieces, index_of, made, numeral, f
 use Rattle.line.specs.Line.{type_of, is_absolute, limits_of, limit_of, kind_of, time_of, letter_of, malformed, other_firm, out_of_range, level_clash, unit_clash, fault_of, scope_of, rule_of, line_of}
 use Rattle.admission.specs.Admission.{how_many, is_firm_rule, on_unit, crowded}
 use Rattle.profile.specs.Profile.{with_root, roots_with, numbered, joined, too_many, after_line, read_on, outcome_of, reading_of}
-use Rattle.profile.specs.declared.Reading.{Reading}
-use Rattle.profile.specs.declared.Reading.TheVariants.{Refused as NotRead}
+use Rattle.profile.specs.Reading.{Reading, Refused as NotRead}
 use Rattle.rules.specs.Rules.{level_of, covers, is_rate, counts, counted_of, held, executions, added, ceiling, share}
 use Rattle.rules.specs.Allowance.{largest, allowance, trips, is_passed, overruns}
 use Rattle.rules.specs.declared.Rule.{Rule}

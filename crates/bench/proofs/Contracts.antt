@@ -4,6 +4,7 @@ use contract.Lifetimes.{Lfts}
 use denote.Triple.Clauses.{AtExit}
 use borrow.Fn.Kinds.{Dens, res_t, ended_of}
 use Rattle.machine.specs.Calls.{order, lockout, offer, remaining, status, send, report, close}
+use Rattle.profile.specs.Reading.{reading_told}
 use Rattle.calls.specs.Calls.{arm_answer, arm_memory, clear_answer, clear_memory, call_answer, call_memory, text_answer, text_memory}
 use Rattle.calls.proofs.arm.Kinds as arm-kinds
 use Rattle.calls.proofs.arm.Reads as arm-reads
@@ -30,7 +31,7 @@ use Rattle.calls.proofs.status.Reads as status-reads
 
 pub arm-says : (κs : Lfts 2) (args : Dens κs arm-kinds.ps) (x : (res_t arm-kinds.r κs).Denot) (e : AtExit (ended_of 2 arm-kinds.ps arm-kinds.r) κs)
     → arm-reads.Learnt κs args x e
-    ≡ ((x ≡ arm_answer args.0.now args.1.0.now) × (e.0.now ≡ arm_memory args.0.now args.1.0.now))
+    ≡ ((reading_told x ≡ arm_answer args.0.now args.1.0.now) × (e.0.now ≡ arm_memory args.0.now args.1.0.now))
 arm-says κs args x e = refl
 
 pub clear-says : (κs : Lfts 1) (args : Dens κs clear-kinds.ps) (x : (res_t clear-kinds.r κs).Denot) (e : AtExit (ended_of 1 clear-kinds.ps clear-kinds.r) κs)

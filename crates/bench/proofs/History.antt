@@ -8,7 +8,7 @@ use lib.ListN.{drop}
 use Rattle.rules.specs.Rules.{covers, added, ceiling}
 use Rattle.rules.specs.declared.Rule.{Rule}
 use Rattle.profile.specs.Profile.{outcome_of}
-use Rattle.profile.specs.declared.Reading.TheVariants.{Accepted}
+use Rattle.profile.specs.Reading.{Accepted}
 use Rattle.state.specs.State.{size}
 use Rattle.rules.specs.Units.{is_unit_of, scope_for, of_unit}
 use Rattle.machine.specs.State.{State}

@@ -2,8 +2,7 @@
 -- Assumes nothing.
 use Rattle.std.specs.Prelude.{ℕ, ◌≤◌, ◌≡◌, Bool, true, List, [], ◌∷◌, length}
 use Rattle.machine.specs.Judge.{is_refusal}
-use Rattle.profile.specs.declared.Reading.{Reading}
-use Rattle.profile.specs.declared.Reading.TheVariants.{Accepted, Refused as NotRead}
+use Rattle.profile.specs.Reading.{Reading, Accepted, Refused as NotRead}
 use Rattle.profile.specs.Profile.{outcome_of}
 use Rattle.state.specs.State.{size}
 use Rattle.text.specs.Text.{bytes}

@@ -5,9 +5,11 @@ use mathlib.Core.List.{List, [], ◌∷◌, ◌++◌}
 use lib.ListN.{length, drop}
 use borrow.Author.Tests.{eq-eqb, ne_eqb, le-ltb, lt-ltb}
 use Rattle.tables.specs.Inner.Tables.{zeros}
-use Rattle.profile.specs.Profile.{outcome_of, reading_of, scan_of}
+use Rattle.std.specs.declared.result.Result.TheVariants.{Ok, Err}
+use Rattle.profile.specs.Profile.{outcome_of, reading_of, Scanned, scan_of, ScanTold}
+use Rattle.profile.specs.Reading.{Refused as NotRead, reading_told}
+use Rattle.profile.specs.declared.Fault.{Fault}
 use Rattle.profile.specs.declared.Scan.{Scan}
-use Rattle.profile.specs.declared.Reading.TheVariants.{Accepted, Refused as NotRead}
 use Rattle.profile.proofs.Laws.{lawful, reading-accepted, reading-refused}
 use Rattle.state.specs.State.{size, rest_size}
 use Rattle.state.proofs.Armed.{armed-stored}
@@ -44,24 +46,21 @@ module _ (xs text : List ℕ) where
   unfolding arm_answer arm_memory arm_refusal is_short first_of
   arm-marked h m = (rw (le-ltb _ _ h, ne_eqb _ _ m), rw (le-ltb _ _ h, ne_eqb _ _ m))
 
-  module _ (h : size ≤ length xs) (m : mark_of xs ≡ 0) (scan : Scan) (e : scan ≡ scan_of text) where
-    read_is : scan.reading ≡ reading_of (outcome_of text)
-    unfolding scan_of
-    read_is = ap (λ (s : Scan). s.reading) e
+  module _ (h : size ≤ length xs) (m : mark_of xs ≡ 0) where
+    pub arm-refused : (fault : Fault) → ScanTold (Err fault) (scan_of text) → (reading_told (Err fault) ≡ arm_answer xs text) × (xs ≡ arm_memory xs text)
+    unfolding arm_answer arm_memory arm_refusal is_short first_of scan_of ScanTold
+    arm-refused fault r =
+        let f = reading-refused (outcome_of text) _ _ (sym r) in
+        (rw (le-ltb _ _ h, eq-eqb _ _ m) r, rw (le-ltb _ _ h, eq-eqb _ _ m, ne_eqb _ _ f.0))
 
-    pub arm-refused : (n l : ℕ) → scan.reading ≡ NotRead n l → (NotRead n l ≡ arm_answer xs text) × (xs ≡ arm_memory xs text)
-    unfolding arm_answer arm_memory arm_refusal is_short first_of
-    arm-refused n l r =
-        let f = reading-refused (outcome_of text) n l (sym read_is ∙ r) in
-        (rw (le-ltb _ _ h, eq-eqb _ _ m) (sym r ∙ read_is), rw (le-ltb _ _ h, eq-eqb _ _ m, ne_eqb _ _ f.0))
-
-    pub arm-accepted : (firm rules roots : ℕ) → scan.reading ≡ Accepted firm rules roots
-        → (Accepted firm rules roots ≡ arm_answer xs text)
-        × ((1 ∷ 0 ∷ firm ∷ roots ∷ []) ++ (scan.roots ++ ((rules ∷ []) ++ (scan.rules ++ (zeros rest_size ++ drop size xs)))) ≡ arm_memory xs text)
-    unfolding arm_answer arm_memory arm_refusal is_short first_of scan_of
-    arm-accepted firm rules roots r =
-        let f = reading-accepted (outcome_of text) firm rules roots (sym read_is ∙ r) in (
-          rw (le-ltb _ _ h, eq-eqb _ _ m) (sym r ∙ read_is),
+    pub arm-accepted : (scan : Scan) → ScanTold (Ok scan) (scan_of text)
+        → (reading_told (Ok scan.armed) ≡ arm_answer xs text)
+        × ((1 ∷ 0 ∷ scan.armed.firm ∷ scan.armed.roots ∷ []) ++ (scan.roots ++ ((scan.armed.rules ∷ []) ++ (scan.rules ++ (zeros rest_size ++ drop size xs)))) ≡ arm_memory xs text)
+    unfolding arm_answer arm_memory arm_refusal is_short first_of scan_of ScanTold
+    arm-accepted scan e =
+        let r : reading_told (Ok scan.armed) ≡ reading_of (outcome_of text) = ap (λ (s : Scanned). s.reading) e in
+        let f = reading-accepted (outcome_of text) _ _ _ (sym r) in (
+          rw (le-ltb _ _ h, eq-eqb _ _ m) r,
           rw (le-ltb _ _ h, eq-eqb _ _ m, eq-eqb _ _ f.0)
               ((λ i. (1 ∷ 0 ∷ f.1 i ∷ f.3 i ∷ []) ++ ((e i).roots ++ ((f.2 i ∷ []) ++ ((e i).rules ++ (zeros rest_size ++ drop size xs)))))
               ∙ armed-stored (outcome_of text).profile xs (lawful text).rules-most),

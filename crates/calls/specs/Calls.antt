@@ -3,8 +3,7 @@ use Rattle.std.specs.Prelude.{ℕ, ◌+◌, ◌≡◌, Bool, false, not, cond, �
 use Rattle.text.specs.Text.{bytes}
 use Rattle.tables.specs.Inner.Tables.{zeros}
 use Rattle.profile.specs.Profile.{outcome_of, reading_of}
-use Rattle.profile.specs.declared.Reading.{Reading}
-use Rattle.profile.specs.declared.Reading.TheVariants.{Refused as NotRead}
+use Rattle.profile.specs.Reading.{Reading, Refused as NotRead}
 use Rattle.state.specs.State.{size, decode, stored}
 use Rattle.machine.specs.State.{State, rules_in, armed}
 use Rattle.rules.specs.Valid.{has_rate}

@@ -3,15 +3,17 @@
 
 ghost use Rattle.std.specs.Prelude.{◌≡◌};
 ghost use Rattle.machine.specs.Calls.{Call};
+ghost use Rattle.profile.specs.Reading.{reading_told};
 ghost use Rattle.calls.specs.Calls.{memory_refusal, call_answer, call_memory, arm_answer, arm_memory, clear_answer, clear_memory, text_answer, text_memory};
 
 mod granting;
-pub mod refusals;
+pub mod refusing;
 pub mod tested;
 mod words;
 
 use machine::{Answer, Offer};
-use profile::Reading;
+use profile::{Armed, Fault};
+use refusals::Refusal;
 
 // How many numbers a unit's memory takes.
 pub const SIZE: usize = state::SIZE;
@@ -31,27 +33,22 @@ pub enum Wording {
 }
 
 // Arms memory whose mark is 0 from a profile's text. Nothing is written before the whole text is accepted.
-pub fn arm(m: &mut [u64], text: &[u8]) -> Reading
-    ensures value { result ≡ arm_answer m.old text.now }
+pub fn arm(m: &mut [u64], text: &[u8]) -> Result<Armed, Fault>
+    ensures value { reading_told result ≡ arm_answer m.old text.now }
     ensures m_after { m.new ≡ arm_memory m.old text.now }
 {
     if m.len() < state::SIZE {
-        return Reading::Refused { number: 1, line: 0 };
+        return Err(Fault::from(Refusal::NoRoom));
     }
     if m[state::MARK] != 0 {
-        return Reading::Refused { number: 3, line: 0 };
+        return Err(Fault::from(Refusal::ArmedAlready));
     }
-    let scan = profile::read(text, 0);
-    let reading = scan.reading;
+    let scan = profile::read(text, 0)?;
+    let armed = scan.armed;
     let names = scan.roots;
     let table = scan.rules;
-    match reading {
-        Reading::Refused { number, line } => Reading::Refused { number, line },
-        Reading::Accepted { firm, rules, roots } => {
-            state::write_armed(m, firm, roots, rules, &names, &table);
-            Reading::Accepted { firm, rules, roots }
-        }
-    }
+    state::write_armed(m, armed.firm, armed.roots, armed.rules, &names, &table);
+    Ok(armed)
 }
 
 // Sets the state to zeros, whatever the memory held.

@@ -3,7 +3,7 @@ ghost use Rattle.std.specs.Prelude.{◌≡◌};
 ghost use Rattle.machine.specs.Calls.{Call};
 ghost use Rattle.calls.specs.Calls.{memory_refusal, refusal_in, call_answer, call_memory};
 
-use crate::{granting, refusals};
+use crate::{granting, refusing};
 use machine::{Answer, Offer, Sent};
 use measures::{Contracts, TenThousandths};
 
@@ -21,7 +21,7 @@ pub fn order(m: &mut [u64], time: u64, root: u64, reset: u64) -> Answer
     ensures value { result ≡ call_answer m.old (Call.order time root reset) }
     ensures m_after { m.new ≡ call_memory m.old (Call.order time root reset) }
 {
-    let refusal = refusals::order_refusal(m, time, root, reset);
+    let refusal = refusing::order_refusal(m, time, root, reset);
     if refusal != 0 {
         return Answer::Refused(refusal);
     }
@@ -41,7 +41,7 @@ pub fn lockout(m: &mut [u64], time: u64, level: u64, root: u64) -> Answer
     ensures value { result ≡ call_answer m.old (Call.lockout time level root) }
     ensures m_after { m.new ≡ call_memory m.old (Call.lockout time level root) }
 {
-    let refusal = refusals::lockout_refusal(m, time, level, root);
+    let refusal = refusing::lockout_refusal(m, time, level, root);
     if refusal != 0 {
         return Answer::Refused(refusal);
     }
@@ -60,7 +60,7 @@ pub fn offer(m: &mut [u64], o: Offer) -> Answer
     ensures value { result ≡ call_answer m.old (Call.offer o) }
     ensures m_after { m.new ≡ call_memory m.old (Call.offer o) }
 {
-    let refusal = refusals::offer_refusal(m, o);
+    let refusal = refusing::offer_refusal(m, o);
     if refusal != 0 {
         return Answer::Refused(refusal);
     }
@@ -83,7 +83,7 @@ pub fn send(m: &mut [u64], o: Offer, identity: u64, reports: u64) -> Answer
     ensures value { result ≡ call_answer m.old (Call.send o identity reports) }
     ensures m_after { m.new ≡ call_memory m.old (Call.send o identity reports) }
 {
-    let refusal = refusals::send_refusal(m, o, identity, reports);
+    let refusal = refusing::send_refusal(m, o, identity, reports);
     if refusal != 0 {
         return Answer::Refused(refusal);
     }
@@ -123,7 +123,7 @@ pub fn report(m: &mut [u64], time: u64, identity: u64, contracts: u64) -> Answer
     ensures value { result ≡ call_answer m.old (Call.report time identity contracts) }
     ensures m_after { m.new ≡ call_memory m.old (Call.report time identity contracts) }
 {
-    let refusal = refusals::report_refusal(m, time, identity, contracts);
+    let refusal = refusing::report_refusal(m, time, identity, contracts);
     if refusal != 0 {
         return Answer::Refused(refusal);
     }
@@ -160,7 +160,7 @@ pub fn close(m: &mut [u64], time: u64, identity: u64) -> Answer
     ensures value { result ≡ call_answer m.old (Call.close time identity) }
     ensures m_after { m.new ≡ call_memory m.old (Call.close time identity) }
 {
-    let refusal = refusals::close_refusal(m, time, identity);
+    let refusal = refusing::close_refusal(m, time, identity);
     if refusal != 0 {
         return Answer::Refused(refusal);
     }
@@ -180,7 +180,7 @@ pub fn remaining(m: &[u64], time: u64, rule: u64, unit: u64) -> Answer
     requires { memory_refusal m.now ≡ 0 }
     ensures { result ≡ call_answer m.now (Call.remaining time rule unit) }
 {
-    let refusal = refusals::remaining_refusal(m, time, rule, unit);
+    let refusal = refusing::remaining_refusal(m, time, rule, unit);
     if refusal != 0 {
         return Answer::Refused(refusal);
     }

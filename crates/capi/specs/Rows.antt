@@ -2,8 +2,7 @@
 use Rattle.std.specs.Prelude.{Result, ℕ, List, [], ◌∷◌}
 use Rattle.refusals.specs.declared.Refusal.{Refusal}
 use Rattle.refusals.specs.Numbers.{refused_with}
-use Rattle.profile.specs.declared.Reading.{Reading}
-use Rattle.profile.specs.declared.Reading.TheVariants.{Accepted, Refused}
+use Rattle.profile.specs.Reading.{Reading, Accepted, Refused}
 use Rattle.calls.specs.declared.Clearing.{Clearing}
 use Rattle.calls.specs.declared.Clearing.TheVariants.{Done, Refused as NotCleared}
 use Rattle.calls.specs.declared.Wording.{Wording}

@@ -13,7 +13,6 @@ pub mod told;
 
 use calls::{Clearing, Wording};
 use machine::Offer;
-use profile::Reading;
 
 // Arms memory from a profile: refusal, line, firm, rules, roots.
 #[tactic(auto, unfolding(crate::specs::Rows::arm_row))]
@@ -23,8 +22,8 @@ pub fn mbrumzheg_arm(m: &mut [u64], text: &[u8], row: &mut [u64; 5])
 {
     let reading = calls::arm(m, text);
     match reading {
-        Reading::Accepted { firm, rules, roots } => rows::put_row(row, 0, 0, firm, rules, roots),
-        Reading::Refused { number, line } => rows::put_row(row, number, line, 0, 0, 0),
+        Ok(armed) => rows::put_row(row, 0, 0, armed.firm, armed.rules, armed.roots),
+        Err(fault) => rows::put_row(row, fault.refusal.number(), fault.line, 0, 0, 0),
     }
 }
 

@@ -2,6 +2,7 @@
 use mathlib.Core.Path.{refl}
 use Rattle.determined.specs.Determines.{Determines}
 use Rattle.laws.proofs.One.{alike}
+use Rattle.profile.proofs.Once.{one_reading}
 use Rattle.calls.proofs.arm.Kinds as arm-kinds
 use Rattle.calls.proofs.arm.Reads as arm-reads
 use Rattle.calls.proofs.clear.Kinds as clear-kinds
@@ -46,15 +47,15 @@ use Rattle.calls.proofs.tested.sent.Kinds as sent-kinds
 use Rattle.calls.proofs.tested.sent.Reads as sent-reads
 use Rattle.calls.proofs.tested.came_back.Kinds as came-back-kinds
 use Rattle.calls.proofs.tested.came_back.Reads as came-back-reads
-use Rattle.calls.proofs.refusals.bad_time.Kinds as bad-time-kinds
-use Rattle.calls.proofs.refusals.bad_time.Reads as bad-time-reads
-use Rattle.calls.proofs.refusals.send_refusal.Kinds as send-refusal-kinds
-use Rattle.calls.proofs.refusals.send_refusal.Reads as send-refusal-reads
-use Rattle.calls.proofs.refusals.report_refusal.Kinds as report-refusal-kinds
-use Rattle.calls.proofs.refusals.report_refusal.Reads as report-refusal-reads
+use Rattle.calls.proofs.refusing.bad_time.Kinds as bad-time-kinds
+use Rattle.calls.proofs.refusing.bad_time.Reads as bad-time-reads
+use Rattle.calls.proofs.refusing.send_refusal.Kinds as send-refusal-kinds
+use Rattle.calls.proofs.refusing.send_refusal.Reads as send-refusal-reads
+use Rattle.calls.proofs.refusing.report_refusal.Kinds as report-refusal-kinds
+use Rattle.calls.proofs.refusing.report_refusal.Reads as report-refusal-reads
 
 pub arm : Determines 2 arm-kinds.ps arm-kinds.r arm-reads.Asked arm-reads.Learnt
-arm κs args asked x y u v p q = (alike p.0 q.0, λ i. (alike p.1 q.1 i, v.1))
+arm κs args asked x y u v p q = (one_reading x y (alike p.0 q.0), λ i. (alike p.1 q.1 i, v.1))
 
 pub clear : Determines 1 clear-kinds.ps clear-kinds.r clear-reads.Asked clear-reads.Learnt
 clear κs args asked x y u v p q = (alike p.0 q.0, λ i. (alike p.1 q.1 i, v.1))

@@ -2,6 +2,7 @@
 use mathlib.Core.Path.{refl}
 use Rattle.determined.specs.Determines.{Determines}
 use Rattle.laws.proofs.One.{alike}
+use Rattle.profile.proofs.Once.{one_scan}
 use Rattle.profile.proofs.root_number.Kinds as root-number-kinds
 use Rattle.profile.proofs.root_number.Reads as root-number-reads
 use Rattle.profile.proofs.read.Kinds as read-kinds
@@ -11,4 +12,4 @@ pub root-number : Determines 1 root-number-kinds.ps root-number-kinds.r root-num
 root-number κs args asked x y u v p q = (alike p q, refl)
 
 pub read : Determines 1 read-kinds.ps read-kinds.r read-reads.Asked read-reads.Learnt
-read κs args asked x y u v p q = (alike p q, refl)
+read κs args asked x y u v p q = (one_scan x y _ p q, refl)

@@ -4,6 +4,7 @@ use mathlib.Core.Path.{refl}
 use mathlib.Core.List.{List}
 use Rattle.determined.specs.Determines.{Determines, DeterminesSeen}
 use Rattle.laws.proofs.One.{alike}
+use Rattle.profile.proofs.Once.{one_reading}
 use Rattle.seats.proofs.is_sound.Kinds as is-sound-kinds
 use Rattle.seats.proofs.is_sound.Reads as is-sound-reads
 use Rattle.seats.proofs.refusal.Kinds as refusal-kinds
@@ -59,7 +60,7 @@ pub log-use : Determines 1 log-use-kinds.ps log-use-kinds.r log-use-reads.Asked 
 log-use κs args asked x y u v p q = (alike p q, refl)
 
 pub arm : Determines 2 arm-kinds.ps arm-kinds.r arm-reads.Asked arm-reads.Learnt
-arm κs args asked x y u v p q = (alike p.0 q.0, λ i. (alike p.1 q.1 i, v.1))
+arm κs args asked x y u v p q = (one_reading x y (alike p.0 q.0), λ i. (alike p.1 q.1 i, v.1))
 
 pub status : Determines 1 status-kinds.ps status-kinds.r status-reads.Asked status-reads.Learnt
 status κs args asked x y u v p q = (alike p q, refl)

@@ -13,7 +13,7 @@ use Rattle.machine.specs.Refusals.{first_of}
 use Rattle.machine.specs.Step.{after}
 use Rattle.machine.specs.Judge.{Judgement, judge}
 use Rattle.profile.specs.Profile.{reading_of, outcome_of}
-use Rattle.profile.specs.declared.Reading.{Reading}
+use Rattle.profile.specs.Reading.{Reading}
 use Rattle.profile.proofs.Beside.{beside-other}
 use Rattle.calls.specs.declared.Clearing.{Clearing}
 use Rattle.calls.specs.declared.Clearing.TheVariants.{Done as Cleared, Refused as NotCleared}

@@ -11,7 +11,7 @@ use borrow.Author.Tests.{eq-eqb, eqb-true, eqb-false}
 use Rattle.machine.specs.State.{Profile, State}
 use Rattle.machine.specs.Refusals.{first_of}
 use Rattle.profile.specs.Profile.{Outcome, reading_of, outcome_of, outcome_beside}
-use Rattle.profile.specs.declared.Reading.TheVariants.{Accepted, Refused as NotRead}
+use Rattle.profile.specs.Reading.{Accepted, Refused as NotRead}
 use Rattle.profile.proofs.Laws.{accepted-firm, accepted-named}
 use Rattle.profile.proofs.Beside.{beside-other, accepted-beside}
 use Rattle.state.specs.State.{size, decode}

@@ -9,7 +9,7 @@ use borrow.Author.Tests.{eq-eqb}
 use Rattle.machine.specs.State.{Profile, State}
 use Rattle.machine.specs.Calls.{Call}
 use Rattle.profile.specs.Profile.{reading_of, outcome_of, outcome_beside}
-use Rattle.profile.specs.declared.Reading.TheVariants.{Refused as NotRead}
+use Rattle.profile.specs.Reading.{Refused as NotRead}
 use Rattle.firms.specs.Seats.{Seat, empty, taken, Seats, vacant, turned, facing, seat_of, room_beside}
 use Rattle.firms.specs.Doings.{Doing, arm as arming, call as calling, clear as clearing, answered, is_taken, name_of, Beside, beside_of, call_at, clear_at, at_seat, outcome_of as done_for, reply_to, after_doing}
 use Rattle.firms.specs.Runs.{of, after_asked, seats_after, is_same}

@@ -18,7 +18,7 @@ use Rattle.text.proofs.Lists.{line-here}
 use Rattle.line.specs.Line.{firm_in, type_in, limit_in, time_in, root_in, is_firm_level, call_put, month, malformed, other_firm, out_of_range, level_clash, unit_clash, fault_of, rule_of, line_of}
 use Rattle.std.specs.Prelude.{Result, Ok, Err}
 use Rattle.profile.specs.Profile.{Outcome, joined, too_many, after_line, read_on, start_of, reading_of, outcome_of, outcome_beside}
-use Rattle.profile.specs.declared.Reading.TheVariants.{Refused as NotRead}
+use Rattle.profile.specs.Reading.{Refused as NotRead}
 use Rattle.profile.proofs.Laws.{accepted-lines, accepted-some, reading-refused}
 use Rattle.profile.proofs.Beside.{beside_none, beside-other, beside_same}
 use Rattle.firmday.specs.Isolated.{named_in}

@@ -3,8 +3,7 @@ use Rattle.std.specs.Prelude.{ℕ, Bool, true, false, cond, List, [], ◌∷◌,
 use Rattle.machine.specs.State.{Profile}
 use Rattle.machine.specs.Calls.{Call}
 use Rattle.profile.specs.Profile.{outcome_of}
-use Rattle.profile.specs.declared.Reading.{Reading}
-use Rattle.profile.specs.declared.Reading.TheVariants.{Accepted, Refused as NotRead}
+use Rattle.profile.specs.Reading.{Reading, Accepted, Refused as NotRead}
 use Rattle.firms.specs.Doings.{arm as arming, call as calling, clear as clearing, Reply, refused, done}
 use Rattle.calls.specs.declared.Clearing.{Clearing}
 use Rattle.calls.specs.declared.Clearing.TheVariants.{Done as Cleared, Refused as NotCleared}

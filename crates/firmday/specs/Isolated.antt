@@ -6,8 +6,7 @@ use Rattle.machine.specs.Calls.{Call}
 use Rattle.text.specs.Text.{lines}
 use Rattle.line.specs.Line.{firm_in}
 use Rattle.profile.specs.Profile.{outcome_of, reading_of}
-use Rattle.profile.specs.declared.Reading.{Reading}
-use Rattle.profile.specs.declared.Reading.TheVariants.{Refused as NotRead}
+use Rattle.profile.specs.Reading.{Reading, Refused as NotRead}
 use Rattle.calls.specs.declared.Clearing.{Clearing}
 use Rattle.calls.specs.declared.Clearing.TheVariants.{Done as Cleared, Refused as NotCleared}
 use Rattle.firms.specs.Seats.{Seat, empty, facing, seat_of, use_of, own_places}

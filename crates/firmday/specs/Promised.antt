@@ -12,7 +12,7 @@ use Rattle.demand.specs.Demand.{Demand3}
 use Rattle.demand.specs.Answers.{Each}
 use Rattle.demand.specs.Words.{Words}
 use Rattle.demand.specs.Moves.{Moves}
-use Rattle.profile.specs.declared.Reading.TheVariants.{Refused as NotRead}
+use Rattle.profile.specs.Reading.{Refused as NotRead}
 use Rattle.state.specs.State.{size, decode}
 use Rattle.calls.specs.declared.Clearing.TheVariants.{Done as Cleared}
 use Rattle.firms.specs.Seats.{empty, taken, vacant, seat_of, own_places}

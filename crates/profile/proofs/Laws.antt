@@ -18,7 +18,7 @@ use Rattle.line.specs.Line.{firm_in, line_of}
 use Rattle.std.specs.Prelude.{Result, Ok, Err}
 use Rattle.profile.specs.Profile.{joined, too_many, Outcome, after_line, read_on, start_of, outcome_of, reading_of}
 use Rattle.machine.specs.State.{Profile}
-use Rattle.profile.specs.declared.Reading.TheVariants.{Accepted, Refused}
+use Rattle.profile.specs.Reading.{Accepted, Refused}
 use Rattle.admission.specs.Admission.{seen_after, is_next, are_in_order, Bounded}
 use Rattle.admission.proofs.Levels.{bounded-none, ordered-bounded}
 use Rattle.profile.specs.Inner.Lawful.{IsNameNumber, Lawful}

@@ -7,3 +7,4 @@ mod Walk
 pub mod Laws
 pub mod Beside
 mod Vectors
+pub mod Once

@@ -11,8 +11,7 @@ use Rattle.text.specs.Text.{bytes, all, onto, pieces, index_of, made, numeral, f
 use Rattle.line.specs.Line.{type_of, is_absolute, limits_of, limit_of, kind_of, time_of, letter_of, malformed, other_firm, out_of_range, level_clash, unit_clash, fault_of, scope_of, rule_of, line_of}
 use Rattle.admission.specs.Admission.{how_many, is_firm_rule, on_unit, crowded}
 use Rattle.profile.specs.Profile.{with_root, roots_with, numbered, joined, too_many, after_line, read_on, outcome_of, reading_of}
-use Rattle.profile.specs.declared.Reading.{Reading}
-use Rattle.profile.specs.declared.Reading.TheVariants.{Accepted, Refused}
+use Rattle.profile.specs.Reading.{Reading, Accepted, Refused}
 
 -- what a function gives for 0, 1 and so on, n in all, one after the other
 abbrev each : ℕ → (ℕ → List ℕ) → List ℕ

@@ -7,6 +7,7 @@ use mathlib.Core.List.{List, []}
 use lib.ListN.{length, get_or, drop, replicate}
 use borrow.Author.Tests.{ne_eqb}
 use native.Mathlib.Omega.{arith}
+use Rattle.std.specs.declared.result.Result.TheVariants.{Ok, Err}
 use Rattle.measures.specs.Ranges.{◌to◌, is_in}
 use Rattle.laws.proofs.Lists.{ended}
 use Rattle.rules.specs.declared.Rule.{Rule}
@@ -19,12 +20,14 @@ use Rattle.tables.specs.Inner.Tables.{zeros, flat, table_numbers}
 use Rattle.std.specs.Prelude.{Ok, Err}
 use Rattle.line.proofs.Laws.{line_refused}
 use Rattle.admission.specs.Admission.{how_many}
-use Rattle.profile.specs.Profile.{joined, Outcome, after_line, read_on, start_of, firm_beside, outcome_beside, reading_of, roots_table, scan_beside}
+use Rattle.profile.specs.Profile.{joined, Outcome, after_line, read_on, start_of, firm_beside, outcome_beside, reading_of, roots_table, scan_beside, ScanTold}
 use Rattle.machine.specs.State.{Profile}
 use Rattle.admission.specs.Inner.Counting.{no_rules}
 use Rattle.profile.specs.Inner.Held.{Stored, Held, Joins, ReadingTold}
-use Rattle.profile.specs.declared.Reading.{Reading}
-use Rattle.profile.specs.declared.Reading.TheVariants.{Accepted, Refused}
+use Rattle.profile.specs.Reading.{Reading, Accepted, Refused, reading_told}
+use Rattle.profile.specs.declared.Armed.{Armed}
+use Rattle.profile.specs.declared.Fault.{Fault}
+use Rattle.refusals.specs.declared.Refusal.TheVariants.{ProfileLength}
 use Rattle.admission.specs.declared.Tally.{Tally}
 use Rattle.std.specs.Prelude.{Option}
 use Rattle.std.specs.declared.option.Option.TheVariants.{None, Some}
@@ -54,18 +57,23 @@ start-held firm = record {
 
 -- a text whose size is none for a profile, and one that was read by its lines
 module _ (other : ℕ) (text : List ℕ) where
-  pub scan-unsized : is_in (1 to 65_536) (length text) ≡ false → record { reading = Refused 5 0; roots = replicate 64 0; rules = replicate 512 0 } ≡ scan_beside other text
-  unfolding scan_beside outcome_beside reading_of roots_table table_numbers flat zeros
-  scan-unsized e = rw e
+  pub scan-unsized : {fault : Fault} → fault ≡ record { refusal = ProfileLength; line = 0 } → is_in (1 to 65_536) (length text) ≡ false → ScanTold (Err fault) (scan_beside other text)
+  unfolding ScanTold scan_beside outcome_beside reading_of
+  scan-unsized f e = rw (f, e)
 
   pub first-firm : {line : List ℕ} → line ≡ line_from text 0 → {named firm : ℕ} → named ≡ firm_in line → firm ≡ cond (eqb named other) 0 named → firm ≡ firm_beside other text
   unfolding line_from firm_beside
   first-firm is {named} {firm} n f = let at : named ≡ firm_in (get_or (lines text) 0 []) = n ∙ ap firm_in is in f ∙ ap (λ (k : ℕ). cond (eqb k other) 0 k) at
 
-  pub scan-told : {firm : ℕ} {reading : Reading} {roots rules : List ℕ} → is_in (1 to 65_536) (length text) ≡ true → firm ≡ firm_beside other text
-      → ReadingTold (read_on (start_of firm) 0 (lines text)) reading roots rules → record { reading = reading; roots = roots; rules = rules } ≡ scan_beside other text
-  unfolding scan_beside outcome_beside
-  scan-told e f told = rw (e, ← f) (λ i. record { reading = told.reading-is i; roots = told.stored.roots-in i; rules = told.stored.rules-in i })
+  module _ {firm : ℕ} {roots rules : List ℕ} (e : is_in (1 to 65_536) (length text) ≡ true) (f : firm ≡ firm_beside other text) where
+    pub scan-refused : (fault : Fault) → ReadingTold (read_on (start_of firm) 0 (lines text)) (reading_told (Err fault)) roots rules → ScanTold (Err fault) (scan_beside other text)
+    unfolding ScanTold scan_beside outcome_beside
+    scan-refused fault told = rw (e, ← f) told.reading-is
+
+    pub scan-told : (armed : Armed) → ReadingTold (read_on (start_of firm) 0 (lines text)) (reading_told (Ok armed)) roots rules
+        → ScanTold (Ok (record { armed = armed; roots = roots; rules = rules })) (scan_beside other text)
+    unfolding ScanTold scan_beside outcome_beside
+    scan-told armed told = rw (e, ← f) (λ i. record { reading = told.reading-is i; roots = told.stored.roots-in i; rules = told.stored.rules-in i })
 
 -- a fault tells of itself and its line
 refused-told : (p : Profile) (k n : ℕ) {o : Outcome} {roots rules : List ℕ} → 6 ≤ k → o ≡ record { profile = p; refusal = k; line = n } → Stored p roots rules

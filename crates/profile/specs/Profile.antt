@@ -1,5 +1,5 @@
 -- A whole profile: line by line, each adds its rule, until one has a fault or is one too many. Assumes nothing.
-use Rattle.std.specs.Prelude.{ℕ, ◌+◌, Bool, cond, List, [], ◌∷◌, ◌++◌, length, get_or, eqb, ltb, Result, Ok, Err}
+use Rattle.std.specs.Prelude.{ℕ, ◌≡◌, ◌+◌, Bool, cond, List, [], ◌∷◌, ◌++◌, length, get_or, eqb, ltb, Result, Ok, Err}
 use Rattle.measures.specs.Ranges.{◌to◌, is_in}
 use Rattle.rules.specs.declared.Scope.{Scope}
 use Rattle.rules.specs.declared.Scope.TheVariants.{EveryFill, WholeRoot, OneUnit}
@@ -10,9 +10,9 @@ use Rattle.text.specs.Text.{lines, index_of}
 use Rattle.line.specs.Line.{firm_in, line_of}
 use Rattle.tables.specs.Inner.Tables.{table_numbers}
 use Rattle.packing.specs.RulePlace.{rules_table}
-use Rattle.profile.specs.declared.Reading.{Reading}
 use Rattle.profile.specs.declared.Scan.{Scan}
-use Rattle.profile.specs.declared.Reading.TheVariants.{Accepted, Refused}
+use Rattle.profile.specs.declared.Fault.{Fault}
+use Rattle.profile.specs.Reading.{Reading, Accepted, Refused, reading_told}
 
 -- the roots with a name among them: at the end, where it is new
 unfoldable pub with_root : ℕ → List ℕ → List ℕ
@@ -80,7 +80,12 @@ unfoldable pub roots_table : List ℕ → List ℕ
 roots_table roots = table_numbers 1 64 (λ name. name ∷ []) roots
 
 -- the answer, with the roots and the rules that were read in their places
-unfoldable pub scan_of : List ℕ → Scan
+pub record Scanned : Type 0 where
+  pub reading : Reading
+  pub roots : List ℕ
+  pub rules : List ℕ
+
+unfoldable pub scan_of : List ℕ → Scanned
 scan_of text = record {
   reading = reading_of (outcome_of text);
   roots = roots_table (outcome_of text).profile.roots;
@@ -99,9 +104,14 @@ outcome_beside other text =
     cond (is_in (1 to 65_536) (length text)) (read_on (start_of (firm_beside other text)) 0 (lines text))
     (record { profile = start_of 0; refusal = 5; line = 0 })
 
-unfoldable pub scan_beside : ℕ → List ℕ → Scan
+unfoldable pub scan_beside : ℕ → List ℕ → Scanned
 scan_beside other text = record {
   reading = reading_of (outcome_beside other text);
   roots = roots_table (outcome_beside other text).profile.roots;
   rules = rules_table (outcome_beside other text).profile.rules;
 }
+
+-- what the library hands back of it: all of it where the text is accepted, otherwise the answer alone
+unfoldable pub ScanTold : Result Scan Fault → Scanned → Type 0
+ScanTold (Ok scan) s = record { reading = reading_told (Ok scan.armed); roots = scan.roots; rules = scan.rules } ≡ s
+ScanTold (Err fault) s = reading_told (Err fault) ≡ s.reading

@@ -8,24 +8,43 @@ ghost use Rattle.packing.specs.RulePlace.{rule_numbers};
 ghost use Rattle.rules.specs.Valid.{is_rule};
 ghost use Rattle.machine.specs.State.{Profile};
 ghost use Rattle.admission.specs.Inner.Counting.{no_rules};
-ghost use Rattle.profile.specs.Profile.{numbered, read_on, start_of, scan_beside};
+ghost use Rattle.profile.specs.Reading.{reading_told};
+ghost use Rattle.profile.specs.Profile.{numbered, read_on, start_of, scan_beside, ScanTold};
 ghost use Rattle.profile.specs.Inner.Lawful.{Said, NewestOnce};
 ghost use Rattle.profile.specs.Inner.Held.{Held, HoldsSome, Joins, ReadingTold};
 
 use admission::Tally;
+use refusals::Refusal;
 use rules::{Rule, Scope};
 
-// What reading a profile answers: the firm's name and how many rules and roots there are, or a refusal and the line, from 1, that it is for.
+// What an accepted profile has: the firm's name and how many rules and roots there are.
 #[derive(Clone, Copy)]
-pub enum Reading {
-    Accepted { firm: u64, rules: u64, roots: u64 },
-    Refused { number: u64, line: u64 },
+pub struct Armed {
+    pub firm: u64,
+    pub rules: u64,
+    pub roots: u64,
 }
 
-// What was read: the answer, the roots' names and the rules in their places. Nothing of the caller's is written.
+// Why a profile is refused, and the line, from 1, that it is for; 0 where it is for none.
+#[derive(Clone, Copy)]
+pub struct Fault {
+    pub refusal: Refusal,
+    pub line: u64,
+}
+
+// A refusal by itself is for no line.
+impl From<Refusal> for Fault {
+    ghost from_gives = { λ refusal fault. fault ≡ record { refusal = refusal; line = 0 } };
+
+    fn from(refusal: Refusal) -> Fault {
+        Fault { refusal, line: 0 }
+    }
+}
+
+// What was read: what the profile has, the roots' names and the rules in their places. Nothing of the caller's is written.
 #[derive(Drop)]
 pub struct Scan {
-    pub reading: Reading,
+    pub armed: Armed,
     pub roots: [u64; 64],
     pub rules: [u64; 512],
 }
@@ -119,9 +138,9 @@ fn read_lines(
     roots: &mut [u64],
     rules: &mut [u64],
     counts: &mut [u64],
-) -> Reading
+) -> Result<Armed, Fault>
     requires { (length text.now ≤ 65_536) × Held (start_of firm) no_rules roots.old rules.old counts.old }
-    ensures { ReadingTold (read_on (start_of firm) 0 (lines text.now)) result roots.new rules.new }
+    ensures { ReadingTold (read_on (start_of firm) 0 (lines text.now)) (reading_told result) roots.new rules.new }
 {
     let mut tally = Tally {
         rules: 0,
@@ -135,25 +154,25 @@ fn read_lines(
         // Every line before this one gave a rule.
         let number = tally.rules + 1;
         match line::read_line(firm, line) {
-            Err(fault) => return Reading::Refused {
-                number: fault.number(),
+            Err(refusal) => return Err(Fault {
+                refusal,
                 line: number,
-            },
+            }),
             Ok(rule) => match take_in(tally, rule, roots, rules, counts) {
-                None => return Reading::Refused {
-                    number: 11,
+                None => return Err(Fault {
+                    refusal: Refusal::TooMany,
                     line: number,
-                },
+                }),
                 Some(next) => tally = next,
             },
         }
         at = end + 1;
     }
-    Reading::Accepted {
+    Ok(Armed {
         firm,
         rules: tally.rules,
         roots: tally.seen,
-    }
+    })
 }
 
 // The firm that the lines have to name: that of line 1, and none if the other has its name.
@@ -167,24 +186,20 @@ fn firm_beside(named: u64, other: u64) -> u64
 }
 
 // Reads a whole profile, beside a firm of another name; 0 for none.
-pub fn read(text: &[u8], other: u64) -> Scan
-    ensures { result ≡ scan_beside other text.now }
+pub fn read(text: &[u8], other: u64) -> Result<Scan, Fault>
+    ensures { ScanTold result (scan_beside other text.now) }
 {
+    if !((1 <= text.len()) & (text.len() <= 65_536)) {
+        return Err(Fault::from(Refusal::ProfileLength));
+    }
     let mut roots = [0u64; 64];
     let mut rules = [0u64; 512];
     let mut counts = [0u64; 64];
-    if !((1 <= text.len()) & (text.len() <= 65_536)) {
-        return Scan {
-            reading: Reading::Refused { number: 5, line: 0 },
-            roots,
-            rules,
-        };
-    }
     let firm = firm_beside(line::firm_of(reader::line_from(text, 0)), other);
-    let reading = read_lines(text, firm, &mut roots, &mut rules, &mut counts);
-    Scan {
-        reading,
+    let armed = read_lines(text, firm, &mut roots, &mut rules, &mut counts)?;
+    Ok(Scan {
+        armed,
         roots,
         rules,
-    }
+    })
 }

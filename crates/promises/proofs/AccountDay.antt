@@ -12,7 +12,7 @@ use Rattle.rules.specs.Allowance.{All}
 use Rattle.state.specs.State.{size}
 use Rattle.state.specs.Sound.{Sound, is_sound}
 use Rattle.state.proofs.Exactly.{taken-apart, exactly}
-use Rattle.profile.specs.declared.Reading.TheVariants.{Accepted}
+use Rattle.profile.specs.Reading.{Accepted}
 use Rattle.machine.specs.declared.Answer.{Answer}
 use Rattle.machine.specs.declared.Answer.TheVariants.{Refused, Judged, Left, Standing}
 use Rattle.machine.specs.State.{State}

@@ -11,8 +11,7 @@ use borrow.Author.Tests.{ltb-true, ltb-false, eqb-true, eqb-false, ne_eqb, leb-t
 use Rattle.text.specs.Text.{lines}
 use Rattle.machine.specs.State.{Profile}
 use Rattle.profile.specs.Profile.{Outcome, start_of, outcome_of, reading_of}
-use Rattle.profile.specs.declared.Reading.{Reading}
-use Rattle.profile.specs.declared.Reading.TheVariants.{Accepted, Refused as NotRead}
+use Rattle.profile.specs.Reading.{Reading, Accepted, Refused as NotRead}
 use Rattle.state.specs.State.{size}
 use Rattle.calls.specs.Calls.{mark_of, arm_answer}
 use Rattle.calls.proofs.Cases.{arm-short, arm-marked}

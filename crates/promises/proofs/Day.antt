@@ -7,7 +7,7 @@ use mathlib.Core.List.{List, [], ◌++◌}
 use lib.ListN.{drop}
 use Rattle.tables.specs.Inner.Tables.{zeros}
 use Rattle.profile.specs.Profile.{outcome_of}
-use Rattle.profile.specs.declared.Reading.TheVariants.{Accepted}
+use Rattle.profile.specs.Reading.{Accepted}
 use Rattle.machine.specs.State.{State, armed}
 use Rattle.state.specs.State.{size, decode}
 use Rattle.state.proofs.Exactly.{taken-apart}

@@ -16,8 +16,7 @@ use Rattle.line.specs.Line.{firm_in}
 use Rattle.machine.specs.State.{Profile, State}
 use Rattle.machine.specs.Refusals.{first_of}
 use Rattle.profile.specs.Profile.{Outcome, start_of, reading_of, firm_beside, outcome_beside}
-use Rattle.profile.specs.declared.Reading.{Reading}
-use Rattle.profile.specs.declared.Reading.TheVariants.{Accepted, Refused as NotRead}
+use Rattle.profile.specs.Reading.{Reading, Accepted, Refused as NotRead}
 use Rattle.profile.proofs.Beside.{accepted-differs}
 use Rattle.state.specs.State.{size, decode}
 use Rattle.firms.specs.Seats.{Seat, empty, taken, facing}

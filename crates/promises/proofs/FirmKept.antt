@@ -11,7 +11,7 @@ use lib.Dec.{eqb, ltb}
 use borrow.Author.Tests.{ne_eqb}
 use Rattle.machine.specs.Refusals.{first_of}
 use Rattle.machine.specs.Judge.{is_refusal}
-use Rattle.profile.specs.declared.Reading.TheVariants.{Refused as NotRead}
+use Rattle.profile.specs.Reading.{Refused as NotRead}
 use Rattle.calls.specs.declared.Clearing.TheVariants.{Done as Cleared, Refused as NotCleared}
 use Rattle.firms.specs.Seats.{vacant}
 use Rattle.firms.specs.Doings.{arm, clear, after_doing}

@@ -9,7 +9,7 @@ use lib.ListN.{length, drop}
 use lib.Dec.{eqb}
 use borrow.Author.Tests.{eqb-true}
 use Rattle.profile.specs.Profile.{outcome_of, reading_of}
-use Rattle.profile.specs.declared.Reading.TheVariants.{Accepted, Refused as NotRead}
+use Rattle.profile.specs.Reading.{Accepted, Refused as NotRead}
 use Rattle.profile.proofs.Laws.{reading-accepted}
 use Rattle.machine.specs.State.{State, armed}
 use Rattle.state.specs.State.{size, decode, stored}

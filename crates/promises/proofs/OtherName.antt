@@ -13,7 +13,7 @@ use Rattle.text.proofs.Lists.{line-here}
 use Rattle.line.specs.Line.{firm_in, malformed}
 use Rattle.machine.specs.State.{Profile}
 use Rattle.profile.specs.Profile.{Outcome, start_of, reading_of, firm_beside, outcome_beside}
-use Rattle.profile.specs.declared.Reading.TheVariants.{Refused as NotRead}
+use Rattle.profile.specs.Reading.{Refused as NotRead}
 use Rattle.profile.proofs.Beside.{beside_same}
 use Rattle.given.specs.Names.{digits_up_to, name_bytes, is_name_number}
 use Rattle.state.specs.State.{size, decode}

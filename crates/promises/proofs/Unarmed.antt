@@ -10,7 +10,7 @@ use borrow.Author.Tests.{eq-eqb, ne_eqb, le-ltb, leb-true, leb-false}
 use Rattle.tables.specs.Inner.Tables.{zeros}
 use Rattle.shapes.proofs.Tables.{length-zeros}
 use Rattle.profile.specs.Profile.{Outcome, outcome_of, reading_of}
-use Rattle.profile.specs.declared.Reading.TheVariants.{Accepted, Refused as NotRead}
+use Rattle.profile.specs.Reading.{Accepted, Refused as NotRead}
 use Rattle.profile.proofs.Laws.{accepted-some, reading-accepted, reading-refused}
 use Rattle.machine.specs.State.{armed}
 use Rattle.state.specs.State.{size, decode, stored}

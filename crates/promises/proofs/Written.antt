@@ -10,7 +10,7 @@ use Rattle.machine.specs.State.{Profile, State, armed}
 use Rattle.machine.specs.Refusals.{first_of}
 use Rattle.given.specs.Given.{is_made}
 use Rattle.profile.specs.Profile.{Outcome, outcome_of, reading_of}
-use Rattle.profile.specs.declared.Reading.TheVariants.{Accepted}
+use Rattle.profile.specs.Reading.{Accepted}
 use Rattle.writing.specs.Writing.{text_of}
 use Rattle.writing.proofs.ReadBack.{text-bound, read_back}
 use Rattle.state.specs.State.{size, decode, stored}

@@ -2,8 +2,7 @@
 -- between them, each refused or not. Assumes nothing.
 use Rattle.std.specs.Prelude.{ℕ, ◌≡◌, List, [], ◌∷◌}
 use Rattle.rules.specs.Allowance.{All}
-use Rattle.profile.specs.declared.Reading.{Reading}
-use Rattle.profile.specs.declared.Reading.TheVariants.{Refused as NotRead}
+use Rattle.profile.specs.Reading.{Reading, Refused as NotRead}
 use Rattle.machine.specs.Calls.{Call}
 use Rattle.calls.specs.Calls.{arm_answer, arm_memory, call_answer, call_memory, text_answer, text_memory}
 use Rattle.calls.specs.declared.Wording.{Wording}

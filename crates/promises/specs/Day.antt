@@ -4,7 +4,7 @@ use Rattle.std.specs.Prelude.{ℕ, ◌≡◌, List, [], ◌∷◌, ◌++◌, dro
 use Rattle.rules.specs.Allowance.{All}
 use Rattle.tables.specs.Inner.Tables.{zeros}
 use Rattle.profile.specs.Profile.{outcome_of, reading_of}
-use Rattle.profile.specs.declared.Reading.TheVariants.{Refused as NotRead}
+use Rattle.profile.specs.Reading.{Refused as NotRead}
 use Rattle.state.specs.State.{size, decode}
 use Rattle.state.specs.Sound.{Sound}
 use Rattle.machine.specs.declared.Answer.TheVariants.{Refused}

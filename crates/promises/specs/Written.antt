@@ -2,7 +2,7 @@
 use Rattle.std.specs.Prelude.{ℕ, ◌≤◌, ◌<◌, ◌≡◌, List, ◌++◌, length, drop}
 use Rattle.machine.specs.State.{armed}
 use Rattle.profile.specs.Profile.{outcome_of}
-use Rattle.profile.specs.declared.Reading.TheVariants.{Accepted}
+use Rattle.profile.specs.Reading.{Accepted}
 use Rattle.writing.specs.Writing.{text_of, text_most}
 use Rattle.state.specs.State.{size, decode, stored}
 use Rattle.calls.specs.Calls.{mark_of, arm_answer, arm_memory}

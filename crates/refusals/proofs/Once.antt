@@ -45,3 +45,7 @@ one_numbered (Ok x) (Ok y) e = let same : x ≡ y = cc in ap Ok same
 one_numbered (Err r) (Err t) e = let same : refusal_number r ≡ refusal_number t = cc in ap Err (one_refusal r t same)
 one_numbered (Ok x) (Err t) e = absurd (let w : ◌≡◌ {A = ℕ} 0 1 = cc in omega arith)
 one_numbered (Err r) (Ok y) e = absurd (let w : ◌≡◌ {A = ℕ} 0 1 = cc in omega arith)
+
+-- no refusal has the number 0, which stands for none
+pub some_number : (r : Refusal) → refusal_number r ≡ 0 → ⊥
+some_number r e = let first : refusal_number r ≡ 1 = ap refusal_number (sym (refusal_at_number r) ∙ ap refusal_at e) in omega arith

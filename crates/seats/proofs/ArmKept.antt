@@ -15,7 +15,7 @@ use Rattle.text.proofs.Numerals.{name-zero}
 use Rattle.line.specs.Line.{firm_in, malformed, fault_of, line_of}
 use Rattle.std.specs.Prelude.{Ok, Err}
 use Rattle.profile.specs.Profile.{Outcome, after_line, read_on, start_of, reading_of, outcome_of, firm_beside, outcome_beside}
-use Rattle.profile.specs.declared.Reading.TheVariants.{Refused as NotRead}
+use Rattle.profile.specs.Reading.{Refused as NotRead}
 use Rattle.profile.specs.Inner.Lawful.{IsNameNumber}
 use Rattle.profile.proofs.Laws.{Answer, none, size, fault, answered, accepted-firm, accepted-named}
 use Rattle.profile.proofs.Beside.{beside-other, accepted-beside, accepted-other}

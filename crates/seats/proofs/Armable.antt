@@ -13,9 +13,11 @@ use Rattle.tables.specs.Inner.Tables.{zeros}
 use Rattle.shapes.proofs.Tables.{length-zeros}
 use Rattle.machine.specs.State.{Profile, State, armed}
 use Rattle.machine.specs.Refusals.{first_of}
-use Rattle.profile.specs.Profile.{Outcome, reading_of, outcome_of, outcome_beside, scan_beside}
+use Rattle.std.specs.declared.result.Result.TheVariants.{Ok, Err}
+use Rattle.profile.specs.Profile.{Outcome, reading_of, outcome_of, outcome_beside, Scanned, scan_beside, ScanTold}
 use Rattle.profile.specs.declared.Scan.{Scan}
-use Rattle.profile.specs.declared.Reading.TheVariants.{Accepted, Refused as NotRead}
+use Rattle.profile.specs.declared.Fault.{Fault}
+use Rattle.profile.specs.Reading.{Refused as NotRead, reading_told}
 use Rattle.profile.proofs.Laws.{lawful, reading-accepted, reading-refused}
 use Rattle.profile.proofs.Beside.{accepted-beside, accepted-other}
 use Rattle.state.specs.State.{size, rest_size, encode, decode, stored}
@@ -191,7 +193,7 @@ module _ (xs : List ℕ) (firm : ℕ) (a : Armable xs firm) where
       go false h = rw h at (ap length (seat-again lent_other lent-long (clean-asked.1 (eqb-false _ _ h))) ∙ lent-long)
 
   -- what the text gave
-  module _ (text : List ℕ) {name : ℕ} (named : name ≡ name_of (decode_seat lent_other)) {scan : Scan} (e : scan ≡ scan_beside name text) where
+  module _ (text : List ℕ) {name : ℕ} (named : name ≡ name_of (decode_seat lent_other)) where
     abbrev given : Outcome
     given = given_to xs firm text
 
@@ -202,15 +204,12 @@ module _ (xs : List ℕ) (firm : ℕ) (a : Armable xs firm) where
     unfolding given_to
     given_is = ap (λ (n : ℕ). outcome_beside n text) name-is
 
-    read_is : scan.reading ≡ reading_of given
-    unfolding scan_beside
-    read_is = ap (λ (s : Scan). s.reading) e ∙ ap reading_of given_is
-
-    pub text-refused : (n l : ℕ) → scan.reading ≡ NotRead n l → (NotRead n l ≡ arm_answer xs firm text) × (xs ≡ arm_memory xs firm text)
-    unfolding arm_answer arm_memory
-    text-refused n l r =
-        let f = reading-refused given n l (sym read_is ∙ r) in
-        (rw a.none (sym r ∙ read_is), rw (a.none, ne_eqb _ _ f.0))
+    pub text-refused : (fault : Fault) → ScanTold (Err fault) (scan_beside name text) → (reading_told (Err fault) ≡ arm_answer xs firm text) × (xs ≡ arm_memory xs firm text)
+    unfolding arm_answer arm_memory scan_beside ScanTold
+    text-refused fault told =
+        let r : reading_told (Err fault) ≡ reading_of given = told ∙ ap reading_of given_is in
+        let f = reading-refused given _ _ (sym r) in
+        (rw a.none r, rw (a.none, ne_eqb _ _ f.0))
 
     -- and what was put down
     module _ {zs : List ℕ} (clean : zs ≡ encode_seat (decode_seat lent_other)) (long : length zs ≡ size) where
@@ -241,18 +240,22 @@ module _ (xs : List ℕ) (firm : ℕ) (a : Armable xs firm) where
       pub armed-asked : size ≤ length lent_own
       armed-asked = omega (arith, own-long)
 
-      pub text-accepted : (firm' rules roots : ℕ) → scan.reading ≡ Accepted firm' rules roots
-          → {ys : List ℕ} → ys ≡ (1 ∷ 0 ∷ firm' ∷ roots ∷ []) ++ (scan.roots ++ ((rules ∷ []) ++ (scan.rules ++ (zeros rest_size ++ drop size lent_own))))
-          → (Accepted firm' rules roots ≡ arm_answer xs firm text)
+      pub text-accepted : (scan : Scan) → ScanTold (Ok scan) (scan_beside name text)
+          → {ys : List ℕ}
+          → ys ≡ (1 ∷ 0 ∷ scan.armed.firm ∷ scan.armed.roots ∷ []) ++ (scan.roots ++ ((scan.armed.rules ∷ []) ++ (scan.rules ++ (zeros rest_size ++ drop size lent_own))))
+          → (reading_told (Ok scan.armed) ≡ arm_answer xs firm text)
           × (take (firm * size) between ++ (ys ++ drop (firm * size + size - firm * size) (drop (firm * size) between)) ≡ arm_memory xs firm text)
-      unfolding arm_answer arm_memory scan_beside stored given_to
-      text-accepted firm' rules roots r {ys} y =
-          let f = reading-accepted given firm' rules roots (sym read_is ∙ r) in
+      unfolding arm_answer arm_memory scan_beside stored given_to ScanTold
+      text-accepted scan e {ys} y =
+          let r : reading_told (Ok scan.armed) ≡ reading_of given = ap (λ (s : Scanned). s.reading) e ∙ ap reading_of given_is in
+          let f = reading-accepted given _ _ _ (sym r) in
           let p = given.profile in
           let ok : (outcome_beside name text).refusal ≡ 0 = ap (λ (o : Outcome). o.refusal) given_is ∙ f.0 in
           let few = subst (λ (o : Outcome). length o.profile.rules ≤ 256) (sym (accepted-beside text name ok) ∙ given_is) (lawful text).rules-most in
           let differs : p.firm ≡ name_of beside → ⊥ = λ z. accepted-other text name ok (ap (λ (o : Outcome). o.profile.firm) given_is ∙ (z ∙ sym name-is)) in
-          let scanned : scan ≡ scan_beside (name_of beside) text = e ∙ ap (λ (n : ℕ). scan_beside n text) name-is in
+          let scanned : ◌≡◌ {A = Scanned} (record { reading = reading_told (Ok scan.armed); roots = scan.roots; rules = scan.rules }) (scan_beside (name_of beside) text) =
+          e ∙ ap (λ (n : ℕ). scan_beside n text) name-is
+          in
           let numbers : ys ≡ encode (armed p) ++ drop size lent_own =
           y
           ∙ ((λ i. (1 ∷ 0 ∷ f.1 i ∷ f.3 i ∷ []) ++ ((scanned i).roots ++ ((f.2 i ∷ []) ++ ((scanned i).rules ++ (zeros rest_size ++ drop size lent_own)))))
@@ -265,7 +268,7 @@ module _ (xs : List ℕ) (firm : ℕ) (a : Armable xs firm) where
           ap (facing (firm_of firm)) (armed-seats (facing (firm_of firm) (decode_seats xs)) own-empty p differs).0
           in
           let put = put_two xs ys zs a.long long firm a.known (armed p) beside alone (clean ∙ ap encode_seat lent-seat) in (
-            rw a.none (sym r ∙ read_is),
+            rw a.none r,
             rw (a.none, f.0)
                 ((λ i. take (firm * size) (take (other_at firm) xs ++ (zs ++ drop (span (other_at firm) i) (drop (other_at firm) xs)))
                 ++ (ys ++ drop (span (firm * size) i) (drop (firm * size) (take (other_at firm) xs ++ (zs ++ drop (span (other_at firm) i) (drop (other_at firm) xs))))))

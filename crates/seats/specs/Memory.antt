@@ -15,8 +15,7 @@ use Rattle.calls.specs.declared.Clearing.{Clearing}
 use Rattle.calls.specs.declared.Clearing.TheVariants.{Done as Cleared, Refused as NotCleared}
 use Rattle.firms.specs.Doings.{arm, call, clear, Reply, refused, done, answered, is_taken, name_of, joins, reply_to, after_doing}
 use Rattle.profile.specs.Profile.{Outcome, outcome_beside, reading_of}
-use Rattle.profile.specs.declared.Reading.{Reading}
-use Rattle.profile.specs.declared.Reading.TheVariants.{Refused as NotRead}
+use Rattle.profile.specs.Reading.{Reading, Refused as NotRead}
 use Rattle.seats.specs.declared.offers.Called.{Called}
 use Rattle.seats.specs.declared.Using.{Using}
 use Rattle.seats.specs.declared.Using.TheVariants.{Places, Refused as NotUsed}

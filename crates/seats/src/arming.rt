@@ -1,31 +1,34 @@
 // What arming looks at before it reads the text, and what it does to the other's seat.
 ghost use Rattle.std.specs.Prelude.{◌≡◌, true, length, get_or};
+ghost use Rattle.refusals.specs.Numbers.{refused_with};
 ghost use Rattle.state.specs.State.{size};
 ghost use Rattle.firms.specs.Doings.{name_of};
 ghost use Rattle.seats.specs.Memory.{encode_seat, decode_seat, is_seat, arm_refusal};
 
-// The refusal that arming meets by the memory and the firm's number, 0 for none.
-pub(crate) fn arm_refusal(m: &[u64], firm: u64) -> u64
-    ensures { result ≡ arm_refusal m.now firm }
+use refusals::Refusal;
+
+// The refusal that arming meets by the memory and the firm's number.
+pub(crate) fn arm_refusal(m: &[u64], firm: u64) -> Result<(), Refusal>
+    ensures { refused_with result ≡ arm_refusal m.now firm }
 {
     if m.len() < crate::SIZE {
-        return 1;
+        return Err(Refusal::NoRoom);
     }
     if 1 < firm {
-        return 13;
+        return Err(Refusal::Unknown);
     }
     let at = firm as usize * state::SIZE;
     if m[at] != 0 {
-        return 3;
+        return Err(Refusal::ArmedAlready);
     }
     let other = state::SIZE - at;
     if m[other] == 0 {
-        return 0;
+        return Ok(());
     }
     if !crate::is_sound(m) {
-        return 2;
+        return Err(Refusal::Unsound);
     }
-    0
+    Ok(())
 }
 
 // The name of the firm in a seat, 0 where none is armed.

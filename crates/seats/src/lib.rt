@@ -3,6 +3,7 @@
 
 ghost use Rattle.std.specs.Prelude.{◌≡◌, true, ◌≤◌, length};
 ghost use Rattle.machine.specs.Calls.{Call};
+ghost use Rattle.profile.specs.Reading.{reading_told};
 ghost use Rattle.state.specs.State.{size, decode};
 ghost use Rattle.state.specs.Sound.{is_sound};
 ghost use Rattle.firms.specs.Seats.{facing, room_beside};
@@ -15,7 +16,7 @@ mod trims;
 
 use calls::Clearing;
 use machine::{Answer, Offer};
-use profile::Reading;
+use profile::{Armed, Fault};
 
 // What a question for the use of the log is answered: the use and the places that the firm may use in all, or a refusal.
 #[derive(Clone, Copy)]
@@ -118,7 +119,7 @@ fn used_in(s: &[u64], time: u64, places: u64) -> Using
     requires { is_sound s.now ≡ true }
     ensures { result ≡ use_in (decode s.now) places time }
 {
-    if calls::refusals::bad_time(time, state::clock_in(s)) {
+    if calls::refusing::bad_time(time, state::clock_in(s)) {
         return Using::Refused(12);
     }
     Using::Places {
@@ -140,34 +141,23 @@ pub fn log_use(m: &[u64], firm: u64, time: u64) -> Using
 }
 
 // Arms a firm from a profile's text. Nothing is written before the whole text is accepted; then an unarmed other's seat becomes zeros too.
-pub fn arm(m: &mut [u64], firm: u64, text: &[u8]) -> Reading
-    ensures value { result ≡ arm_answer m.old firm text.now }
+pub fn arm(m: &mut [u64], firm: u64, text: &[u8]) -> Result<Armed, Fault>
+    ensures value { reading_told result ≡ arm_answer m.old firm text.now }
     ensures m_after { m.new ≡ arm_memory m.old firm text.now }
 {
-    let refusal = arming::arm_refusal(m, firm);
-    if refusal != 0 {
-        return Reading::Refused {
-            number: refusal,
-            line: 0,
-        };
-    }
+    arming::arm_refusal(m, firm)?;
     let at = firm as usize * state::SIZE;
     let end = at + state::SIZE;
     let other = state::SIZE - at;
     let close = other + state::SIZE;
     let name = arming::name_in(&m[other..close]);
-    let scan = profile::read(text, name);
-    let reading = scan.reading;
+    let scan = profile::read(text, name)?;
+    let armed = scan.armed;
     let names = scan.roots;
     let table = scan.rules;
-    match reading {
-        Reading::Refused { number, line } => Reading::Refused { number, line },
-        Reading::Accepted { firm, rules, roots } => {
-            arming::clean(&mut m[other..close]);
-            state::write_armed(&mut m[at..end], firm, roots, rules, &names, &table);
-            Reading::Accepted { firm, rules, roots }
-        }
-    }
+    arming::clean(&mut m[other..close]);
+    state::write_armed(&mut m[at..end], armed.firm, armed.roots, armed.rules, &names, &table);
+    Ok(armed)
 }
 
 // How the roots of a firm stand.

@@ -29,7 +29,7 @@ pub fn own_send(s: &mut [u64], o: Offer, identity: u64, reports: u64, room: u64)
     requires { (is_sound s.old ≡ true) × (room ≤ 512) }
     ensures { Done room (Call.send o identity reports) s.old s.new (quiet result) }
 {
-    let refusal = calls::refusals::send_refusal(s, o, identity, reports);
+    let refusal = calls::refusing::send_refusal(s, o, identity, reports);
     if refusal != 0 {
         return Answer::Refused(refusal);
     }
@@ -45,7 +45,7 @@ pub fn own_report(s: &mut [u64], time: u64, identity: u64, contracts: u64) -> Ca
     requires { is_sound s.old ≡ true }
     ensures { (room : ℕ) → Done room (Call.report time identity contracts) s.old s.new result }
 {
-    let refusal = calls::refusals::report_refusal(s, time, identity, contracts);
+    let refusal = calls::refusing::report_refusal(s, time, identity, contracts);
     if refusal != 0 {
         return Called {
             answer: Answer::Refused(refusal),

@@ -25,7 +25,7 @@ shape_of-rules-in-Err c =
 
 pub returns-in-Err : goal.returns-in-Err
 returns-in-Err c =
-    rw c.number.ensures (walk-fault c.loop-at.invariant c.loop-at-test.true c.line_from-line.ensures (line-any c.loop-at.invariant c.loop-at-test.true c.line_from-line.ensures c.requires.0 ∙ sym c.in-Err.ensures))
+    walk-fault c.loop-at.invariant c.loop-at-test.true c.line_from-line.ensures (line-any c.loop-at.invariant c.loop-at-test.true c.line_from-line.ensures c.requires.0 ∙ sym c.in-Err.ensures)
 
 pub take_in-requires : goal.take_in-requires
 take_in-requires c =

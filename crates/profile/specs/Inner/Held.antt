@@ -8,7 +8,7 @@ use Rattle.std.specs.declared.option.Option.TheVariants.{None, Some}
 use Rattle.machine.specs.State.{Profile}
 use Rattle.profile.specs.Profile.{joined, too_many, Outcome, reading_of, roots_table}
 use Rattle.profile.specs.Inner.Lawful.{Lawful}
-use Rattle.profile.specs.declared.Reading.{Reading}
+use Rattle.profile.specs.Reading.{Reading}
 
 -- the roots and the rules of a profile stand in their places
 pub record Stored (p : Profile) (roots rules : List ℕ) : Type 0 where

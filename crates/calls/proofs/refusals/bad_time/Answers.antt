@@ -1,5 +1,0 @@
--- `calls::bad_time` meets its contract: both tests are run. Assumes nothing.
-use Rattle.calls.proofs.refusals.bad_time.Goals as goal
-
-pub returns : goal.returns
-returns c = rw c.is_in.ensures
