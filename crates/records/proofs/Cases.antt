@@ -1,4 +1,4 @@
--- The cases of reading a record, in each form: as an event, and as a row. Assumes nothing.
+-- The row of a record, in each form. Assumes nothing.
 use Prim.Native.Nat.{ℕ, zero, suc, ◌+◌, ◌≤◌}
 use mathlib.Core.Path.{◌≡◌, refl, sym, ap, ◌∙◌}
 use mathlib.Core.Bool.{Bool, true, false, false≢true}
@@ -8,15 +8,16 @@ use lib.ListN.{length, get_or, drop, take}
 use lib.Seq.{drop-cons}
 use Rattle.bits.specs.Fields.{fields_of}
 use Rattle.bits.proofs.Packing.{length_fields, listed_from}
-use Rattle.records.specs.Form.{Form, accepts, event_at, stands}
+use Rattle.records.specs.Form.{read_fields}
 use Rattle.records.specs.declared.Event.{Event}
 use Rattle.std.specs.declared.result.Result.TheVariants.{Ok, Err}
-use Rattle.refusals.specs.declared.Refusal.TheVariants.{FaultyRecord}
+use Rattle.refusals.specs.declared.Refusal.{Refusal}
+use Rattle.refusals.specs.Numbers.{refusal_number}
 use Rattle.records.specs.declared.Event16.{Event16}
 use Rattle.records.specs.Event.{widths, event_of, form, event_in, read_of}
 use Rattle.records.specs.Event16.{widths16, event16_of, form16, event16_in, read16_of}
 use Rattle.records.specs.Rows.{event_row, event16_row}
-use Rattle.records.proofs.Round.{fields-are, accepts-full, accepts-not}
+use Rattle.records.proofs.Round.{fields-are, fields-read, fields-refused}
 
 -- the first n numbers of a list, if it has as many
 
@@ -28,70 +29,26 @@ firsts v n h = go v 0 n (omega arith)
     go v k (suc n) h =
         ap (λ (xs : List ℕ). get_or v k 0 ∷ xs) (go v (suc k) n (omega arith)) ∙ sym (ap (take (suc n)) (drop-cons v k 0 (omega arith)))
 
--- whether bytes are a record, by their length and then by the test t of their fields v
-module _ {E : Type 0} (F : Form E) (s : List ℕ) where
-  pub record-short : (v : List ℕ) → (length s ≡ F.size → ⊥) → (false ≡ accepts F s) × (false ≡ true → v ≡ fields_of F.widths s)
-  record-short v h = (sym (accepts-not F s h), λ z. absurd (false≢true z))
-
-  pub record-tested : (t : Bool) (v : List ℕ) → length s ≡ F.size → t ≡ stands F v → v ≡ fields_of F.widths s → t ≡ accepts F s
-  record-tested t v l is f = is ∙ ap (stands F) f ∙ sym (accepts-full F s l)
-
--- values v of 12 bytes, by their test
-module _ (v : List ℕ) (t : Bool) (is : t ≡ stands form v) where
-  pub event-is : {e : Event} → e ≡ event_of v → t ≡ true → Ok e ≡ event_in v
-  unfolding event_in
-  event-is x h = rw (← is, h) (ap Ok x)
-
-  pub event-not : t ≡ false → Err FaultyRecord ≡ event_in v
-  unfolding event_in
-  event-not h = rw (← is, h)
-
--- bytes, by the test t whether they are a record, which then has the fields v
-module _ (s : List ℕ) (t : Bool) (is : t ≡ accepts form s) where
-  pub read_is : (v : List ℕ) {e : Event} → e ≡ event_of v → t ≡ true → v ≡ fields_of widths s → Ok e ≡ read_of s
-  unfolding read_of event_at
-  read_is v x h f = rw (← is, h) (ap Ok (x ∙ ap event_of f))
-
-  pub read-not : t ≡ false → Err FaultyRecord ≡ read_of s
-  unfolding read_of
-  read-not h = rw (← is, h)
-
-  pub row_is : (v : List ℕ) → t ≡ true → v ≡ fields_of widths s → 0 ∷ listed_from 0 8 v ≡ event_row (read_of s)
+-- bytes whose fields v are read stand in the row by these, and others by their refusal
+module _ (s : List ℕ) where
+  pub row_is : (v : List ℕ) → Ok v ≡ read_fields form s → 0 ∷ listed_from 0 8 v ≡ event_row (read_of s)
   unfolding read_of event_row
-  row_is v h f =
-      let nine : length v ≡ 9 = ap length f ∙ length_fields widths s in
-      rw (← is, h) (ap (λ (xs : List ℕ). 0 ∷ xs) (firsts v 8 (omega arith) ∙ ap (take 8) (f ∙ (fields-are form s (sym is ∙ h)).0)))
+  row_is v h =
+      let p = fields-read form s v h in
+      let nine : length v ≡ 9 = ap length p.1 ∙ length_fields widths s in
+      rw p.0 (ap (λ (xs : List ℕ). 0 ∷ xs) (firsts v 8 (omega arith) ∙ ap (take 8) (p.1 ∙ (fields-are form s p.0).0)))
 
-  pub row-not : t ≡ false → 16 ∷ 0 ∷ 0 ∷ 0 ∷ 0 ∷ 0 ∷ 0 ∷ 0 ∷ 0 ∷ [] ≡ event_row (read_of s)
-  unfolding event_row
-  row-not h = rw (← read-not h)
+  pub row-not : (r : Refusal) → Err r ≡ read_fields form s → refusal_number r ∷ 0 ∷ 0 ∷ 0 ∷ 0 ∷ 0 ∷ 0 ∷ 0 ∷ 0 ∷ [] ≡ event_row (read_of s)
+  unfolding read_of event_row
+  row-not r h = let p = fields-refused form s r h in rw (p.0, p.1)
 
--- values v of 16 bytes, by their test
-module _ (v : List ℕ) (t : Bool) (is : t ≡ stands form16 v) where
-  pub event16-is : {e : Event16} → e ≡ event16_of v → t ≡ true → Ok e ≡ event16_in v
-  unfolding event16_in
-  event16-is x h = rw (← is, h) (ap Ok x)
-
-  pub event16-not : t ≡ false → Err FaultyRecord ≡ event16_in v
-  unfolding event16_in
-  event16-not h = rw (← is, h)
-
--- bytes, in the same way
-module _ (s : List ℕ) (t : Bool) (is : t ≡ accepts form16 s) where
-  pub read16-is : (v : List ℕ) {e : Event16} → e ≡ event16_of v → t ≡ true → v ≡ fields_of widths16 s → Ok e ≡ read16_of s
-  unfolding read16_of event_at
-  read16-is v x h f = rw (← is, h) (ap Ok (x ∙ ap event16_of f))
-
-  pub read16-not : t ≡ false → Err FaultyRecord ≡ read16_of s
-  unfolding read16_of
-  read16-not h = rw (← is, h)
-
-  pub row16-is : (v : List ℕ) → t ≡ true → v ≡ fields_of widths16 s → 0 ∷ (listed_from 0 10 v ++ (0 ∷ 0 ∷ [])) ≡ event16_row (read16_of s)
+  pub row16-is : (v : List ℕ) → Ok v ≡ read_fields form16 s → 0 ∷ (listed_from 0 10 v ++ (0 ∷ 0 ∷ [])) ≡ event16_row (read16_of s)
   unfolding read16_of event16_row
-  row16-is v h f =
-      let eleven : length v ≡ 11 = ap length f ∙ length_fields widths16 s in
-      rw (← is, h) (ap (λ (xs : List ℕ). 0 ∷ (xs ++ (0 ∷ 0 ∷ []))) (firsts v 10 (omega arith) ∙ ap (take 10) (f ∙ (fields-are form16 s (sym is ∙ h)).0)))
+  row16-is v h =
+      let p = fields-read form16 s v h in
+      let eleven : length v ≡ 11 = ap length p.1 ∙ length_fields widths16 s in
+      rw p.0 (ap (λ (xs : List ℕ). 0 ∷ (xs ++ (0 ∷ 0 ∷ []))) (firsts v 10 (omega arith) ∙ ap (take 10) (p.1 ∙ (fields-are form16 s p.0).0)))
 
-  pub row16-not : t ≡ false → 16 ∷ 0 ∷ 0 ∷ 0 ∷ 0 ∷ 0 ∷ 0 ∷ 0 ∷ 0 ∷ 0 ∷ 0 ∷ 0 ∷ 0 ∷ [] ≡ event16_row (read16_of s)
-  unfolding event16_row
-  row16-not h = rw (← read16-not h)
+  pub row16-not : (r : Refusal) → Err r ≡ read_fields form16 s → refusal_number r ∷ 0 ∷ 0 ∷ 0 ∷ 0 ∷ 0 ∷ 0 ∷ 0 ∷ 0 ∷ 0 ∷ 0 ∷ 0 ∷ 0 ∷ [] ≡ event16_row (read16_of s)
+  unfolding read16_of event16_row
+  row16-not r h = let p = fields-refused form16 s r h in rw (p.0, p.1)

@@ -11,9 +11,9 @@ use Rattle.records.specs.declared.Event.{Event}
 use Rattle.records.specs.declared.Event.TheVariants.{Order, Offer, Lockout}
 use Rattle.records.specs.declared.Event16.{Event16}
 use Rattle.records.specs.declared.Event16.TheVariants.{Order as Order16, Offer as Offer16, Lockout as Lockout16, Sending, Report, Closing}
-use Rattle.records.specs.Event.{widths, values_of, event_of, is_valid, form}
-use Rattle.records.specs.Event16.{widths16, values16_of, away_event_of, event16_of, is_valid16, form16}
-use Rattle.records.proofs.Round.{Lawful}
+use Rattle.records.specs.Event.{bytes12, widths, values_of, event_of, is_valid, form}
+use Rattle.records.specs.Event16.{bytes16, widths16, values16_of, away_event_of, event16_of, is_valid16, form16}
+use Rattle.records.specs.Inner.Lawful.{Lawful, Held}
 
 -- a valid event fits its fields: each range is one of the tests
 
@@ -92,3 +92,10 @@ back16 (Closing time identity) = refl
 pub lawful16 : Lawful form16
 unfolding total
 lawful16 = record { long = (lit≤ tt, lit≤ tt); each = widths-to 63 widths16 tt; full = refl; fit = fit16; back = back16 }
+
+-- the code's bytes and widths are theirs
+pub held : Held form bytes12 widths
+held = record { lawful = lawful; sized = refl; wide = refl }
+
+pub held16 : Held form16 bytes16 widths16
+held16 = record { lawful = lawful16; sized = refl; wide = refl }

@@ -16,7 +16,8 @@ use Rattle.records.specs.Event.{widths, form}
 use Rattle.records.specs.Event16.{widths16, form16}
 use Rattle.records.specs.Moves.{Move, widening, narrowing, moving_of, moved_record, moved, widened, narrowed, moves_back}
 use Rattle.records.specs.Promised.{OneRecord, Written, Moved, RecordsPromised}
-use Rattle.records.proofs.Round.{Lawful, fields-are, read_again_lem, write_again, read-values}
+use Rattle.records.specs.Inner.Lawful.{Lawful}
+use Rattle.records.proofs.Round.{fields-are, read_again_lem, write_again, read-values}
 use Rattle.records.proofs.Forms.{lawful, lawful16}
 use Rattle.records.proofs.Across.{widened-back}
 use Rattle.records.proofs.Moved.{narrowed-holds}

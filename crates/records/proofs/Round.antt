@@ -1,7 +1,7 @@
 -- Reading after writing and writing after reading, once for every form of record. Assumes nothing.
 use Prim.Native.Nat.{ℕ, ◌*◌, ◌≤◌, ◌<◌}
 use mathlib.Core.Path.{◌≡◌, refl, sym, ap, ◌∙◌, subst}
-use mathlib.Core.Bool.{Bool, true, false}
+use mathlib.Core.Bool.{Bool, true, false, cond}
 use mathlib.Core.List.{List, ◌++◌}
 use lib.ListN.{length, get_or, drop}
 use lib.Dec.{eqb}
@@ -11,19 +11,20 @@ use Rattle.laws.specs.Lists.{same}
 use Rattle.laws.proofs.Lists.{same-eq, same_refl}
 use Rattle.bits.specs.Fields.{total, Fit, fields_of, bytes_of}
 use Rattle.bits.proofs.Packing.{read-write, write_read, length-bytes, bytes_fit}
-use Rattle.records.specs.Form.{Form, record_of, event_at, stands, accepts, wrote, written, wrote_values, written_values}
+use Rattle.records.specs.Inner.Lawful.{Lawful}
+use Rattle.records.specs.Form.{Form, read_fields, record_of, event_at, stands, accepts, wrote, written, wrote_values, written_values}
 use Rattle.std.specs.declared.result.Result.TheVariants.{Ok, Err}
-use Rattle.refusals.specs.declared.Refusal.TheVariants.{NoRoom, FaultyRecord}
+use Rattle.refusals.specs.declared.Refusal.{Refusal}
+use Rattle.refusals.specs.declared.Refusal.TheVariants.{FaultyRecord}
 
--- what a form owes: its bytes are 9 to 16, its fields are of 1 to 63 bits and fill its bytes, a valid event fits them, and an event's values stand for
--- that event
+-- what a test chose: a value where it passes, else a refusal
+pub chosen : {A : Type 0} (t : Bool) (x y : A) (r : Refusal) → Ok y ≡ cond t (Ok x) (Err r) → (t ≡ true) × (y ≡ x)
+chosen true x y r h = (refl, cc)
+chosen false x y r h = absurd (cc)
 
-pub record Lawful {E : Type 0} (F : Form E) : Type 0 where
-  pub long : (9 ≤ F.size) × (F.size ≤ 16)
-  pub each : (k : ℕ) → k < length F.widths → (1 ≤ get_or F.widths k 0) × (get_or F.widths k 0 ≤ 63)
-  pub full : total F.widths ≡ F.size * 8
-  pub fit : (e : E) → F.valid e ≡ true → Fit F.widths (F.values e)
-  pub back : (e : E) → F.event (F.values e) ≡ e
+pub refused : {A : Type 0} (t : Bool) (x : A) (q r : Refusal) → Err q ≡ cond t (Ok x) (Err r) → (t ≡ false) × (q ≡ r)
+refused true x q r h = absurd (cc)
+refused false x q r h = (refl, cc)
 
 module _ {E : Type 0} (F : Form E) where
   -- values that are an event's are just its own, and it is valid
@@ -53,6 +54,19 @@ module _ {E : Type 0} (F : Form E) where
   unfolding event_at
   fields-are s a = stands-is (fields_of F.widths s) (accepts-is s a).1
 
+-- bytes whose fields are read, or refused
+module _ {E : Type 0} (F : Form E) (s : List ℕ) where
+  pub fields-read : (v : List ℕ) → Ok v ≡ read_fields F s → (accepts F s ≡ true) × (v ≡ fields_of F.widths s)
+  unfolding read_fields
+  fields-read v h = chosen (accepts F s) (fields_of F.widths s) v FaultyRecord h
+
+  pub fields-refused : (r : Refusal) → Err r ≡ read_fields F s → (accepts F s ≡ false) × (r ≡ FaultyRecord)
+  unfolding read_fields
+  fields-refused r h = refused (accepts F s) (fields_of F.widths s) r FaultyRecord h
+
+  pub fields-stand : (v : List ℕ) → Ok v ≡ read_fields F s → stands F v ≡ true
+  fields-stand v h = let p = fields-read v h in ap (stands F) p.1 ∙ (accepts-is F s p.0).1
+
 module _ {E : Type 0} (F : Form E) (w : Lawful F) where
   -- an event's values are an event's exactly if it is valid
   pub stands_of : (e : E) → stands F (F.values e) ≡ F.valid e
@@ -62,19 +76,6 @@ module _ {E : Type 0} (F : Form E) (w : Lawful F) where
   -- values that are an event's fit their fields
   pub stands-fit : (v : List ℕ) → stands F v ≡ true → Fit F.widths v
   stands-fit v h = let p = stands-is F v h in subst (Fit F.widths) (sym p.0) (w.fit (F.event v) p.1)
-
-  -- what reading fields from n bytes to m places asks, and writing values that are an event's to n bytes of room
-  pub readable : (n m : ℕ) → n ≡ F.size → length F.widths ≡ m
-      → ((9 ≤ n) × (n ≤ 16))
-      × ((total F.widths ≡ n * 8)
-      × ((length F.widths ≡ m) × ((k : ℕ) → k < length F.widths → (1 ≤ get_or F.widths k 0) × (get_or F.widths k 0 ≤ 63))))
-  readable n m l e = rw l (w.long, (w.full, (e, w.each)))
-
-  pub writable : (v : List ℕ) (n : ℕ) → stands F v ≡ true → F.size ≤ n
-      → ((9 ≤ F.size) × (F.size ≤ 16) × (F.size ≤ n))
-      × (Fit F.widths v
-      × ((total F.widths ≡ F.size * 8) × ((k : ℕ) → k < length F.widths → (1 ≤ get_or F.widths k 0) × (get_or F.widths k 0 ≤ 63))))
-  writable v n h l = ((w.long.0, w.long.1, l), (stands-fit v h, (w.full, w.each)))
 
   -- bytes that hold an event's values are its record
   pub read-values : (v : List ℕ) → stands F v ≡ true
@@ -117,18 +118,3 @@ module _ {E : Type 0} (F : Form E) (w : Lawful F) where
   pub written-values : (e : E) (room : List ℕ) → written_values F (F.values e) room ≡ written F e room
   unfolding written_values written record_of
   written-values e room = rw (stands_of e)
-
--- the three cases of writing values, by their test t
-module _ {E : Type 0} (F : Form E) (v room : List ℕ) (t : Bool) (is : t ≡ stands F v) where
-  pub values-not : t ≡ false → (Err FaultyRecord ≡ wrote_values F v (length room)) × (room ≡ written_values F v room)
-  unfolding wrote_values written_values
-  values-not h = rw (← is, h) (refl, refl)
-
-  pub values-short : t ≡ true → length room < F.size → (Err NoRoom ≡ wrote_values F v (length room)) × (room ≡ written_values F v room)
-  unfolding wrote_values written_values
-  values-short h n = rw (← is, h, lt-leb _ _ n) (refl, refl)
-
-  pub values-done : t ≡ true → F.size ≤ length room
-      → (Ok tt ≡ wrote_values F v (length room)) × (bytes_of F.size F.widths v ++ drop F.size room ≡ written_values F v room)
-  unfolding wrote_values written_values
-  values-done h n = rw (← is, h, le-leb _ _ n) (refl, refl)

@@ -33,6 +33,14 @@ module _ {E : Type 0} (F : Form E) where
   unfoldable pub accepts : List ℕ → Bool
   accepts s = eqb (length s) F.size && stands (fields_of F.widths s)
 
+  -- what the values of the fields are read as: they must be just those of a valid event
+  unfoldable pub read_values : List ℕ → Result E Refusal
+  read_values v = cond (stands v) (Ok (F.event v)) (Err FaultyRecord)
+
+  -- the fields of bytes that are a record
+  unfoldable pub read_fields : List ℕ → Result (List ℕ) Refusal
+  read_fields s = cond (accepts s) (Ok (fields_of F.widths s)) (Err FaultyRecord)
+
   -- what the room holds after e was written: the record and the rest of the room; or the room as it was, where e is not valid or does not fit
   unfoldable pub written : E → List ℕ → List ℕ
   written e room = cond (F.valid e && leb F.size (length room)) (record_of e ++ drop F.size room) room

@@ -2,8 +2,8 @@
 use Rattle.records.proofs.Cases.{row_is, row-not}
 use Rattle.records.proofs.read_numbers.Goals as goal
 
-pub returns-then-is_record : goal.returns-then-is_record
-returns-then-is_record c = row_is _ _ c.is_record.ensures.value _ c.if-is_record.true (c.is_record.ensures.v_after c.if-is_record.true)
+pub returns-in-Ok : goal.returns-in-Ok
+returns-in-Ok c = row_is _ _ c.in-Ok.ensures
 
-pub returns-else-is_record : goal.returns-else-is_record
-returns-else-is_record c = row-not _ _ c.is_record.ensures.value c.if-is_record.false
+pub returns-in-Err : goal.returns-in-Err
+returns-in-Err c = rw c.number.ensures (row-not _ _ c.in-Err.ensures)
