@@ -33,10 +33,8 @@ fn are_between(v: &[u64], least: &[u64], most: &[u64]) -> bool
     ensures { result ≡ are_between least.now most.now v.now }
 {
     let mut good = true;
-    let mut i = 0;
-    while i < v.len() {
-        good = good & measures::is_in(v[i], least[i], most[i]);
-        i += 1;
+    for (i, n) in v.iter().enumerate() {
+        good = good & measures::is_in(*n, least[i], most[i]);
     }
     good
 }

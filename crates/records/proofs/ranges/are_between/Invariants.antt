@@ -8,7 +8,4 @@ use Rattle.records.proofs.Ranged.{left}
 use Rattle.records.proofs.ranges.are_between.Given as goal
 
 abbrev pub invariant-loop-i : goal.invariant-loop-i
-invariant-loop-i l = (l.i ≤ length l.v) × ((l.good && left l.least l.most l.v l.i) ≡ are_between l.least l.most l.v)
-
-abbrev pub decreases-loop-i : goal.decreases-loop-i
-decreases-loop-i l = length l.v - l.i
+invariant-loop-i l = (l.good && left l.least l.most l.v l.i) ≡ are_between l.least l.most l.v
