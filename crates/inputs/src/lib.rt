@@ -12,6 +12,7 @@ pub fn read_full(input: &mut impl Read, room: &mut [u8]) -> io::Result<usize>
     ensures { ReadsAtMost result room.new }
 {
     let mut come = 0;
+    // How often to read is not known before, and the library's read_exact tells no count where the input ends early.
     while come < room.len() {
         let more = input.read(&mut room[come..])?;
         if more == 0 {
