@@ -2,28 +2,15 @@
 // one for the firm.
 #![tactic(auto)]
 
-ghost use Rattle.std.specs.Prelude.{◌≡◌, ◌≤◌, length, take};
-
 use std::io;
-use std::io::{ErrorKind, Read};
+use std::io::Read;
 use std::rt::Files;
 
-// Reads the file `profile`, up to one byte more than a profile may have, and answers how many bytes that are: none where it is missing or
-// cannot be read to its end.
-fn read_profile(rt: &impl Files, text: &mut [u8]) -> usize
-    ensures within { result ≤ length text.new }
-    ensures prefix { result ≡ length (take result text.new) }
-{
-    match inputs::read_file(rt, "profile", text) {
-        Ok(n) => n,
-        Err(_) => 0,
-    }
-}
-
-// Arms the memory from the file, and prints the line of a refused profile. Answers whether to go on.
+// Arms the memory from the file `profile`, of which one byte more is read than a profile may have, and prints the line of a refused one. Answers
+// whether to go on.
 fn arm(rt: &(impl Files + Print), memory: &mut [u64]) -> io::Result<bool> {
     let mut text = [0u8; 65537];
-    let n = read_profile(rt, &mut text);
+    let n = inputs::read_profile(rt, &mut text);
     let mut line = [0u8; 126];
     let opened = answering::arm(memory, &text[..n], &mut line);
     if opened.armed {
@@ -83,16 +70,6 @@ fn print_day(rt: &HostRuntime) -> io::Result<()> {
     print_table(rt, &memory, &account)
 }
 
-// A reader that goes away ends the program, and is no error.
 fn main(rt: HostRuntime) -> io::Result<()> {
-    match print_day(&rt) {
-        Ok(()) => Ok(()),
-        Err(e) => {
-            if e.kind() == ErrorKind::BrokenPipe {
-                Ok(())
-            } else {
-                Err(e)
-            }
-        }
-    }
+    inputs::unless_gone(print_day(&rt))
 }

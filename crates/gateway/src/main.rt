@@ -1,28 +1,16 @@
 // Arms a unit from the file `profile`, answers the event records of standard input, and prints a line for each.
 #![tactic(auto)]
 
-ghost use Rattle.std.specs.Prelude.{◌≡◌, ◌≤◌, length, take};
+ghost use Rattle.std.specs.Prelude.{◌≡◌, ◌≤◌, length};
 
 use std::io;
-use std::io::{ErrorKind, Read};
+use std::io::Read;
 use std::rt::Files;
 
-// Reads the file `profile`, up to one byte more than a profile may have, and answers how many bytes that are: none where it is missing or
-// cannot be read to its end.
-fn read_profile(rt: &impl Files, text: &mut [u8]) -> usize
-    ensures within { result ≤ length text.new }
-    ensures prefix { result ≡ length (take result text.new) }
-{
-    match inputs::read_file(rt, "profile", text) {
-        Ok(n) => n,
-        Err(_) => 0,
-    }
-}
-
-// Arms the memory from the file and prints the line about it. Answers whether to go on.
+// Arms the memory from the file `profile`, of which one byte more is read than a profile may have, and prints the line about it. Answers whether to go on.
 fn arm(rt: &(impl Files + Print), memory: &mut [u64]) -> io::Result<bool> {
     let mut text = [0u8; 65537];
-    let n = read_profile(rt, &mut text);
+    let n = inputs::read_profile(rt, &mut text);
     let mut line = [0u8; 126];
     let opened = answering::arm(memory, &text[..n], &mut line);
     let bytes = opened.bytes;
@@ -44,7 +32,7 @@ fn answer_records(
     Ok(place + ran.records)
 }
 
-// Waits for the rest of a record, whose first bytes have come to a room of its size, and answers it. Answers the place after it, or 0 where the
+// Waits for the rest of a record, whose first bytes have come to a room of its size, and answers it. Answers the place after it, or none where the
 // input ends.
 fn answer_rest(
     rt: &impl Print,
@@ -54,20 +42,20 @@ fn answer_rest(
     room: &mut [u8],
     come: usize,
     output: &mut [u8],
-) -> io::Result<u64>
+) -> io::Result<Option<u64>>
     requires { come ≤ length room.old }
 {
     let more = inputs::read_full(from, &mut room[come..])?;
     let all = come + more;
     let next = answer_records(rt, memory, place, &room[..all], output)?;
     if all < room.len() {
-        return Ok(0);
+        return Ok(None);
     }
-    Ok(next)
+    Ok(Some(next))
 }
 
 // Answers what one read of the input brings, the first record at a place, and prints its lines before it waits for anything more. Answers the
-// place after it, or 0 where the input ends.
+// place after it, or none where the input ends.
 fn answer_read(
     rt: &impl Print,
     from: &mut impl Read,
@@ -75,18 +63,18 @@ fn answer_read(
     place: u64,
     input: &mut [u8],
     output: &mut [u8],
-) -> io::Result<u64> {
+) -> io::Result<Option<u64>> {
     let come = from.read(input)?;
     if come == 0 {
-        return Ok(0);
+        return Ok(None);
     }
     let part = come % answering::RECORD_BYTES;
     let whole = come - part;
     let next = answer_records(rt, memory, place, &input[..whole], output)?;
     if part == 0 {
-        return Ok(next);
+        return Ok(Some(next));
     }
-    let end = numbers::least((whole + answering::RECORD_BYTES) as u64, input.len() as u64) as usize;
+    let end = (whole + answering::RECORD_BYTES).min(input.len());
     answer_rest(rt, from, memory, next, &mut input[whole..end], part, output)
 }
 
@@ -98,12 +86,12 @@ fn answer_all(
     input: &mut [u8],
     output: &mut [u8],
 ) -> io::Result<()> {
-    let mut place: u64 = 1;
+    let mut place = 1;
     for _ in 0..u64::MAX {
-        place = answer_read(rt, from, memory, place, input, output)?;
-        if place == 0 {
+        let Some(next) = answer_read(rt, from, memory, place, input, output)? else {
             break;
-        }
+        };
+        place = next;
     }
     Ok(())
 }
@@ -131,16 +119,6 @@ fn answer_day(rt: &HostRuntime) -> io::Result<()> {
     answer_all(rt, &mut rt.stdin(), &mut memory, &mut input, &mut output)
 }
 
-// A reader that goes away ends the program, and is no error.
 fn main(rt: HostRuntime) -> io::Result<()> {
-    match answer_day(&rt) {
-        Ok(()) => Ok(()),
-        Err(e) => {
-            if e.kind() == ErrorKind::BrokenPipe {
-                Ok(())
-            } else {
-                Err(e)
-            }
-        }
-    }
+    inputs::unless_gone(answer_day(&rt))
 }
