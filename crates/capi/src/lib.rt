@@ -1,4 +1,5 @@
 // The calls for C and Rust, which `capi_c` exports: numbers and slices in, each answer as a row of numbers, the refusal first. Here the calls on a unit's memory.
+// The C interface gives an offer's five numbers one by one, so they stand in the signatures of `mbrumzheg_offer`, `mbrumzheg_send` and their like.
 #![tactic(auto)]
 
 ghost use Rattle.std.specs.Prelude.{◌≡◌};

@@ -1,4 +1,5 @@
 // The static library for C and Rust: each function of `capi` exported under its own name, with the same clauses. Here the calls on a unit's memory.
+// The C interface needs the 27 exports, so each signature and its clauses stand here and in `capi`.
 #![tactic(auto)]
 
 ghost use Rattle.std.specs.Prelude.{◌≡◌};
