@@ -9,8 +9,7 @@ use lib.Seq.{length-take-le}
 use lib.Dec.{eqb, ltb}
 use borrow.Author.Tests.{eq-eqb, ne_eqb, lt-ltb, le-ltb, le-leb, lt-leb}
 use Rattle.laws.proofs.Lists.{ended}
-use Rattle.machine.specs.declared.Answer.{Answer}
-use Rattle.machine.specs.declared.Answer.TheVariants.{Refused}
+use Rattle.machine.specs.Answer.{Answer, Refused}
 use Rattle.machine.specs.Calls.{Call}
 use Rattle.machine.specs.Refusals.{first_of}
 use Rattle.machine.specs.Judge.{step, is_refusal}

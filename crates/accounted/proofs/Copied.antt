@@ -10,8 +10,7 @@ use lib.Dec.{eqb}
 use borrow.Author.Tests.{ne_eqb, le-ltb}
 use Rattle.laws.proofs.Tests.{same_test}
 use Rattle.laws.proofs.Lists.{ended}
-use Rattle.machine.specs.declared.Answer.{Answer}
-use Rattle.machine.specs.declared.Answer.TheVariants.{Refused}
+use Rattle.machine.specs.Answer.{Answer, Refused}
 use Rattle.machine.specs.Calls.{Call}
 use Rattle.machine.specs.State.{State}
 use Rattle.machine.specs.Register.{sent_at}

@@ -11,8 +11,7 @@ use Rattle.laws.specs.Folds.{any_of}
 use Rattle.measures.specs.Ranges.{premiums, offers}
 use Rattle.machine.specs.declared.Offer.{Offer}
 use Rattle.machine.specs.declared.Sent.{Sent}
-use Rattle.machine.specs.declared.Answer.{Answer}
-use Rattle.machine.specs.declared.Answer.TheVariants.{Refused, Judged, Left, Standing}
+use Rattle.machine.specs.Answer.{Answer, Refused, Judged, Left, Standing}
 use Rattle.machine.specs.Calls.{Call, order, lockout, offer, remaining, status, send, report, close}
 use Rattle.machine.specs.State.{State, roots_in}
 use Rattle.machine.specs.Locks.{verdict_of}

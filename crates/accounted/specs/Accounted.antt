@@ -1,7 +1,6 @@
 -- What a call answers that keeps an account, and what it leaves of the unit's memory and of the account. Assumes nothing.
 use Rattle.std.specs.Prelude.{ℕ, Bool, not, cond, ◌&&◌, ◌||◌, List, [], ◌∷◌, length, eqb, ltb}
-use Rattle.machine.specs.declared.Answer.{Answer}
-use Rattle.machine.specs.declared.Answer.TheVariants.{Refused}
+use Rattle.machine.specs.Answer.{Answer, Refused}
 use Rattle.machine.specs.Calls.{Call, order, lockout, offer, send, report, close}
 use Rattle.machine.specs.Register.{sent_at}
 use Rattle.machine.specs.Refusals.{first_of}

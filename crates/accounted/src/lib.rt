@@ -2,13 +2,15 @@
 #![tactic(auto)]
 
 ghost use Rattle.std.specs.Prelude.{◌≡◌};
+ghost use Rattle.machine.specs.Answer.{answer_told};
 ghost use Rattle.accounted.specs.Accounted.{call_of, accounted_answer, accounted_memory, account_after_call};
 
 mod counted;
 mod lent;
 mod plain;
 
-use machine::{Answer, Offer};
+use machine::{Accepted, Offer};
+use refusals::Refusal;
 
 // An event that an account is kept of, with its numbers.
 #[derive(Clone, Copy)]
@@ -42,17 +44,17 @@ pub enum Event {
 
 // Applies an event and counts it. Most accounts have room for whatever an event adds, so that the plain call may go first; one that may have none
 // is told before the event is applied.
-pub fn apply(m: &mut [u64], a: &mut [u64], e: Event) -> Answer
-    ensures value { result ≡ accounted_answer m.old a.old (call_of e) }
+pub fn apply(m: &mut [u64], a: &mut [u64], e: Event) -> Result<Accepted, Refusal>
+    ensures value { answer_told result ≡ accounted_answer m.old a.old (call_of e) }
     ensures m_after { m.new ≡ accounted_memory m.old a.old (call_of e) }
     ensures a_after { a.new ≡ account_after_call m.old a.old (call_of e) }
 {
     if a.len() < figures::SIZE {
-        return Answer::Refused(1);
+        return Err(Refusal::NoRoom);
     }
     let bound = figures::bound(&a[..figures::SIZE]);
     if figures::MOST < bound {
-        return Answer::Refused(lent::without_account(m));
+        return Err(lent::without_account(m));
     }
     if bound <= figures::MOST - figures::ADDED_MOST {
         return counted::with_room(m, a, e);

@@ -1,6 +1,6 @@
 // An event without its account: the plain call, and what it was to the account by what the call answered.
 ghost use Rattle.std.specs.Prelude.{◌≡◌};
-ghost use Rattle.machine.specs.Judge.{is_refusal};
+ghost use Rattle.machine.specs.Answer.{answer_told};
 ghost use Rattle.figures.specs.Happenings.{ordered_of, offered_of, reported_of, happening_of};
 ghost use Rattle.state.specs.Inner.Laid.{Laid};
 ghost use Rattle.calls.specs.Calls.{call_answer, call_memory};
@@ -8,11 +8,12 @@ ghost use Rattle.accounted.specs.Accounted.{call_of, open_root};
 
 use crate::Event;
 use figures::Happening;
-use machine::{Answer, Offer};
+use machine::{Accepted, Offer};
+use refusals::Refusal;
 
 // The plain call of an event.
-pub(crate) fn call(m: &mut [u64], e: Event) -> Answer
-    ensures value { result ≡ call_answer m.old (call_of e) }
+pub(crate) fn call(m: &mut [u64], e: Event) -> Result<Accepted, Refusal>
+    ensures value { answer_told result ≡ call_answer m.old (call_of e) }
     ensures m_after { m.new ≡ call_memory m.old (call_of e) }
 {
     match e {
@@ -33,23 +34,6 @@ pub(crate) fn call(m: &mut [u64], e: Event) -> Answer
     }
 }
 
-// Whether an answer is a refusal.
-pub(crate) fn is_refusal(answer: Answer) -> bool
-    ensures { result ≡ is_refusal answer }
-{
-    match answer {
-        Answer::Refused(_) => true,
-        Answer::Judged {
-            verdict: _,
-            grant: _,
-            roottrip: _,
-            firmtrip: _,
-        } => false,
-        Answer::Left(_) => false,
-        Answer::Standing(_) => false,
-    }
-}
-
 // The root of the order that is open under an identity, 0 if none is.
 fn open_root(m: &[u64], identity: u64) -> u64
     requires { Laid m.now }
@@ -64,28 +48,29 @@ fn open_root(m: &[u64], identity: u64) -> u64
 }
 
 // An order or a sending: accepted or rejected, by its verdict.
-fn ordered(root: u64, answer: Answer) -> Happening
-    ensures { result ≡ ordered_of root answer }
+#[tactic(auto, unfolding(figures::specs::Happenings::ordered_of))]
+fn ordered(root: u64, accepted: Accepted) -> Happening
+    ensures { result ≡ ordered_of root (answer_told (Ok accepted)) }
 {
-    match answer {
-        Answer::Judged {
+    match accepted {
+        Accepted::Judged {
             verdict,
             grant: _,
             roottrip: _,
             firmtrip: _,
         } => Happening::Ordered { root, verdict },
-        Answer::Refused(_) => Happening::Uncounted,
-        Answer::Left(_) => Happening::Uncounted,
-        Answer::Standing(_) => Happening::Uncounted,
+        Accepted::Left(_) => Happening::Uncounted,
+        Accepted::Standing(_) => Happening::Uncounted,
     }
 }
 
 // An offer: one that was locked out counts nowhere.
-fn offered(o: Offer, answer: Answer) -> Happening
-    ensures { result ≡ offered_of o answer }
+#[tactic(auto, unfolding(figures::specs::Happenings::offered_of))]
+fn offered(o: Offer, accepted: Accepted) -> Happening
+    ensures { result ≡ offered_of o (answer_told (Ok accepted)) }
 {
-    match answer {
-        Answer::Judged {
+    match accepted {
+        Accepted::Judged {
             verdict,
             grant,
             roottrip,
@@ -103,18 +88,18 @@ fn offered(o: Offer, answer: Answer) -> Happening
                 firmtrip,
             }
         }
-        Answer::Refused(_) => Happening::Uncounted,
-        Answer::Left(_) => Happening::Uncounted,
-        Answer::Standing(_) => Happening::Uncounted,
+        Accepted::Left(_) => Happening::Uncounted,
+        Accepted::Standing(_) => Happening::Uncounted,
     }
 }
 
 // A report, of the root of its order.
-fn reported(root: u64, answer: Answer) -> Happening
-    ensures { result ≡ reported_of root answer }
+#[tactic(auto, unfolding(figures::specs::Happenings::reported_of))]
+fn reported(root: u64, accepted: Accepted) -> Happening
+    ensures { result ≡ reported_of root (answer_told (Ok accepted)) }
 {
-    match answer {
-        Answer::Judged {
+    match accepted {
+        Accepted::Judged {
             verdict: _,
             grant: _,
             roottrip,
@@ -124,39 +109,38 @@ fn reported(root: u64, answer: Answer) -> Happening
             roottrip,
             firmtrip,
         },
-        Answer::Refused(_) => Happening::Uncounted,
-        Answer::Left(_) => Happening::Uncounted,
-        Answer::Standing(_) => Happening::Uncounted,
+        Accepted::Left(_) => Happening::Uncounted,
+        Accepted::Standing(_) => Happening::Uncounted,
     }
 }
 
 // What an event was to the account, by its answer; the orders that are open are read from the memory.
-pub(crate) fn happening(m: &[u64], e: Event, answer: Answer) -> Happening
+pub(crate) fn happening(m: &[u64], e: Event, accepted: Accepted) -> Happening
     requires { Laid m.now }
-    ensures { result ≡ happening_of (open_root m.now) (call_of e) answer }
+    ensures { result ≡ happening_of (open_root m.now) (call_of e) (answer_told (Ok accepted)) }
 {
     match e {
         Event::Order {
             time: _,
             root,
             reset: _,
-        } => ordered(root, answer),
+        } => ordered(root, accepted),
         Event::Lockout {
             time: _,
             level: _,
             root: _,
         } => Happening::Uncounted,
-        Event::Offer(o) => offered(o, answer),
+        Event::Offer(o) => offered(o, accepted),
         Event::Send {
             order,
             identity: _,
             reports: _,
-        } => ordered(order.root, answer),
+        } => ordered(order.root, accepted),
         Event::Report {
             time: _,
             identity,
             contracts: _,
-        } => reported(open_root(m, identity), answer),
+        } => reported(open_root(m, identity), accepted),
         Event::Close {
             time: _,
             identity: _,

@@ -11,8 +11,7 @@ use Rattle.text.specs.Digits.{decimal}
 use Rattle.text.proofs.Decimal.{decimal-few}
 use Rattle.text.proofs.Written.{sets-append}
 use Rattle.machine.specs.Judge.{numbers}
-use Rattle.machine.specs.declared.Answer.{Answer}
-use Rattle.machine.specs.declared.Answer.TheVariants.{Refused, Judged, Left, Standing as Stand}
+use Rattle.machine.specs.Answer.{Answer, Refused, Judged, Left, Standing as Stand}
 use Rattle.answering.specs.Lines.{spaced}
 
 -- numbers from place i on are still to be written, each after a space, and LF after the last

@@ -8,7 +8,7 @@ use Rattle.text.specs.Text.{bytes, numeral, name_number}
 use Rattle.text.specs.Digits.{digits_up_to, name_bytes, decimal}
 use Rattle.profile.specs.Reading.{Accepted, Refused as NotArmed}
 use Rattle.machine.specs.Judge.{numbers}
-use Rattle.machine.specs.declared.Answer.TheVariants.{Refused, Judged}
+use Rattle.machine.specs.Answer.{Refused, Judged}
 use Rattle.answering.specs.Lines.{spaced, arm_line, record_line}
 
 -- a line's text

@@ -4,7 +4,7 @@ use Rattle.text.specs.Text.{bytes}
 use Rattle.text.specs.Digits.{name_bytes, decimal}
 use Rattle.profile.specs.Reading.{Reading, Accepted, Refused}
 use Rattle.machine.specs.Judge.{numbers}
-use Rattle.machine.specs.declared.Answer.{Answer}
+use Rattle.machine.specs.Answer.{Answer}
 
 -- a space before each number, and LF ends the line
 unfoldable pub spaced : List ℕ → List ℕ

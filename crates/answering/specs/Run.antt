@@ -4,8 +4,7 @@ use Rattle.tables.specs.Inner.Tables.{places}
 use Rattle.profile.specs.Reading.{Reading as Arming, Accepted, Refused as NotArmed}
 use Rattle.machine.specs.Calls.{Call, order, lockout, offer, send, report, close}
 use Rattle.machine.specs.declared.Offer.{Offer as Offered}
-use Rattle.machine.specs.declared.Answer.{Answer}
-use Rattle.machine.specs.declared.Answer.TheVariants.{Refused}
+use Rattle.machine.specs.Answer.{Answer, Refused}
 use Rattle.calls.specs.Calls.{call_answer, call_memory}
 use Rattle.records.specs.Event16.{bytes16, read16_of}
 use Rattle.records.specs.declared.Event16.{Event16}

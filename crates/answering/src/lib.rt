@@ -3,6 +3,7 @@
 
 ghost use Rattle.std.specs.Prelude.{◌≡◌, ◌+◌, ◌*◌, ◌≤◌, ◌<◌, length};
 ghost use Rattle.std.proofs.lemmas.List.Edits.{sets};
+ghost use Rattle.machine.specs.Answer.{answer_told};
 ghost use Rattle.calls.specs.Calls.{arm_answer, arm_memory, call_answer, call_memory};
 ghost use Rattle.std.specs.declared.result.Result.TheVariants.{Ok, Err};
 ghost use Rattle.profile.specs.Reading.{reading_told};
@@ -10,9 +11,10 @@ ghost use Rattle.records.specs.Event16.{bytes16};
 ghost use Rattle.answering.specs.Lines.{spaced, arm_line, record_line};
 ghost use Rattle.answering.specs.Run.{Line, FitsRoom, Fitted, in_front, opened_of, milliseconds as milliseconds_of, offer_said as offered_of, record_call, record_answer, record_memory, fitting as fitting_of, taken, memory_after, lines_of, ran_of};
 
-use machine::{Answer, Offer};
+use machine::{Accepted, Offer};
 use profile::{Armed, Fault};
 use records::Event16;
+use refusals::Refusal;
 
 // How many numbers the memory takes that a program lends.
 pub const SIZE: usize = calls::SIZE;
@@ -97,11 +99,11 @@ pub fn arm(m: &mut [u64], profile: &[u8], room: &mut [u8; 126]) -> Opened
 }
 
 // Writes the line of an answer from a place on, and answers the place after it.
-fn put_line(place: u64, answer: Answer, room: &mut [u8], at: usize) -> usize
+fn put_line(place: u64, answer: Result<Accepted, Refusal>, room: &mut [u8], at: usize) -> usize
     requires { at + 126 ≤ length room.old }
     ensures line { Line result at (length room.old) }
-    ensures value { result ≡ at + length (record_line place answer) }
-    ensures room_after { room.new ≡ sets room.old at (record_line place answer) }
+    ensures value { result ≡ at + length (record_line place (answer_told answer)) }
+    ensures room_after { room.new ≡ sets room.old at (record_line place (answer_told answer)) }
 {
     let mut row = [0u64; 5];
     rows::put_answer(answer, &mut row);
@@ -130,8 +132,8 @@ pub fn offered(time: u64, root: u64, unit: u64, premium: u64, contracts: u64) ->
 }
 
 // Answers an event in memory: the rules count in whole milliseconds.
-fn answer_event(m: &mut [u64], e: Event16) -> Answer
-    ensures value { result ≡ call_answer m.old (record_call e) }
+fn answer_event(m: &mut [u64], e: Event16) -> Result<Accepted, Refusal>
+    ensures value { answer_told result ≡ call_answer m.old (record_call e) }
     ensures m_after { m.new ≡ call_memory m.old (record_call e) }
 {
     match e {
@@ -169,13 +171,13 @@ fn answer_event(m: &mut [u64], e: Event16) -> Answer
 
 // Answers a record in memory: what its event's call answers, or 16.
 #[tactic(auto, unfolding(crate::specs::Run::reading_answer, crate::specs::Run::memory_of))]
-pub fn answer_record(m: &mut [u64], s: &[u8]) -> Answer
-    ensures value { result ≡ record_answer m.old s.now }
+pub fn answer_record(m: &mut [u64], s: &[u8]) -> Result<Accepted, Refusal>
+    ensures value { answer_told result ≡ record_answer m.old s.now }
     ensures m_after { m.new ≡ record_memory m.old s.now }
 {
     match records::read16(s) {
         Ok(e) => answer_event(m, e),
-        Err(refusal) => Answer::Refused(refusal.number()),
+        Err(refusal) => Err(refusal),
     }
 }
 

@@ -35,7 +35,7 @@ use Rattle.rules.specs.declared.Rule.{Rule}
 use Rattle.rules.specs.declared.Scope.TheVariants.{WholeRoot}
 use Rattle.rules.specs.declared.Kind.TheVariants.{Absolute}
 use Rattle.rules.specs.declared.Limit.TheVariants.{Volume}
-use Rattle.machine.specs.declared.Answer.TheVariants.{Judged}
+use Rattle.machine.specs.Answer.{Judged}
 use Rattle.demand.specs.Run.{after_call, run_from}
 use Rattle.tables.specs.Inner.Tables.{zeros}
 use Rattle.figures.specs.Happenings.{ordered_of, offered_of, reported_of, happening_of}

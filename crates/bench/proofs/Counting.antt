@@ -8,8 +8,7 @@ use Rattle.machine.specs.State.{State}
 use Rattle.machine.specs.Calls.{Call}
 use Rattle.machine.specs.Register.{sent_at}
 use Rattle.machine.specs.Judge.{step, is_refusal}
-use Rattle.machine.specs.declared.Answer.{Answer}
-use Rattle.machine.specs.declared.Answer.TheVariants.{Refused}
+use Rattle.machine.specs.Answer.{Answer, Refused}
 use Rattle.demand.specs.Run.{Event}
 use Rattle.calls.specs.Calls.{call_memory}
 use Rattle.figures.specs.Happenings.{happening_of}

@@ -16,8 +16,7 @@ use Rattle.machine.specs.declared.Offer.{Offer}
 use Rattle.machine.specs.Calls.{offer}
 use Rattle.machine.specs.Deeds.{Deed, granted, filling}
 use Rattle.machine.specs.Offers.{covers_offer}
-use Rattle.machine.specs.declared.Answer.{Answer}
-use Rattle.machine.specs.declared.Answer.TheVariants.{Judged}
+use Rattle.machine.specs.Answer.{Answer, Judged}
 use Rattle.machine.specs.Judge.{step}
 use Rattle.demand.specs.Run.{Event, after_call, run_from, run_of}
 use Rattle.demand.specs.History.{is_reported, is_away, if_granted, deed_of, deeds_of, contracts_of, amount_of, zeroes, NoneOf}

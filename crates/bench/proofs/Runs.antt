@@ -8,7 +8,7 @@ use Rattle.profile.specs.Profile.{outcome_of}
 use Rattle.state.specs.State.{size, decode}
 use Rattle.machine.specs.State.{State, armed}
 use Rattle.machine.specs.Judge.{step}
-use Rattle.machine.specs.declared.Answer.{Answer}
+use Rattle.machine.specs.Answer.{Answer}
 use Rattle.calls.specs.Calls.{memory_refusal}
 use Rattle.demand.specs.Run.{Event, after_call, run_from}
 use Rattle.promises.proofs.Holds.{Holds, ready-holds, call-answers, call-holds}

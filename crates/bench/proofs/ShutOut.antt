@@ -19,7 +19,7 @@ use Rattle.shapes.proofs.Tables.{length-zeros}
 use Rattle.profile.specs.Profile.{outcome_of}
 use Rattle.state.specs.State.{size, decode}
 use Rattle.machine.specs.declared.Offer.{Offer}
-use Rattle.machine.specs.declared.Answer.TheVariants.{Refused, Judged, Left, Standing as Stand}
+use Rattle.machine.specs.Answer.{Refused, Judged, Left, Standing as Stand}
 use Rattle.machine.proofs.Grants.{grant-largest}
 use Rattle.calls.specs.Calls.{memory_refusal, call_answer, refusal_in}
 use Rattle.calls.proofs.Armed.{refusal-unarmed}

@@ -10,7 +10,7 @@ use Rattle.rules.specs.Allowance.{All}
 use Rattle.text.specs.Text.{bytes}
 use Rattle.capi.specs.Rows.{arm_row, text_row}
 use Rattle.calls.specs.Calls.{text_answer, text_memory}
-use Rattle.calls.specs.declared.Wording.TheVariants.{Written}
+use Rattle.std.specs.declared.result.Result.TheVariants.{Ok}
 use Rattle.calls.proofs.Cases.{say-done}
 use Rattle.promises.proofs.Unarmed.{refused-arm-same, unarmed-idle}
 use Rattle.bench.specs.Lent.{Memory, Text, Verdict}
@@ -52,13 +52,13 @@ module _ (l : Library) (meets : Meets l) where
   unfolding text_answer text_memory text_row
   texts-said v room = record { firm = λ is long. (ap text_row (firm-answer is long), firm-left is long); root = λ is long. (ap text_row (root_answer is long), root-left is long) }
     where
-      firm-answer : v.number ≡ 1 → 20 ≤ length room.now → (l.text v room).answer ≡ Written 20
+      firm-answer : v.number ≡ 1 → 20 ≤ length room.now → (l.text v room).answer ≡ Ok 20
       firm-answer is long = meets.text_answers v room ∙ rw is (sym (say-done (bytes "f: RiskMgmtFirmLevel") room.now long).0)
 
       firm-left : v.number ≡ 1 → 20 ≤ length room.now → (l.text v room).room.now ≡ bytes "f: RiskMgmtFirmLevel" ++ drop 20 room.now
       firm-left is long = meets.text_leaves v room ∙ rw is (sym (say-done (bytes "f: RiskMgmtFirmLevel") room.now long).1)
 
-      root_answer : v.number ≡ 2 → 20 ≤ length room.now → (l.text v room).answer ≡ Written 19
+      root_answer : v.number ≡ 2 → 20 ≤ length room.now → (l.text v room).answer ≡ Ok 19
       root_answer is long = meets.text_answers v room ∙ rw is (sym (say-done (bytes "s: RiskMgmtSymLevel") room.now long).0)
 
       root-left : v.number ≡ 2 → 20 ≤ length room.now → (l.text v room).room.now ≡ bytes "s: RiskMgmtSymLevel" ++ drop 19 room.now

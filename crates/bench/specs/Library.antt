@@ -8,11 +8,9 @@ use Rattle.state.specs.State.{size}
 use Rattle.text.specs.Text.{bytes}
 use Rattle.machine.specs.State.{State}
 use Rattle.machine.specs.declared.Offer.{Offer}
-use Rattle.machine.specs.declared.Answer.{Answer}
-use Rattle.machine.specs.declared.Answer.TheVariants.{Judged}
+use Rattle.machine.specs.Answer.{Answer, Judged}
 use Rattle.calls.specs.Calls.{mark_of, arm_answer, arm_memory, clear_answer, clear_memory, call_answer, call_memory, text_answer, text_memory}
-use Rattle.calls.specs.declared.Clearing.{Clearing}
-use Rattle.calls.specs.declared.Wording.{Wording}
+use Rattle.std.specs.Prelude.{Result}
 use Rattle.demand.specs.Run.{Event}
 use Rattle.demand.specs.Demand.{Demand3}
 use Rattle.bench.specs.Lent.{Memory, Text, Verdict, Called, Offered, called}
@@ -24,13 +22,13 @@ pub record Reply (A : Type 0) : Type 0 where
 
 -- what Text answers, and its room after it
 pub record Saying : Type 0 where
-  pub answer : Wording
+  pub answer : Result ℕ ℕ
   pub room : Text
 
 -- the eleven calls: Arm on a memory and a text; Clear; order, lockout, offer, Remaining, Status, send, report and close, as they are called; Text for a verdict, in a room
 pub record Library : Type 0 where
   pub arm : Memory → Text → Reply Reading
-  pub clear : Memory → Reply Clearing
+  pub clear : Memory → Reply (Result (Unit {0}) ℕ)
   pub call : Memory → Called → Reply Answer
   pub text : Verdict → Text → Saying
 

@@ -9,7 +9,7 @@ use Rattle.machine.specs.State.{State, armed}
 use Rattle.machine.specs.Calls.{Call}
 use Rattle.machine.specs.Judge.{numbers}
 use Rattle.machine.specs.Offers.{window_of}
-use Rattle.machine.specs.declared.Answer.{Answer}
+use Rattle.machine.specs.Answer.{Answer}
 use Rattle.demand.specs.Run.{Event, run_from}
 use Rattle.bench.specs.Lent.{Memory, Text, Called}
 use Rattle.bench.specs.Library.{Library, answers_by, arm_refusal_in}

@@ -13,7 +13,7 @@ use Rattle.state.proofs.Exactly.{taken-apart}
 use Rattle.machine.specs.Calls.{Call}
 use Rattle.machine.specs.Refusals.{first_of}
 use Rattle.machine.specs.Judge.{step, is_refusal}
-use Rattle.machine.specs.declared.Answer.TheVariants.{Refused}
+use Rattle.machine.specs.Answer.{Refused}
 use Rattle.calls.specs.Calls.{is_short, mark_of, memory_refusal, call_answer, call_memory}
 
 module _ (xs : List ℕ) where

@@ -21,7 +21,7 @@ use Rattle.machine.proofs.Sound.{report-placed}
 use Rattle.machine.proofs.Register.{SentIn, sent-in, in-sent, open-has}
 use Rattle.machine.specs.declared.Offer.{Offer}
 use Rattle.machine.specs.declared.Sent.{Sent}
-use Rattle.machine.specs.declared.Answer.TheVariants.{Judged}
+use Rattle.machine.specs.Answer.{Judged}
 use Rattle.register.specs.Register.{register_numbers, register_in, place_of_identity, sent_at_place}
 use Rattle.register.proofs.Finding.{place-identity}
 use Rattle.state.specs.State.{decode, stored}

@@ -14,25 +14,24 @@ use Rattle.profile.proofs.Laws.{lawful, reading-accepted, reading-refused}
 use Rattle.state.specs.State.{size, rest_size}
 use Rattle.state.proofs.Armed.{armed-stored}
 use Rattle.machine.specs.Refusals.{first_of}
-use Rattle.calls.specs.declared.Clearing.TheVariants.{Done, Refused as NotCleared}
-use Rattle.calls.specs.declared.Wording.TheVariants.{Written, Refused as NotSaid}
+use Rattle.std.specs.declared.result.Result.TheVariants.{Ok, Err}
 use Rattle.calls.specs.Calls.{is_short, clear_answer, clear_memory, say_answer, say_memory, mark_of, arm_refusal, arm_answer, arm_memory}
 
 module _ (xs : List ℕ) where
-  pub clear-short : length xs < size → (NotCleared 1 ≡ clear_answer xs) × (xs ≡ clear_memory xs)
+  pub clear-short : length xs < size → (Err 1 ≡ clear_answer xs) × (xs ≡ clear_memory xs)
   unfolding clear_answer clear_memory is_short
   clear-short h = (rw (lt-ltb _ _ h), rw (lt-ltb _ _ h))
 
-  pub clear-done : size ≤ length xs → (Done ≡ clear_answer xs) × (zeros size ++ drop size xs ≡ clear_memory xs)
+  pub clear-done : size ≤ length xs → (Ok tt ≡ clear_answer xs) × (zeros size ++ drop size xs ≡ clear_memory xs)
   unfolding clear_answer clear_memory is_short
   clear-done h = (rw (le-ltb _ _ h), rw (le-ltb _ _ h))
 
 module _ (words room : List ℕ) where
-  pub say-short : length room < 20 → (NotSaid 1 ≡ say_answer words room) × (room ≡ say_memory words room)
+  pub say-short : length room < 20 → (Err 1 ≡ say_answer words room) × (room ≡ say_memory words room)
   unfolding say_answer say_memory
   say-short h = (rw (lt-ltb _ _ h), rw (lt-ltb _ _ h))
 
-  pub say-done : 20 ≤ length room → (Written (length words) ≡ say_answer words room) × (words ++ drop (length words) room ≡ say_memory words room)
+  pub say-done : 20 ≤ length room → (Ok (length words) ≡ say_answer words room) × (words ++ drop (length words) room ≡ say_memory words room)
   unfolding say_answer say_memory
   say-done h = (rw (le-ltb _ _ h), rw (le-ltb _ _ h))
 

@@ -25,7 +25,7 @@ use Rattle.state.specs.State.{decode, stored}
 use Rattle.state.specs.Inner.Laid.{Fits, with_clock}
 use Rattle.state.proofs.Exactly.{sound-decode}
 use Rattle.machine.specs.declared.Offer.{Offer}
-use Rattle.machine.specs.declared.Answer.TheVariants.{Judged}
+use Rattle.machine.specs.Answer.{Judged}
 use Rattle.machine.specs.Deeds.{granted, filling, clock_after}
 use Rattle.machine.specs.Step.{after, part_after, accounts_after, locks_after, log_after}
 use Rattle.machine.proofs.Lists.{ordered-wider}

@@ -18,7 +18,7 @@ use Rattle.machine.specs.Effects.{effect_of}
 use Rattle.machine.specs.Refusals.{first_of, bad_time, is_root, refusal_of}
 use Rattle.machine.specs.Step.{after}
 use Rattle.machine.specs.Judge.{log_places, judged, ordered, unless, judge, step_in, step, is_refusal}
-use Rattle.machine.specs.declared.Answer.TheVariants.{Refused}
+use Rattle.machine.specs.Answer.{Refused}
 use Rattle.machine.proofs.Refusals.{orderable}
 use Rattle.machine.proofs.Keeps.{remaining-same, status-same}
 use Rattle.machine.proofs.Sound.{step-sound}

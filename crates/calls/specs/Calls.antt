@@ -15,12 +15,9 @@ use Rattle.state.specs.Sound.{is_sound}
 use Rattle.measures.specs.Ranges.{is_in, units, premiums, offers}
 use Rattle.machine.specs.declared.Offer.{Offer}
 use Rattle.grant.specs.Inner.Grant.{Fillable}
-use Rattle.machine.specs.declared.Answer.{Answer}
-use Rattle.machine.specs.declared.Answer.TheVariants.{Refused}
-use Rattle.calls.specs.declared.Clearing.{Clearing}
-use Rattle.calls.specs.declared.Clearing.TheVariants.{Done, Refused as NotCleared}
-use Rattle.calls.specs.declared.Wording.{Wording}
-use Rattle.calls.specs.declared.Wording.TheVariants.{Written, Refused as NotSaid}
+use Rattle.machine.specs.Answer.{Answer, Refused}
+use Rattle.std.specs.Prelude.{Result}
+use Rattle.std.specs.declared.result.Result.TheVariants.{Ok, Err}
 
 -- 1: the memory is short
 unfoldable pub is_short : List ℕ → Bool
@@ -42,8 +39,8 @@ arm_memory xs text =
     cond (eqb (arm_refusal xs) 0) (cond (eqb (outcome_of text).refusal 0) (stored (armed (outcome_of text).profile) xs) xs) xs
 
 -- Clear sets the state to zeros, whatever it held
-unfoldable pub clear_answer : List ℕ → Clearing
-clear_answer xs = cond (is_short xs) (NotCleared 1) Done
+unfoldable pub clear_answer : List ℕ → Result (Unit {0}) ℕ
+clear_answer xs = cond (is_short xs) (Err 1) (Ok tt)
 
 unfoldable pub clear_memory : List ℕ → List ℕ
 clear_memory xs = cond (is_short xs) xs (zeros size ++ drop size xs)
@@ -93,17 +90,17 @@ pub record Granting (xs : List ℕ) (o : Offer) : Type 0 where
   pub free : verdict_of (decode xs).part.locks o.root ≡ 0
 
 -- words said: 1 for room below 20 bytes, else they stand in front and the room after them is untouched
-unfoldable pub say_answer : List ℕ → List ℕ → Wording
-say_answer words room = cond (ltb (length room) 20) (NotSaid 1) (Written (length words))
+unfoldable pub say_answer : List ℕ → List ℕ → Result ℕ ℕ
+say_answer words room = cond (ltb (length room) 20) (Err 1) (Ok (length words))
 
 unfoldable pub say_memory : List ℕ → List ℕ → List ℕ
 say_memory words room = cond (ltb (length room) 20) room (words ++ drop (length words) room)
 
 -- Text for verdict 1 or 2; it checks 13, then 1
-unfoldable pub text_answer : ℕ → List ℕ → Wording
+unfoldable pub text_answer : ℕ → List ℕ → Result ℕ ℕ
 text_answer verdict room =
     cond (eqb verdict 1) (say_answer (bytes "f: RiskMgmtFirmLevel") room)
-    (cond (eqb verdict 2) (say_answer (bytes "s: RiskMgmtSymLevel") room) (NotSaid 13))
+    (cond (eqb verdict 2) (say_answer (bytes "s: RiskMgmtSymLevel") room) (Err 13))
 
 unfoldable pub text_memory : ℕ → List ℕ → List ℕ
 text_memory verdict room =

@@ -1,5 +1,6 @@
 // Offers that are not locked out, and the places of the log that a fill or an order sent away asks for.
 ghost use Rattle.std.specs.Prelude.{◌≡◌, true, ℕ, ◌≤◌, ◌<◌};
+ghost use Rattle.machine.specs.Answer.{answer_told};
 ghost use Rattle.machine.specs.Calls.{Call};
 ghost use Rattle.machine.specs.Entries.{are_ordered};
 ghost use Rattle.machine.specs.Judge.{log_places};
@@ -10,7 +11,8 @@ ghost use Rattle.grant.specs.Inner.Grant.{inside_of};
 ghost use Rattle.calls.specs.Calls.{is_short_of, Granting, call_answer, call_memory};
 
 use grant::Inside;
-use machine::{Answer, Offer};
+use machine::{Accepted, Offer};
+use refusals::Refusal;
 
 // Whether the log has a rate rule to serve and fewer places free at a time than are asked for.
 fn is_short_of(m: &[u64], time: u64, places: u64) -> bool
@@ -40,22 +42,22 @@ fn is_full(m: &[u64], inside: Inside) -> bool
 }
 
 // An offer that is neither refused by its numbers nor locked out: the log may be full, else it is granted what every rule in force allows.
-pub(crate) fn granted(m: &mut [u64], o: Offer) -> Answer
+pub(crate) fn granted(m: &mut [u64], o: Offer) -> Result<Accepted, Refusal>
     requires { Granting m.old o }
-    ensures value { result ≡ call_answer m.old (Call.offer o) }
+    ensures value { answer_told result ≡ call_answer m.old (Call.offer o) }
     ensures m_after { m.new ≡ call_memory m.old (Call.offer o) }
 {
     let inside = grant::inside_at(m, o.time);
     let cuts = grant::cuts_of(m, o, inside.read);
     let grant = numbers::least(cuts.root, cuts.firm);
     if (0 < grant) & is_full(m, inside) {
-        return Answer::Refused(15);
+        return Err(Refusal::LogFull);
     }
     let trips = grant::fill(m, o, grant, cuts, inside);
-    Answer::Judged {
+    Ok(Accepted::Judged {
         verdict: 0,
         grant,
         roottrip: trips.root,
         firmtrip: trips.firm,
-    }
+    })
 }

@@ -2,8 +2,10 @@
 #![tactic(auto)]
 
 ghost use Rattle.std.specs.Prelude.{◌≡◌};
+ghost use Rattle.machine.specs.Answer.{answer_told};
 ghost use Rattle.machine.specs.Calls.{Call};
 ghost use Rattle.profile.specs.Reading.{reading_told};
+ghost use Rattle.refusals.specs.Numbers.{refused_with, numbered};
 ghost use Rattle.calls.specs.Calls.{memory_refusal, call_answer, call_memory, arm_answer, arm_memory, clear_answer, clear_memory, text_answer, text_memory};
 
 mod granting;
@@ -11,26 +13,12 @@ pub mod refusing;
 pub mod tested;
 mod words;
 
-use machine::{Answer, Offer};
+use machine::{Accepted, Offer};
 use profile::{Armed, Fault};
 use refusals::Refusal;
 
 // How many numbers a unit's memory takes.
 pub const SIZE: usize = state::SIZE;
-
-// What Clear answers.
-#[derive(Clone, Copy)]
-pub enum Clearing {
-    Done,
-    Refused(u64),
-}
-
-// What Text answers: how many bytes it wrote, or a refusal.
-#[derive(Clone, Copy)]
-pub enum Wording {
-    Written(u64),
-    Refused(u64),
-}
 
 // Arms memory whose mark is 0 from a profile's text. Nothing is written before the whole text is accepted.
 pub fn arm(m: &mut [u64], text: &[u8]) -> Result<Armed, Fault>
@@ -52,130 +40,106 @@ pub fn arm(m: &mut [u64], text: &[u8]) -> Result<Armed, Fault>
 }
 
 // Sets the state to zeros, whatever the memory held.
-pub fn clear(m: &mut [u64]) -> Clearing
-    ensures value { result ≡ clear_answer m.old }
+pub fn clear(m: &mut [u64]) -> Result<(), Refusal>
+    ensures value { numbered result ≡ clear_answer m.old }
     ensures m_after { m.new ≡ clear_memory m.old }
 {
     if m.len() < state::SIZE {
-        return Clearing::Refused(1);
+        return Err(Refusal::NoRoom);
     }
     daylog::blank(&mut m[..state::SIZE]);
-    Clearing::Done
+    Ok(())
 }
 
-// The refusal that memory meets in every call but Arm, Clear and Text, 0 for none.
-pub fn memory_refusal(m: &[u64]) -> u64
-    ensures { result ≡ memory_refusal m.now }
+// The refusal that memory meets in every call but Arm, Clear and Text.
+pub fn memory_refusal(m: &[u64]) -> Result<(), Refusal>
+    ensures { refused_with result ≡ memory_refusal m.now }
 {
     if m.len() < state::SIZE {
-        return 1;
+        return Err(Refusal::NoRoom);
     }
     if m[state::MARK] == 0 {
-        return 4;
+        return Err(Refusal::NotArmed);
     }
     if !state::is_sound(m) {
-        return 2;
+        return Err(Refusal::Unsound);
     }
-    0
+    Ok(())
 }
 
 // How the roots stand: how many are tripped, locked by the user, locked at all, and the lowest locked root.
-pub fn status(m: &[u64]) -> Answer
-    ensures { result ≡ call_answer m.now Call.status }
+pub fn status(m: &[u64]) -> Result<Accepted, Refusal>
+    ensures { answer_told result ≡ call_answer m.now Call.status }
 {
-    let refusal = memory_refusal(m);
-    if refusal != 0 {
-        return Answer::Refused(refusal);
-    }
-    tested::status(m)
+    memory_refusal(m)?;
+    Ok(tested::status(m))
 }
 
 // An order: the reset comes first, then the verdict.
-pub fn order(m: &mut [u64], time: u64, root: u64, reset: u64) -> Answer
-    ensures value { result ≡ call_answer m.old (Call.order time root reset) }
+pub fn order(m: &mut [u64], time: u64, root: u64, reset: u64) -> Result<Accepted, Refusal>
+    ensures value { answer_told result ≡ call_answer m.old (Call.order time root reset) }
     ensures m_after { m.new ≡ call_memory m.old (Call.order time root reset) }
 {
-    let refusal = memory_refusal(m);
-    if refusal != 0 {
-        return Answer::Refused(refusal);
-    }
+    memory_refusal(m)?;
     tested::order(m, time, root, reset)
 }
 
 // A lockout of a root or the firm, which the user asks for.
-pub fn lockout(m: &mut [u64], time: u64, level: u64, root: u64) -> Answer
-    ensures value { result ≡ call_answer m.old (Call.lockout time level root) }
+pub fn lockout(m: &mut [u64], time: u64, level: u64, root: u64) -> Result<Accepted, Refusal>
+    ensures value { answer_told result ≡ call_answer m.old (Call.lockout time level root) }
     ensures m_after { m.new ≡ call_memory m.old (Call.lockout time level root) }
 {
-    let refusal = memory_refusal(m);
-    if refusal != 0 {
-        return Answer::Refused(refusal);
-    }
+    memory_refusal(m)?;
     tested::lockout(m, time, level, root)
 }
 
 // An offered fill, cut to what the rules allow.
-pub fn offer(m: &mut [u64], o: Offer) -> Answer
-    ensures value { result ≡ call_answer m.old (Call.offer o) }
+pub fn offer(m: &mut [u64], o: Offer) -> Result<Accepted, Refusal>
+    ensures value { answer_told result ≡ call_answer m.old (Call.offer o) }
     ensures m_after { m.new ≡ call_memory m.old (Call.offer o) }
 {
-    let refusal = memory_refusal(m);
-    if refusal != 0 {
-        return Answer::Refused(refusal);
-    }
+    memory_refusal(m)?;
     tested::offer(m, o)
 }
 
 // An order to be sent away: judged as an order without reset is, and registered at verdict 0.
-pub fn send(m: &mut [u64], o: Offer, identity: u64, reports: u64) -> Answer
-    ensures value { result ≡ call_answer m.old (Call.send o identity reports) }
+pub fn send(m: &mut [u64], o: Offer, identity: u64, reports: u64) -> Result<Accepted, Refusal>
+    ensures value { answer_told result ≡ call_answer m.old (Call.send o identity reports) }
     ensures m_after { m.new ≡ call_memory m.old (Call.send o identity reports) }
 {
-    let refusal = memory_refusal(m);
-    if refusal != 0 {
-        return Answer::Refused(refusal);
-    }
+    memory_refusal(m)?;
     tested::send(m, o, identity, reports)
 }
 
 // A fill that came back from an away market: counted as a grant is, locked or not, and even past a limit.
-pub fn report(m: &mut [u64], time: u64, identity: u64, contracts: u64) -> Answer
-    ensures value { result ≡ call_answer m.old (Call.report time identity contracts) }
+pub fn report(m: &mut [u64], time: u64, identity: u64, contracts: u64) -> Result<Accepted, Refusal>
+    ensures value { answer_told result ≡ call_answer m.old (Call.report time identity contracts) }
     ensures m_after { m.new ≡ call_memory m.old (Call.report time identity contracts) }
 {
-    let refusal = memory_refusal(m);
-    if refusal != 0 {
-        return Answer::Refused(refusal);
-    }
+    memory_refusal(m)?;
     tested::report(m, time, identity, contracts)
 }
 
 // The order of an identity is closed: its unused places are free again, and so is its identity.
-pub fn close(m: &mut [u64], time: u64, identity: u64) -> Answer
-    ensures value { result ≡ call_answer m.old (Call.close time identity) }
+pub fn close(m: &mut [u64], time: u64, identity: u64) -> Result<Accepted, Refusal>
+    ensures value { answer_told result ≡ call_answer m.old (Call.close time identity) }
     ensures m_after { m.new ≡ call_memory m.old (Call.close time identity) }
 {
-    let refusal = memory_refusal(m);
-    if refusal != 0 {
-        return Answer::Refused(refusal);
-    }
+    memory_refusal(m)?;
     tested::close(m, time, identity)
 }
 
 // What remains of a rule's limit for a unit at a time.
-pub fn remaining(m: &[u64], time: u64, rule: u64, unit: u64) -> Answer
-    ensures { result ≡ call_answer m.now (Call.remaining time rule unit) }
+pub fn remaining(m: &[u64], time: u64, rule: u64, unit: u64) -> Result<Accepted, Refusal>
+    ensures { answer_told result ≡ call_answer m.now (Call.remaining time rule unit) }
 {
-    let refusal = memory_refusal(m);
-    if refusal != 0 {
-        return Answer::Refused(refusal);
-    }
+    memory_refusal(m)?;
     tested::remaining(m, time, rule, unit)
 }
 
 // Writes the text for verdict 1 or 2, and answers how many bytes it has.
-pub fn text(verdict: u64, room: &mut [u8]) -> Wording
-    ensures value { result ≡ text_answer verdict room.old }
+pub fn text(verdict: u64, room: &mut [u8]) -> Result<u64, Refusal>
+    ensures value { numbered result ≡ text_answer verdict room.old }
     ensures room_after { room.new ≡ text_memory verdict room.old }
 {
     if verdict == 1 {
@@ -184,5 +148,5 @@ pub fn text(verdict: u64, room: &mut [u8]) -> Wording
     if verdict == 2 {
         return words::say(b"s: RiskMgmtSymLevel", room);
     }
-    Wording::Refused(13)
+    Err(Refusal::Unknown)
 }

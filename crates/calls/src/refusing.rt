@@ -8,11 +8,13 @@ ghost use Rattle.machine.specs.Register.{is_open};
 ghost use Rattle.register.specs.Register.{sent_at_place};
 ghost use Rattle.state.specs.State.{decode};
 ghost use Rattle.state.specs.Inner.Laid.{Laid};
+ghost use Rattle.refusals.specs.Numbers.{refused_with};
 ghost use Rattle.calls.specs.Calls.{memory_refusal, timed_refusal, refusal_in, offer_refusal};
 
 use crate::granting;
 use machine::Offer;
 use measures::{Contracts, TenThousandths, Time};
+use refusals::Refusal;
 
 // Whether a time is out of range, or below the clock.
 pub fn bad_time(time: u64, clock: u64) -> bool
@@ -21,45 +23,39 @@ pub fn bad_time(time: u64, clock: u64) -> bool
     !(measures::is_in(time, 0, Time::MOST) & (clock <= time))
 }
 
-// The refusal that every call with a time meets first on tested memory, by its time, 0 for none.
-fn timed_refusal(m: &[u64], time: u64) -> u64
+// The refusal that every call with a time meets first on tested memory, by its time.
+fn timed_refusal(m: &[u64], time: u64) -> Result<(), Refusal>
     requires { memory_refusal m.now ≡ 0 }
-    ensures { result ≡ timed_refusal m.now time }
+    ensures { refused_with result ≡ timed_refusal m.now time }
 {
     if bad_time(time, state::clock_in(m)) {
-        return 12;
+        return Err(Refusal::BadTime);
     }
-    0
+    Ok(())
 }
 
-// The refusal that an order meets, 0 for none.
-pub(crate) fn order_refusal(m: &[u64], time: u64, root: u64, reset: u64) -> u64
+// The refusal that an order meets.
+pub(crate) fn order_refusal(m: &[u64], time: u64, root: u64, reset: u64) -> Result<(), Refusal>
     requires { memory_refusal m.now ≡ 0 }
-    ensures { result ≡ refusal_in m.now (Call.order time root reset) }
+    ensures { refused_with result ≡ refusal_in m.now (Call.order time root reset) }
 {
-    let refusal = timed_refusal(m, time);
-    if refusal != 0 {
-        return refusal;
-    }
+    timed_refusal(m, time)?;
     if !((root < state::roots_in(m)) & (reset <= 6)) {
-        return 13;
+        return Err(Refusal::Unknown);
     }
-    0
+    Ok(())
 }
 
-// The refusal that a lockout meets, 0 for none.
-pub(crate) fn lockout_refusal(m: &[u64], time: u64, level: u64, root: u64) -> u64
+// The refusal that a lockout meets.
+pub(crate) fn lockout_refusal(m: &[u64], time: u64, level: u64, root: u64) -> Result<(), Refusal>
     requires { memory_refusal m.now ≡ 0 }
-    ensures { result ≡ refusal_in m.now (Call.lockout time level root) }
+    ensures { refused_with result ≡ refusal_in m.now (Call.lockout time level root) }
 {
-    let refusal = timed_refusal(m, time);
-    if refusal != 0 {
-        return refusal;
-    }
+    timed_refusal(m, time)?;
     if !((level == 0) & (root < state::roots_in(m)) | (level == 1) & (root == 0)) {
-        return 13;
+        return Err(Refusal::Unknown);
     }
-    0
+    Ok(())
 }
 
 // Whether a number is a premium.
@@ -83,22 +79,19 @@ fn is_priced(o: Offer) -> bool
     is_premium(o.premium) & is_offer(o.contracts)
 }
 
-// The refusal that an offer meets before the log is looked at, 0 for none.
-pub(crate) fn offer_refusal(m: &[u64], o: Offer) -> u64
+// The refusal that an offer meets before the log is looked at.
+pub(crate) fn offer_refusal(m: &[u64], o: Offer) -> Result<(), Refusal>
     requires { memory_refusal m.now ≡ 0 }
-    ensures { result ≡ offer_refusal m.now o }
+    ensures { refused_with result ≡ offer_refusal m.now o }
 {
-    let refusal = timed_refusal(m, o.time);
-    if refusal != 0 {
-        return refusal;
-    }
+    timed_refusal(m, o.time)?;
     if !((o.root < state::roots_in(m)) & measures::is_in(o.unit, 0, 3)) {
-        return 13;
+        return Err(Refusal::Unknown);
     }
     if !is_priced(o) {
-        return 14;
+        return Err(Refusal::BadAmount);
     }
-    0
+    Ok(())
 }
 
 // Whether there is such a rule, and it counts for such a unit.
@@ -113,19 +106,16 @@ fn is_cell(m: &[u64], rule: u64, unit: u64) -> bool
     known.counts_for(unit)
 }
 
-// The refusal that a question after what remains meets, 0 for none.
-pub(crate) fn remaining_refusal(m: &[u64], time: u64, rule: u64, unit: u64) -> u64
+// The refusal that a question after what remains meets.
+pub(crate) fn remaining_refusal(m: &[u64], time: u64, rule: u64, unit: u64) -> Result<(), Refusal>
     requires { memory_refusal m.now ≡ 0 }
-    ensures { result ≡ refusal_in m.now (Call.remaining time rule unit) }
+    ensures { refused_with result ≡ refusal_in m.now (Call.remaining time rule unit) }
 {
-    let refusal = timed_refusal(m, time);
-    if refusal != 0 {
-        return refusal;
-    }
+    timed_refusal(m, time)?;
     if !is_cell(m, rule, unit) {
-        return 13;
+        return Err(Refusal::Unknown);
     }
-    0
+    Ok(())
 }
 
 // Whether an order of an identity is open away.
@@ -136,52 +126,46 @@ fn is_open(m: &[u64], identity: u64) -> bool
     register::find(&m[state::REGISTER..state::LOG], identity) < state::orders_in(m)
 }
 
-// The refusal that a sending meets, 0 for none.
-pub fn send_refusal(m: &[u64], o: Offer, identity: u64, reports: u64) -> u64
+// The refusal that a sending meets.
+pub fn send_refusal(m: &[u64], o: Offer, identity: u64, reports: u64) -> Result<(), Refusal>
     requires { memory_refusal m.now ≡ 0 }
-    ensures { result ≡ refusal_in m.now (Call.send o identity reports) }
+    ensures { refused_with result ≡ refusal_in m.now (Call.send o identity reports) }
 {
-    let refusal = timed_refusal(m, o.time);
-    if refusal != 0 {
-        return refusal;
-    }
+    timed_refusal(m, o.time)?;
     if !((o.root < state::roots_in(m))
         & measures::is_in(o.unit, 0, 3)
         & measures::is_in(identity, 0, register::IDENTITY_MOST))
     {
-        return 13;
+        return Err(Refusal::Unknown);
     }
     if !(is_priced(o) & measures::is_in(reports, 1, register::REPORTS_MOST)) {
-        return 14;
+        return Err(Refusal::BadAmount);
     }
     if register::PLACES <= state::orders_in(m) {
-        return 17;
+        return Err(Refusal::RegisterFull);
     }
     if is_open(m, identity) {
-        return 18;
+        return Err(Refusal::IdentityClash);
     }
     if granting::lacks_places(m, o, reports) {
-        return 15;
+        return Err(Refusal::LogFull);
     }
-    0
+    Ok(())
 }
 
-// The refusal that the closing of an order meets, 0 for none.
-pub(crate) fn close_refusal(m: &[u64], time: u64, identity: u64) -> u64
+// The refusal that the closing of an order meets.
+pub(crate) fn close_refusal(m: &[u64], time: u64, identity: u64) -> Result<(), Refusal>
     requires { memory_refusal m.now ≡ 0 }
-    ensures { result ≡ refusal_in m.now (Call.close time identity) }
+    ensures { refused_with result ≡ refusal_in m.now (Call.close time identity) }
 {
-    let refusal = timed_refusal(m, time);
-    if refusal != 0 {
-        return refusal;
-    }
+    timed_refusal(m, time)?;
     if !measures::is_in(identity, 0, register::IDENTITY_MOST) {
-        return 13;
+        return Err(Refusal::Unknown);
     }
     if !is_open(m, identity) {
-        return 18;
+        return Err(Refusal::IdentityClash);
     }
-    0
+    Ok(())
 }
 
 // Whether more contracts are reported than the order at a place has open, or none of its reports is left.
@@ -193,27 +177,24 @@ fn is_overdrawn(m: &[u64], i: usize, contracts: u64) -> bool
     (sent.contracts.0 < contracts) | (sent.reports == 0)
 }
 
-// The refusal that a report meets, 0 for none.
-pub fn report_refusal(m: &[u64], time: u64, identity: u64, contracts: u64) -> u64
+// The refusal that a report meets.
+pub fn report_refusal(m: &[u64], time: u64, identity: u64, contracts: u64) -> Result<(), Refusal>
     requires { memory_refusal m.now ≡ 0 }
-    ensures { result ≡ refusal_in m.now (Call.report time identity contracts) }
+    ensures { refused_with result ≡ refusal_in m.now (Call.report time identity contracts) }
 {
-    let refusal = timed_refusal(m, time);
-    if refusal != 0 {
-        return refusal;
-    }
+    timed_refusal(m, time)?;
     if !measures::is_in(identity, 0, register::IDENTITY_MOST) {
-        return 13;
+        return Err(Refusal::Unknown);
     }
     if !is_offer(contracts) {
-        return 14;
+        return Err(Refusal::BadAmount);
     }
     let i = register::find(&m[state::REGISTER..state::LOG], identity);
     if state::orders_in(m) <= i {
-        return 18;
+        return Err(Refusal::IdentityClash);
     }
     if is_overdrawn(m, i, contracts) {
-        return 19;
+        return Err(Refusal::OverReported);
     }
-    0
+    Ok(())
 }

@@ -1,99 +1,89 @@
 // The calls on memory that was tested: what each public call does once the memory meets no refusal.
 ghost use Rattle.std.specs.Prelude.{◌≡◌};
+ghost use Rattle.machine.specs.Answer.{answer_told};
 ghost use Rattle.machine.specs.Calls.{Call};
 ghost use Rattle.calls.specs.Calls.{memory_refusal, refusal_in, call_answer, call_memory};
 
 use crate::{granting, refusing};
-use machine::{Answer, Offer, Sent};
+use machine::{Accepted, Offer, Sent};
 use measures::{Contracts, TenThousandths};
+use refusals::Refusal;
 
 // How the roots stand: how many are tripped, locked by the user, locked at all, and the lowest locked root.
-pub fn status(m: &[u64]) -> Answer
+pub fn status(m: &[u64]) -> Accepted
     requires { memory_refusal m.now ≡ 0 }
-    ensures { result ≡ call_answer m.now Call.status }
+    ensures { answer_told (Ok result) ≡ call_answer m.now Call.status }
 {
-    Answer::Standing(locks::standing(&m[state::LOCKS..state::REGISTER]))
+    Accepted::Standing(locks::standing(&m[state::LOCKS..state::REGISTER]))
 }
 
 // An order: the reset comes first, then the verdict.
-pub fn order(m: &mut [u64], time: u64, root: u64, reset: u64) -> Answer
+pub fn order(m: &mut [u64], time: u64, root: u64, reset: u64) -> Result<Accepted, Refusal>
     requires { memory_refusal m.old ≡ 0 }
-    ensures value { result ≡ call_answer m.old (Call.order time root reset) }
+    ensures value { answer_told result ≡ call_answer m.old (Call.order time root reset) }
     ensures m_after { m.new ≡ call_memory m.old (Call.order time root reset) }
 {
-    let refusal = refusing::order_refusal(m, time, root, reset);
-    if refusal != 0 {
-        return Answer::Refused(refusal);
-    }
+    refusing::order_refusal(m, time, root, reset)?;
     reset::reset_state(m, time, root, reset);
     let verdict = locks::verdict(&m[state::LOCKS..state::REGISTER], root);
-    Answer::Judged {
+    Ok(Accepted::Judged {
         verdict,
         grant: 0,
         roottrip: false,
         firmtrip: false,
-    }
+    })
 }
 
 // A lockout of a root or the firm, which the user asks for.
-pub fn lockout(m: &mut [u64], time: u64, level: u64, root: u64) -> Answer
+pub fn lockout(m: &mut [u64], time: u64, level: u64, root: u64) -> Result<Accepted, Refusal>
     requires { memory_refusal m.old ≡ 0 }
-    ensures value { result ≡ call_answer m.old (Call.lockout time level root) }
+    ensures value { answer_told result ≡ call_answer m.old (Call.lockout time level root) }
     ensures m_after { m.new ≡ call_memory m.old (Call.lockout time level root) }
 {
-    let refusal = refusing::lockout_refusal(m, time, level, root);
-    if refusal != 0 {
-        return Answer::Refused(refusal);
-    }
+    refusing::lockout_refusal(m, time, level, root)?;
     reset::lock_out(m, time, level, root);
-    Answer::Judged {
+    Ok(Accepted::Judged {
         verdict: 0,
         grant: 0,
         roottrip: false,
         firmtrip: false,
-    }
+    })
 }
 
 // An offered fill, cut to what the rules allow.
-pub fn offer(m: &mut [u64], o: Offer) -> Answer
+pub fn offer(m: &mut [u64], o: Offer) -> Result<Accepted, Refusal>
     requires { memory_refusal m.old ≡ 0 }
-    ensures value { result ≡ call_answer m.old (Call.offer o) }
+    ensures value { answer_told result ≡ call_answer m.old (Call.offer o) }
     ensures m_after { m.new ≡ call_memory m.old (Call.offer o) }
 {
-    let refusal = refusing::offer_refusal(m, o);
-    if refusal != 0 {
-        return Answer::Refused(refusal);
-    }
+    refusing::offer_refusal(m, o)?;
     let verdict = locks::verdict(&m[state::LOCKS..state::REGISTER], o.root);
     if verdict != 0 {
         state::put_clock(m, o.time);
-        return Answer::Judged {
+        return Ok(Accepted::Judged {
             verdict,
             grant: 0,
             roottrip: false,
             firmtrip: false,
-        };
+        });
     }
     granting::granted(m, o)
 }
 
 // An order to be sent away: judged as an order without reset is, and registered at verdict 0.
-pub fn send(m: &mut [u64], o: Offer, identity: u64, reports: u64) -> Answer
+pub fn send(m: &mut [u64], o: Offer, identity: u64, reports: u64) -> Result<Accepted, Refusal>
     requires { memory_refusal m.old ≡ 0 }
-    ensures value { result ≡ call_answer m.old (Call.send o identity reports) }
+    ensures value { answer_told result ≡ call_answer m.old (Call.send o identity reports) }
     ensures m_after { m.new ≡ call_memory m.old (Call.send o identity reports) }
 {
-    let refusal = refusing::send_refusal(m, o, identity, reports);
-    if refusal != 0 {
-        return Answer::Refused(refusal);
-    }
-    sent(m, o, identity, reports)
+    refusing::send_refusal(m, o, identity, reports)?;
+    Ok(sent(m, o, identity, reports))
 }
 
 // And one that nothing refuses.
-pub fn sent(m: &mut [u64], o: Offer, identity: u64, reports: u64) -> Answer
+pub fn sent(m: &mut [u64], o: Offer, identity: u64, reports: u64) -> Accepted
     requires { refusal_in m.old (Call.send o identity reports) ≡ 0 }
-    ensures value { result ≡ call_answer m.old (Call.send o identity reports) }
+    ensures value { answer_told (Ok result) ≡ call_answer m.old (Call.send o identity reports) }
     ensures m_after { m.new ≡ call_memory m.old (Call.send o identity reports) }
 {
     let verdict = locks::verdict(&m[state::LOCKS..state::REGISTER], o.root);
@@ -109,7 +99,7 @@ pub fn sent(m: &mut [u64], o: Offer, identity: u64, reports: u64) -> Answer
         };
         register::enter(&mut m[state::REGISTER..state::LOG], sent);
     }
-    Answer::Judged {
+    Accepted::Judged {
         verdict,
         grant: 0,
         roottrip: false,
@@ -118,22 +108,19 @@ pub fn sent(m: &mut [u64], o: Offer, identity: u64, reports: u64) -> Answer
 }
 
 // A fill that came back from an away market: counted as a grant is, locked or not, and even past a limit.
-pub fn report(m: &mut [u64], time: u64, identity: u64, contracts: u64) -> Answer
+pub fn report(m: &mut [u64], time: u64, identity: u64, contracts: u64) -> Result<Accepted, Refusal>
     requires { memory_refusal m.old ≡ 0 }
-    ensures value { result ≡ call_answer m.old (Call.report time identity contracts) }
+    ensures value { answer_told result ≡ call_answer m.old (Call.report time identity contracts) }
     ensures m_after { m.new ≡ call_memory m.old (Call.report time identity contracts) }
 {
-    let refusal = refusing::report_refusal(m, time, identity, contracts);
-    if refusal != 0 {
-        return Answer::Refused(refusal);
-    }
-    came_back(m, time, identity, contracts)
+    refusing::report_refusal(m, time, identity, contracts)?;
+    Ok(came_back(m, time, identity, contracts))
 }
 
 // And one that nothing refuses.
-pub fn came_back(m: &mut [u64], time: u64, identity: u64, contracts: u64) -> Answer
+pub fn came_back(m: &mut [u64], time: u64, identity: u64, contracts: u64) -> Accepted
     requires { refusal_in m.old (Call.report time identity contracts) ≡ 0 }
-    ensures value { result ≡ call_answer m.old (Call.report time identity contracts) }
+    ensures value { answer_told (Ok result) ≡ call_answer m.old (Call.report time identity contracts) }
     ensures m_after { m.new ≡ call_memory m.old (Call.report time identity contracts) }
 {
     let i = register::find(&m[state::REGISTER..state::LOG], identity);
@@ -146,7 +133,7 @@ pub fn came_back(m: &mut [u64], time: u64, identity: u64, contracts: u64) -> Ans
         contracts,
     };
     let trips = grant::come_back(m, o, i);
-    Answer::Judged {
+    Accepted::Judged {
         verdict: 0,
         grant: contracts,
         roottrip: trips.root,
@@ -155,35 +142,29 @@ pub fn came_back(m: &mut [u64], time: u64, identity: u64, contracts: u64) -> Ans
 }
 
 // The order of an identity is closed: its unused places are free again, and so is its identity.
-pub fn close(m: &mut [u64], time: u64, identity: u64) -> Answer
+pub fn close(m: &mut [u64], time: u64, identity: u64) -> Result<Accepted, Refusal>
     requires { memory_refusal m.old ≡ 0 }
-    ensures value { result ≡ call_answer m.old (Call.close time identity) }
+    ensures value { answer_told result ≡ call_answer m.old (Call.close time identity) }
     ensures m_after { m.new ≡ call_memory m.old (Call.close time identity) }
 {
-    let refusal = refusing::close_refusal(m, time, identity);
-    if refusal != 0 {
-        return Answer::Refused(refusal);
-    }
+    refusing::close_refusal(m, time, identity)?;
     let i = register::find(&m[state::REGISTER..state::LOG], identity);
     state::put_clock(m, time);
     register::close(&mut m[state::REGISTER..state::LOG], i);
-    Answer::Judged {
+    Ok(Accepted::Judged {
         verdict: 0,
         grant: 0,
         roottrip: false,
         firmtrip: false,
-    }
+    })
 }
 
 // What remains of a rule's limit for a unit at a time.
-pub fn remaining(m: &[u64], time: u64, rule: u64, unit: u64) -> Answer
+pub fn remaining(m: &[u64], time: u64, rule: u64, unit: u64) -> Result<Accepted, Refusal>
     requires { memory_refusal m.now ≡ 0 }
-    ensures { result ≡ call_answer m.now (Call.remaining time rule unit) }
+    ensures { answer_told result ≡ call_answer m.now (Call.remaining time rule unit) }
 {
-    let refusal = refusing::remaining_refusal(m, time, rule, unit);
-    if refusal != 0 {
-        return Answer::Refused(refusal);
-    }
+    refusing::remaining_refusal(m, time, rule, unit)?;
     let left = counting::left(m, time, rule as usize, unit);
-    Answer::Left(left.number())
+    Ok(Accepted::Left(left.number()))
 }

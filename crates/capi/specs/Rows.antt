@@ -3,16 +3,9 @@ use Rattle.std.specs.Prelude.{Result, ℕ, List, [], ◌∷◌}
 use Rattle.refusals.specs.declared.Refusal.{Refusal}
 use Rattle.refusals.specs.Numbers.{refused_with}
 use Rattle.profile.specs.Reading.{Reading, Accepted, Refused}
-use Rattle.calls.specs.declared.Clearing.{Clearing}
-use Rattle.calls.specs.declared.Clearing.TheVariants.{Done, Refused as NotCleared}
-use Rattle.calls.specs.declared.Wording.{Wording}
-use Rattle.calls.specs.declared.Wording.TheVariants.{Written, Refused as NotSaid}
-use Rattle.views.specs.declared.Found.{Found}
-use Rattle.views.specs.declared.Found.TheVariants.{Root, Refused as NotFound}
-use Rattle.views.specs.declared.Listing.{Listing}
-use Rattle.views.specs.declared.Listing.TheVariants.{Written as Listed, Short, Refused as NotListed}
-use Rattle.views.specs.declared.Told.{Told}
-use Rattle.views.specs.declared.Told.TheVariants.{Rule, Refused as NotTold}
+use Rattle.std.specs.declared.result.Result.TheVariants.{Ok, Err}
+use Rattle.views.specs.declared.Terms.{Terms}
+use Rattle.views.specs.Views.{Listing, Listed, Short, NotListed}
 
 -- Arm: refusal, line, firm, rules, roots
 unfoldable pub arm_row : Reading → List ℕ
@@ -20,24 +13,24 @@ arm_row (Accepted firm rules roots) = 0 ∷ 0 ∷ firm ∷ rules ∷ roots ∷ [
 arm_row (Refused number line) = number ∷ line ∷ 0 ∷ 0 ∷ 0 ∷ []
 
 -- Clear: refusal
-unfoldable pub clear_row : Clearing → List ℕ
-clear_row Done = 0 ∷ 0 ∷ 0 ∷ 0 ∷ 0 ∷ []
-clear_row (NotCleared number) = number ∷ 0 ∷ 0 ∷ 0 ∷ 0 ∷ []
+unfoldable pub clear_row : Result (Unit {0}) ℕ → List ℕ
+clear_row (Ok tt) = 0 ∷ 0 ∷ 0 ∷ 0 ∷ 0 ∷ []
+clear_row (Err number) = number ∷ 0 ∷ 0 ∷ 0 ∷ 0 ∷ []
 
 -- Text and a root's name: refusal, how many bytes were written
-unfoldable pub text_row : Wording → List ℕ
-text_row (Written length) = 0 ∷ length ∷ 0 ∷ 0 ∷ 0 ∷ []
-text_row (NotSaid number) = number ∷ 0 ∷ 0 ∷ 0 ∷ 0 ∷ []
+unfoldable pub text_row : Result ℕ ℕ → List ℕ
+text_row (Ok length) = 0 ∷ length ∷ 0 ∷ 0 ∷ 0 ∷ []
+text_row (Err number) = number ∷ 0 ∷ 0 ∷ 0 ∷ 0 ∷ []
 
 -- a root by its name: refusal, the root's number
-unfoldable pub found_row : Found → List ℕ
-found_row (Root root) = 0 ∷ root ∷ 0 ∷ 0 ∷ 0 ∷ []
-found_row (NotFound number) = number ∷ 0 ∷ 0 ∷ 0 ∷ 0 ∷ []
+unfoldable pub found_row : Result ℕ ℕ → List ℕ
+found_row (Ok root) = 0 ∷ root ∷ 0 ∷ 0 ∷ 0 ∷ []
+found_row (Err number) = number ∷ 0 ∷ 0 ∷ 0 ∷ 0 ∷ []
 
 -- a rule by its number: refusal, type, limit, window, root, unit
-unfoldable pub rule_row : Told → List ℕ
-rule_row (Rule ruletype limit window root unit) = 0 ∷ ruletype ∷ limit ∷ window ∷ root ∷ unit ∷ []
-rule_row (NotTold number) = number ∷ 0 ∷ 0 ∷ 0 ∷ 0 ∷ 0 ∷ []
+unfoldable pub rule_row : Result Terms ℕ → List ℕ
+rule_row (Ok terms) = 0 ∷ terms.ruletype ∷ terms.limit ∷ terms.window ∷ terms.root ∷ terms.unit ∷ []
+rule_row (Err number) = number ∷ 0 ∷ 0 ∷ 0 ∷ 0 ∷ 0 ∷ []
 
 -- the profile as text: refusal, the size written, or with 1 for room the size needed
 unfoldable pub listing_row : Listing → List ℕ

@@ -5,6 +5,7 @@
 ghost use Rattle.std.specs.Prelude.{◌≡◌};
 ghost use Rattle.machine.specs.Calls.{Call};
 ghost use Rattle.machine.specs.Judge.{numbers};
+ghost use Rattle.refusals.specs.Numbers.{numbered};
 ghost use Rattle.calls.specs.Calls.{arm_answer, arm_memory, clear_answer, clear_memory, call_answer, call_memory, text_answer, text_memory};
 ghost use Rattle.capi.specs.Rows.{arm_row, clear_row, text_row};
 
@@ -12,8 +13,8 @@ pub mod accounts;
 pub mod events;
 pub mod told;
 
-use calls::{Clearing, Wording};
 use machine::Offer;
+use refusals::Refusal;
 
 // Arms memory from a profile: refusal, line, firm, rules, roots.
 #[tactic(auto, unfolding(crate::specs::Rows::arm_row))]
@@ -34,10 +35,9 @@ pub fn mbrumzheg_clear(m: &mut [u64], row: &mut [u64; 5])
     ensures m_after { m.new ≡ clear_memory m.old }
     ensures row_after { row.new ≡ clear_row (clear_answer m.old) }
 {
-    let clearing = calls::clear(m);
-    match clearing {
-        Clearing::Done => rows::put_row(row, 0, 0, 0, 0, 0),
-        Clearing::Refused(number) => rows::put_row(row, number, 0, 0, 0, 0),
+    match calls::clear(m) {
+        Ok(()) => rows::put_row(row, 0, 0, 0, 0, 0),
+        Err(refusal) => rows::put_row(row, refusal.number(), 0, 0, 0, 0),
     }
 }
 
@@ -51,12 +51,12 @@ pub fn mbrumzheg_status(m: &[u64], row: &mut [u64; 5])
 
 // Writes the row of what was written to a room.
 #[tactic(auto, unfolding(crate::specs::Rows::text_row))]
-pub(crate) fn put_wording(wording: Wording, row: &mut [u64; 5])
-    ensures { row.new ≡ text_row wording }
+pub(crate) fn put_wording(wording: Result<u64, Refusal>, row: &mut [u64; 5])
+    ensures { row.new ≡ text_row (numbered wording) }
 {
     match wording {
-        Wording::Written(n) => rows::put_row(row, 0, n, 0, 0, 0),
-        Wording::Refused(number) => rows::put_row(row, number, 0, 0, 0, 0),
+        Ok(bytes) => rows::put_row(row, 0, bytes, 0, 0, 0),
+        Err(refusal) => rows::put_row(row, refusal.number(), 0, 0, 0, 0),
     }
 }
 

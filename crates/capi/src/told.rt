@@ -1,20 +1,19 @@
 // What an armed unit's profile says: its roots, its rules, and all of it as text.
 ghost use Rattle.std.specs.Prelude.{◌≡◌};
-ghost use Rattle.views.specs.Views.{root_named, root_name, root_name_room, rule_told, profile_answer, profile_room};
+ghost use Rattle.views.specs.Views.{root_named, root_name, root_name_room, rule_told, profile_answer, profile_room, listing_told};
 ghost use Rattle.capi.specs.Rows.{text_row, found_row, rule_row, listing_row};
 
 use crate::put_wording;
-use views::{Found, Listing, Told};
+use views::Unlisted;
 
 // The number of the root that has a name: refusal, the root.
 #[tactic(auto, unfolding(crate::specs::Rows::found_row))]
 pub fn mbrumzheg_root_named(m: &[u64], name: &[u8], row: &mut [u64; 5])
     ensures { row.new ≡ found_row (root_named m.now name.now) }
 {
-    let found = views::root_named(m, name);
-    match found {
-        Found::Root(root) => rows::put_row(row, 0, root, 0, 0, 0),
-        Found::Refused(number) => rows::put_row(row, number, 0, 0, 0, 0),
+    match views::root_named(m, name) {
+        Ok(root) => rows::put_row(row, 0, root, 0, 0, 0),
+        Err(refusal) => rows::put_row(row, refusal.number(), 0, 0, 0, 0),
     }
 }
 
@@ -29,13 +28,13 @@ pub fn mbrumzheg_root_name(m: &[u64], root: u64, room: &mut [u8], row: &mut [u64
 
 // Writes the row of what became of a profile's text.
 #[tactic(auto, unfolding(crate::specs::Rows::listing_row))]
-fn put_listing(listing: Listing, row: &mut [u64; 5])
-    ensures { row.new ≡ listing_row listing }
+fn put_listing(listing: Result<u64, Unlisted>, row: &mut [u64; 5])
+    ensures { row.new ≡ listing_row (listing_told listing) }
 {
     match listing {
-        Listing::Written(size) => rows::put_row(row, 0, size, 0, 0, 0),
-        Listing::Short(size) => rows::put_row(row, 1, size, 0, 0, 0),
-        Listing::Refused(number) => rows::put_row(row, number, 0, 0, 0, 0),
+        Ok(size) => rows::put_row(row, 0, size, 0, 0, 0),
+        Err(Unlisted::Short(size)) => rows::put_row(row, 1, size, 0, 0, 0),
+        Err(Unlisted::Refused(refusal)) => rows::put_row(row, refusal.number(), 0, 0, 0, 0),
     }
 }
 
@@ -53,19 +52,15 @@ pub fn mbrumzheg_profile(m: &[u64], room: &mut [u8], row: &mut [u64; 5])
 pub fn mbrumzheg_rule(m: &[u64], rule: u64, row: &mut [u64; 6])
     ensures { row.new ≡ rule_row (rule_told m.now rule) }
 {
-    let told = views::rule(m, rule);
-    match told {
-        Told::Rule {
-            ruletype,
-            limit,
-            window,
-            root,
-            unit,
-        } => {
-            *row = [0, ruletype, limit, window, root, unit];
-        }
-        Told::Refused(number) => {
-            *row = [number, 0, 0, 0, 0, 0];
-        }
-    }
+    *row = match views::rule(m, rule) {
+        Ok(terms) => [
+            0,
+            terms.ruletype,
+            terms.limit,
+            terms.window,
+            terms.root,
+            terms.unit,
+        ],
+        Err(refusal) => [refusal.number(), 0, 0, 0, 0, 0],
+    };
 }

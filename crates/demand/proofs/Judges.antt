@@ -4,7 +4,7 @@ use mathlib.Core.Path.{◌≡◌, refl, ap, ◌∙◌}
 use mathlib.Core.Bool.{false}
 use mathlib.Core.List.{List, ◌∷◌}
 use Rattle.machine.specs.State.{Profile, State}
-use Rattle.machine.specs.declared.Answer.TheVariants.{Judged, Left, Standing as Stand}
+use Rattle.machine.specs.Answer.{Judged, Left, Standing as Stand}
 use Rattle.machine.specs.declared.Offer.{Offer}
 use Rattle.machine.specs.Effects.{effect_of}
 use Rattle.machine.specs.Deeds.{reported, Deed, resetting}

@@ -14,8 +14,7 @@ use Rattle.rules.specs.declared.Level.TheVariants.{Firm, Root}
 use Rattle.rules.specs.declared.Limit.{Limit}
 use Rattle.rules.specs.declared.Rule.{Rule}
 use Rattle.rules.proofs.Laws.{grant-largest}
-use Rattle.machine.specs.declared.Answer.{Answer}
-use Rattle.machine.specs.declared.Answer.TheVariants.{Judged}
+use Rattle.machine.specs.Answer.{Answer, Judged}
 use Rattle.machine.specs.declared.Offer.{Offer}
 use Rattle.machine.specs.State.{Profile, State}
 use Rattle.machine.specs.Calls.{Call, order, lockout, offer, remaining, status, send, report, close}

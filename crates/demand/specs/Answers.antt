@@ -8,9 +8,8 @@ use Rattle.rules.specs.Allowance.{allowance}
 use Rattle.rules.specs.declared.Level.{Level}
 use Rattle.rules.specs.declared.Level.TheVariants.{Firm, Root}
 use Rattle.rules.specs.declared.Rule.{Rule}
-use Rattle.machine.specs.declared.Answer.{Answer}
+use Rattle.machine.specs.Answer.{Answer, Refused, Judged, Left, Standing as Stand}
 use Rattle.machine.specs.Judge.{is_refusal}
-use Rattle.machine.specs.declared.Answer.TheVariants.{Refused, Judged, Left, Standing as Stand}
 use Rattle.machine.specs.declared.Offer.{Offer}
 use Rattle.machine.specs.Effects.{effect_of}
 use Rattle.machine.specs.Calls.{Call, order, lockout, offer, remaining, status, send, report, close}

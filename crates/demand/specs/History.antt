@@ -4,8 +4,7 @@ use Rattle.rules.specs.Rules.{added}
 use Rattle.rules.specs.Allowance.{All}
 use Rattle.rules.specs.declared.Level.{Level}
 use Rattle.rules.specs.declared.Rule.{Rule}
-use Rattle.machine.specs.declared.Answer.{Answer}
-use Rattle.machine.specs.declared.Answer.TheVariants.{Refused, Judged, Left, Standing}
+use Rattle.machine.specs.Answer.{Answer, Refused, Judged, Left, Standing}
 use Rattle.machine.specs.declared.Offer.{Offer}
 use Rattle.machine.specs.declared.Sent.{Sent}
 use Rattle.machine.specs.Effects.{effect_of, zeroing, lifting}

@@ -1,7 +1,7 @@
 -- A run of calls on a unit that was just armed. Assumes nothing.
 use Rattle.std.specs.Prelude.{List, [], ◌∷◌}
 use Rattle.machine.specs.State.{Profile, State, armed}
-use Rattle.machine.specs.declared.Answer.{Answer}
+use Rattle.machine.specs.Answer.{Answer}
 use Rattle.machine.specs.Calls.{Call}
 use Rattle.machine.specs.Judge.{step}
 

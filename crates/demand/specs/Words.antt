@@ -11,8 +11,7 @@ use Rattle.rules.specs.declared.Level.{Level}
 use Rattle.rules.specs.declared.Level.TheVariants.{Firm, Root}
 use Rattle.rules.specs.declared.Limit.{Limit}
 use Rattle.rules.specs.declared.Rule.{Rule}
-use Rattle.machine.specs.declared.Answer.{Answer}
-use Rattle.machine.specs.declared.Answer.TheVariants.{Judged, Left, Standing as Stand}
+use Rattle.machine.specs.Answer.{Answer, Judged, Left, Standing as Stand}
 use Rattle.machine.specs.declared.Offer.{Offer}
 use Rattle.machine.specs.Effects.{effect_of}
 use Rattle.machine.specs.Calls.{Call, order, lockout, offer, remaining, status, send, report, close}

@@ -2,6 +2,7 @@
 use mathlib.Core.Path.{refl}
 use Rattle.determined.specs.Determines.{Determines}
 use Rattle.laws.proofs.One.{alike}
+use Rattle.machine.proofs.Told.{one_told}
 use Rattle.answering.proofs.arm.Kinds as arm-kinds
 use Rattle.answering.proofs.arm.Reads as arm-reads
 use Rattle.answering.proofs.answer_record.Kinds as answer-record-kinds
@@ -19,7 +20,7 @@ pub arm : Determines 3 arm-kinds.ps arm-kinds.r arm-reads.Asked arm-reads.Learnt
 arm κs args asked x y u v p q = (alike p.1.0 q.1.0, λ i. (alike p.1.1.0 q.1.1.0 i, (v.1.0, (alike p.1.1.1 q.1.1.1 i, v.1.1.1))))
 
 pub answer-record : Determines 2 answer-record-kinds.ps answer-record-kinds.r answer-record-reads.Asked answer-record-reads.Learnt
-answer-record κs args asked x y u v p q = (alike p.0 q.0, λ i. (alike p.1 q.1 i, v.1))
+answer-record κs args asked x y u v p q = (one_told x y (alike p.0 q.0), λ i. (alike p.1 q.1 i, v.1))
 
 pub run : Determines 3 run-kinds.ps run-kinds.r run-reads.Asked run-reads.Learnt
 run κs args asked x y u v p q = (alike p.1.0 q.1.0, λ i. (alike p.1.1.0 q.1.1.0 i, (v.1.0, (v.1.1.0, (alike p.1.1.1 q.1.1.1 i, v.1.1.1.1)))))

@@ -3,6 +3,8 @@ use mathlib.Core.Path.{refl}
 use Rattle.determined.specs.Determines.{Determines}
 use Rattle.laws.proofs.One.{alike}
 use Rattle.profile.proofs.Once.{one_reading}
+use Rattle.refusals.proofs.Once.{one_numbered, one_tested}
+use Rattle.machine.proofs.Told.{one_accepted, one_told}
 use Rattle.calls.proofs.arm.Kinds as arm-kinds
 use Rattle.calls.proofs.arm.Reads as arm-reads
 use Rattle.calls.proofs.clear.Kinds as clear-kinds
@@ -58,73 +60,73 @@ pub arm : Determines 2 arm-kinds.ps arm-kinds.r arm-reads.Asked arm-reads.Learnt
 arm κs args asked x y u v p q = (one_reading x y (alike p.0 q.0), λ i. (alike p.1 q.1 i, v.1))
 
 pub clear : Determines 1 clear-kinds.ps clear-kinds.r clear-reads.Asked clear-reads.Learnt
-clear κs args asked x y u v p q = (alike p.0 q.0, λ i. (alike p.1 q.1 i, v.1))
+clear κs args asked x y u v p q = (one_numbered x y (alike p.0 q.0), λ i. (alike p.1 q.1 i, v.1))
 
 pub memory-refusal : Determines 1 memory-refusal-kinds.ps memory-refusal-kinds.r memory-refusal-reads.Asked memory-refusal-reads.Learnt
-memory-refusal κs args asked x y u v p q = (alike p q, refl)
+memory-refusal κs args asked x y u v p q = (one_tested x y (alike p q), refl)
 
 pub status : Determines 1 status-kinds.ps status-kinds.r status-reads.Asked status-reads.Learnt
-status κs args asked x y u v p q = (alike p q, refl)
+status κs args asked x y u v p q = (one_told x y (alike p q), refl)
 
 pub order : Determines 1 order-kinds.ps order-kinds.r order-reads.Asked order-reads.Learnt
-order κs args asked x y u v p q = (alike p.0 q.0, λ i. (alike p.1 q.1 i, v.1))
+order κs args asked x y u v p q = (one_told x y (alike p.0 q.0), λ i. (alike p.1 q.1 i, v.1))
 
 pub lockout : Determines 1 lockout-kinds.ps lockout-kinds.r lockout-reads.Asked lockout-reads.Learnt
-lockout κs args asked x y u v p q = (alike p.0 q.0, λ i. (alike p.1 q.1 i, v.1))
+lockout κs args asked x y u v p q = (one_told x y (alike p.0 q.0), λ i. (alike p.1 q.1 i, v.1))
 
 pub offer : Determines 1 offer-kinds.ps offer-kinds.r offer-reads.Asked offer-reads.Learnt
-offer κs args asked x y u v p q = (alike p.0 q.0, λ i. (alike p.1 q.1 i, v.1))
+offer κs args asked x y u v p q = (one_told x y (alike p.0 q.0), λ i. (alike p.1 q.1 i, v.1))
 
 pub remaining : Determines 1 remaining-kinds.ps remaining-kinds.r remaining-reads.Asked remaining-reads.Learnt
-remaining κs args asked x y u v p q = (alike p q, refl)
+remaining κs args asked x y u v p q = (one_told x y (alike p q), refl)
 
 pub text : Determines 1 text-kinds.ps text-kinds.r text-reads.Asked text-reads.Learnt
-text κs args asked x y u v p q = (alike p.0 q.0, λ i. (v.0, (alike p.1 q.1 i, v.1.1)))
+text κs args asked x y u v p q = (one_numbered x y (alike p.0 q.0), λ i. (v.0, (alike p.1 q.1 i, v.1.1)))
 
 pub send : Determines 1 send-kinds.ps send-kinds.r send-reads.Asked send-reads.Learnt
-send κs args asked x y u v p q = (alike p.0 q.0, λ i. (alike p.1 q.1 i, v.1))
+send κs args asked x y u v p q = (one_told x y (alike p.0 q.0), λ i. (alike p.1 q.1 i, v.1))
 
 pub report : Determines 1 report-kinds.ps report-kinds.r report-reads.Asked report-reads.Learnt
-report κs args asked x y u v p q = (alike p.0 q.0, λ i. (alike p.1 q.1 i, v.1))
+report κs args asked x y u v p q = (one_told x y (alike p.0 q.0), λ i. (alike p.1 q.1 i, v.1))
 
 pub close : Determines 1 close-kinds.ps close-kinds.r close-reads.Asked close-reads.Learnt
-close κs args asked x y u v p q = (alike p.0 q.0, λ i. (alike p.1 q.1 i, v.1))
+close κs args asked x y u v p q = (one_told x y (alike p.0 q.0), λ i. (alike p.1 q.1 i, v.1))
 
 pub tested-status : Determines 1 tested-status-kinds.ps tested-status-kinds.r tested-status-reads.Asked tested-status-reads.Learnt
-tested-status κs args asked x y u v p q = (alike p q, refl)
+tested-status κs args asked x y u v p q = (one_accepted x y (alike p q), refl)
 
 pub tested-order : Determines 1 tested-order-kinds.ps tested-order-kinds.r tested-order-reads.Asked tested-order-reads.Learnt
-tested-order κs args asked x y u v p q = (alike p.0 q.0, λ i. (alike p.1 q.1 i, v.1))
+tested-order κs args asked x y u v p q = (one_told x y (alike p.0 q.0), λ i. (alike p.1 q.1 i, v.1))
 
 pub tested-lockout : Determines 1 tested-lockout-kinds.ps tested-lockout-kinds.r tested-lockout-reads.Asked tested-lockout-reads.Learnt
-tested-lockout κs args asked x y u v p q = (alike p.0 q.0, λ i. (alike p.1 q.1 i, v.1))
+tested-lockout κs args asked x y u v p q = (one_told x y (alike p.0 q.0), λ i. (alike p.1 q.1 i, v.1))
 
 pub tested-offer : Determines 1 tested-offer-kinds.ps tested-offer-kinds.r tested-offer-reads.Asked tested-offer-reads.Learnt
-tested-offer κs args asked x y u v p q = (alike p.0 q.0, λ i. (alike p.1 q.1 i, v.1))
+tested-offer κs args asked x y u v p q = (one_told x y (alike p.0 q.0), λ i. (alike p.1 q.1 i, v.1))
 
 pub tested-send : Determines 1 tested-send-kinds.ps tested-send-kinds.r tested-send-reads.Asked tested-send-reads.Learnt
-tested-send κs args asked x y u v p q = (alike p.0 q.0, λ i. (alike p.1 q.1 i, v.1))
+tested-send κs args asked x y u v p q = (one_told x y (alike p.0 q.0), λ i. (alike p.1 q.1 i, v.1))
 
 pub tested-report : Determines 1 tested-report-kinds.ps tested-report-kinds.r tested-report-reads.Asked tested-report-reads.Learnt
-tested-report κs args asked x y u v p q = (alike p.0 q.0, λ i. (alike p.1 q.1 i, v.1))
+tested-report κs args asked x y u v p q = (one_told x y (alike p.0 q.0), λ i. (alike p.1 q.1 i, v.1))
 
 pub tested-close : Determines 1 tested-close-kinds.ps tested-close-kinds.r tested-close-reads.Asked tested-close-reads.Learnt
-tested-close κs args asked x y u v p q = (alike p.0 q.0, λ i. (alike p.1 q.1 i, v.1))
+tested-close κs args asked x y u v p q = (one_told x y (alike p.0 q.0), λ i. (alike p.1 q.1 i, v.1))
 
 pub tested-remaining : Determines 1 tested-remaining-kinds.ps tested-remaining-kinds.r tested-remaining-reads.Asked tested-remaining-reads.Learnt
-tested-remaining κs args asked x y u v p q = (alike p q, refl)
+tested-remaining κs args asked x y u v p q = (one_told x y (alike p q), refl)
 
 pub sent : Determines 1 sent-kinds.ps sent-kinds.r sent-reads.Asked sent-reads.Learnt
-sent κs args asked x y u v p q = (alike p.0 q.0, λ i. (alike p.1 q.1 i, v.1))
+sent κs args asked x y u v p q = (one_accepted x y (alike p.0 q.0), λ i. (alike p.1 q.1 i, v.1))
 
 pub came-back : Determines 1 came-back-kinds.ps came-back-kinds.r came-back-reads.Asked came-back-reads.Learnt
-came-back κs args asked x y u v p q = (alike p.0 q.0, λ i. (alike p.1 q.1 i, v.1))
+came-back κs args asked x y u v p q = (one_accepted x y (alike p.0 q.0), λ i. (alike p.1 q.1 i, v.1))
 
 pub bad-time : Determines 0 bad-time-kinds.ps bad-time-kinds.r bad-time-reads.Asked bad-time-reads.Learnt
 bad-time κs args asked x y u v p q = (alike p q, refl)
 
 pub send-refusal : Determines 1 send-refusal-kinds.ps send-refusal-kinds.r send-refusal-reads.Asked send-refusal-reads.Learnt
-send-refusal κs args asked x y u v p q = (alike p q, refl)
+send-refusal κs args asked x y u v p q = (one_tested x y (alike p q), refl)
 
 pub report-refusal : Determines 1 report-refusal-kinds.ps report-refusal-kinds.r report-refusal-reads.Asked report-refusal-reads.Learnt
-report-refusal κs args asked x y u v p q = (alike p q, refl)
+report-refusal κs args asked x y u v p q = (one_tested x y (alike p q), refl)

@@ -5,6 +5,9 @@ use mathlib.Core.List.{List}
 use Rattle.determined.specs.Determines.{Determines, DeterminesSeen}
 use Rattle.laws.proofs.One.{alike}
 use Rattle.profile.proofs.Once.{one_reading}
+use Rattle.seats.proofs.Told.{one_called}
+use Rattle.refusals.proofs.Once.{one_numbered, one_tested}
+use Rattle.machine.proofs.Told.{one_told}
 use Rattle.seats.proofs.is_sound.Kinds as is-sound-kinds
 use Rattle.seats.proofs.is_sound.Reads as is-sound-reads
 use Rattle.seats.proofs.refusal.Kinds as refusal-kinds
@@ -48,7 +51,7 @@ pub is-sound : Determines 1 is-sound-kinds.ps is-sound-kinds.r is-sound-reads.As
 is-sound κs args asked x y u v p q = (alike p q, refl)
 
 pub refusal : Determines 1 refusal-kinds.ps refusal-kinds.r refusal-reads.Asked refusal-reads.Learnt
-refusal κs args asked x y u v p q = (alike p q, refl)
+refusal κs args asked x y u v p q = (one_tested x y (alike p q), refl)
 
 pub part : DeterminesSeen 1 part-kinds.ps part-kinds.r (λ κs. List ℕ) (λ κs part. part.now) part-reads.Asked part-reads.Learnt
 part κs args asked x y u v p q = (alike p q, refl)
@@ -57,48 +60,48 @@ pub places-for : Determines 1 places-for-kinds.ps places-for-kinds.r places-for-
 places-for κs args asked x y u v p q = (alike p q, refl)
 
 pub log-use : Determines 1 log-use-kinds.ps log-use-kinds.r log-use-reads.Asked log-use-reads.Learnt
-log-use κs args asked x y u v p q = (alike p q, refl)
+log-use κs args asked x y u v p q = (one_numbered x y (alike p q), refl)
 
 pub arm : Determines 2 arm-kinds.ps arm-kinds.r arm-reads.Asked arm-reads.Learnt
 arm κs args asked x y u v p q = (one_reading x y (alike p.0 q.0), λ i. (alike p.1 q.1 i, v.1))
 
 pub status : Determines 1 status-kinds.ps status-kinds.r status-reads.Asked status-reads.Learnt
-status κs args asked x y u v p q = (alike p q, refl)
+status κs args asked x y u v p q = (one_told x y (alike p q), refl)
 
 pub lockout : Determines 1 lockout-kinds.ps lockout-kinds.r lockout-reads.Asked lockout-reads.Learnt
-lockout κs args asked x y u v p q = (alike p.0 q.0, λ i. (alike p.1 q.1 i, v.1))
+lockout κs args asked x y u v p q = (one_told x y (alike p.0 q.0), λ i. (alike p.1 q.1 i, v.1))
 
 pub offer : Determines 1 offer-kinds.ps offer-kinds.r offer-reads.Asked offer-reads.Learnt
-offer κs args asked x y u v p q = (alike p.0 q.0, λ i. (alike p.1 q.1 i, v.1))
+offer κs args asked x y u v p q = (one_told x y (alike p.0 q.0), λ i. (alike p.1 q.1 i, v.1))
 
 pub send : Determines 1 send-kinds.ps send-kinds.r send-reads.Asked send-reads.Learnt
-send κs args asked x y u v p q = (alike p.0 q.0, λ i. (alike p.1 q.1 i, v.1))
+send κs args asked x y u v p q = (one_told x y (alike p.0 q.0), λ i. (alike p.1 q.1 i, v.1))
 
 pub report : Determines 1 report-kinds.ps report-kinds.r report-reads.Asked report-reads.Learnt
-report κs args asked x y u v p q = (alike p.0 q.0, λ i. (alike p.1 q.1 i, v.1))
+report κs args asked x y u v p q = (one_told x y (alike p.0 q.0), λ i. (alike p.1 q.1 i, v.1))
 
 pub order : Determines 1 order-kinds.ps order-kinds.r order-reads.Asked order-reads.Learnt
-order κs args asked x y u v p q = (alike p.0 q.0, λ i. (alike p.1 q.1 i, v.1))
+order κs args asked x y u v p q = (one_told x y (alike p.0 q.0), λ i. (alike p.1 q.1 i, v.1))
 
 pub close : Determines 1 close-kinds.ps close-kinds.r close-reads.Asked close-reads.Learnt
-close κs args asked x y u v p q = (alike p.0 q.0, λ i. (alike p.1 q.1 i, v.1))
+close κs args asked x y u v p q = (one_told x y (alike p.0 q.0), λ i. (alike p.1 q.1 i, v.1))
 
 pub remaining : Determines 1 remaining-kinds.ps remaining-kinds.r remaining-reads.Asked remaining-reads.Learnt
-remaining κs args asked x y u v p q = (alike p q, refl)
+remaining κs args asked x y u v p q = (one_told x y (alike p q), refl)
 
 pub clear-firm : Determines 1 clear-firm-kinds.ps clear-firm-kinds.r clear-firm-reads.Asked clear-firm-reads.Learnt
-clear-firm κs args asked x y u v p q = (alike p.0 q.0, λ i. (alike p.1 q.1 i, v.1))
+clear-firm κs args asked x y u v p q = (one_numbered x y (alike p.0 q.0), λ i. (alike p.1 q.1 i, v.1))
 
 pub clear : Determines 1 clear-kinds.ps clear-kinds.r clear-reads.Asked clear-reads.Learnt
-clear κs args asked x y u v p q = (alike p.0 q.0, λ i. (alike p.1 q.1 i, v.1))
+clear κs args asked x y u v p q = (one_numbered x y (alike p.0 q.0), λ i. (alike p.1 q.1 i, v.1))
 
 pub own-offer : Determines 1 own-offer-kinds.ps own-offer-kinds.r own-offer-reads.Asked own-offer-reads.Learnt
 own-offer κs args asked x y u v p q =
-    (λ i. record { answer = alike p.answer q.answer i; joined = alike p.joined q.joined i }, λ i. (alike p.memory q.memory i, v.1))
+    (one_called x y (alike p.answer q.answer) (alike p.joined q.joined), λ i. (alike p.memory q.memory i, v.1))
 
 pub own-send : Determines 1 own-send-kinds.ps own-send-kinds.r own-send-reads.Asked own-send-reads.Learnt
-own-send κs args asked x y u v p q = (alike p.answer q.answer, λ i. (alike p.memory q.memory i, v.1))
+own-send κs args asked x y u v p q = (one_told x y (alike p.answer q.answer), λ i. (alike p.memory q.memory i, v.1))
 
 pub own-report : Determines 1 own-report-kinds.ps own-report-kinds.r own-report-reads.Asked own-report-reads.Learnt
 own-report κs args asked x y u v p q =
-    (λ i. record { answer = alike (p 0).answer (q 0).answer i; joined = alike (p 0).joined (q 0).joined i }, λ i. (alike (p 0).memory (q 0).memory i, v.1))
+    (one_called x y (alike (p 0).answer (q 0).answer) (alike (p 0).joined (q 0).joined), λ i. (alike (p 0).memory (q 0).memory i, v.1))

@@ -2,6 +2,8 @@
 use mathlib.Core.Path.{refl}
 use Rattle.determined.specs.Determines.{Determines}
 use Rattle.laws.proofs.One.{alike}
+use Rattle.views.proofs.Told.{one_listed}
+use Rattle.refusals.proofs.Once.{one_numbered}
 use Rattle.views.proofs.root_named.Kinds as root-named-kinds
 use Rattle.views.proofs.root_named.Reads as root-named-reads
 use Rattle.views.proofs.root_name.Kinds as root-name-kinds
@@ -12,13 +14,13 @@ use Rattle.views.proofs.profile.Kinds as profile-kinds
 use Rattle.views.proofs.profile.Reads as profile-reads
 
 pub root-named : Determines 2 root-named-kinds.ps root-named-kinds.r root-named-reads.Asked root-named-reads.Learnt
-root-named κs args asked x y u v p q = (alike p q, refl)
+root-named κs args asked x y u v p q = (one_numbered x y (alike p q), refl)
 
 pub root-name : Determines 2 root-name-kinds.ps root-name-kinds.r root-name-reads.Asked root-name-reads.Learnt
-root-name κs args asked x y u v p q = (alike p.0 q.0, λ i. (v.0, (v.1.0, (alike p.1 q.1 i, v.1.1.1))))
+root-name κs args asked x y u v p q = (one_numbered x y (alike p.0 q.0), λ i. (v.0, (v.1.0, (alike p.1 q.1 i, v.1.1.1))))
 
 pub rule : Determines 1 rule-kinds.ps rule-kinds.r rule-reads.Asked rule-reads.Learnt
-rule κs args asked x y u v p q = (alike p q, refl)
+rule κs args asked x y u v p q = (one_numbered x y (alike p q), refl)
 
 pub profile : Determines 2 profile-kinds.ps profile-kinds.r profile-reads.Asked profile-reads.Learnt
-profile κs args asked x y u v p q = (alike p.0 q.0, λ i. (v.0, (alike p.1 q.1 i, v.1.1)))
+profile κs args asked x y u v p q = (one_listed x y (alike p.0 q.0), λ i. (v.0, (alike p.1 q.1 i, v.1.1)))

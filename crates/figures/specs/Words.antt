@@ -3,8 +3,7 @@ use Rattle.std.specs.Prelude.{ℕ, ◌+◌, ◌*◌, ◌≡◌, Bool, true, fals
 use Rattle.rules.specs.declared.Level.{Level}
 use Rattle.rules.specs.declared.Level.TheVariants.{Firm, Root}
 use Rattle.machine.specs.declared.Sent.{Sent}
-use Rattle.machine.specs.declared.Answer.{Answer}
-use Rattle.machine.specs.declared.Answer.TheVariants.{Refused, Judged, Left, Standing}
+use Rattle.machine.specs.Answer.{Answer, Refused, Judged, Left, Standing}
 use Rattle.machine.specs.Calls.{Call, order, lockout, offer, remaining, status, send, report, close}
 use Rattle.demand.specs.Run.{Event}
 use Rattle.demand.specs.Answers.{one}

@@ -6,7 +6,7 @@ use mathlib.Core.Bool.{Bool, true, false, cond, ◌&&◌}
 use mathlib.Core.List.{List}
 use lib.Dec.{eqb}
 use borrow.Author.Tests.{eqb-true, le-ltb}
-use Rattle.machine.specs.declared.Answer.{Answer}
+use Rattle.machine.specs.Answer.{Answer}
 use Rattle.machine.specs.State.{Profile, State, armed}
 use Rattle.machine.specs.Calls.{Call}
 use Rattle.machine.specs.Refusals.{first_of}
@@ -15,8 +15,8 @@ use Rattle.machine.specs.Judge.{Judgement, judge}
 use Rattle.profile.specs.Profile.{reading_of, outcome_of}
 use Rattle.profile.specs.Reading.{Reading}
 use Rattle.profile.proofs.Beside.{beside-other}
-use Rattle.calls.specs.declared.Clearing.{Clearing}
-use Rattle.calls.specs.declared.Clearing.TheVariants.{Done as Cleared, Refused as NotCleared}
+use Rattle.std.specs.Prelude.{Result}
+use Rattle.std.specs.declared.result.Result.TheVariants.{Ok, Err}
 use Rattle.firms.specs.Seats.{Seat, empty, taken, seat_of, room_beside}
 use Rattle.firms.specs.Doings.{arm as arming, Reply, refused, done, answered, is_taken, name_of, Beside, beside_of, arm_refusal, armed_by, stays, call_at, called_by, clear_at, at_seat}
 use Rattle.firms.proofs.Seats.{same-firm, AlikeSeat}
@@ -28,15 +28,15 @@ use Rattle.firmday.proofs.Texts.{own-seven, Alike, Named, by_name}
 use Rattle.firmday.proofs.Follows.{Lent}
 use Rattle.firmday.proofs.Moments.{arm-empty, arm-taken, call-alike, clear-alike, arm-alike, next_by}
 
-clearing_in : Reply → Clearing
-clearing_in done = Cleared
-clearing_in (refused n) = NotCleared n
-clearing_in (answered a) = Cleared
+clearing_in : Reply → Result (Unit {0}) ℕ
+clearing_in done = Ok tt
+clearing_in (refused n) = Err n
+clearing_in (answered a) = Ok tt
 
-clearing-back : (c : Clearing) → clearing_in (clear_reply c) ≡ c
+clearing-back : (c : Result (Unit {0}) ℕ) → clearing_in (clear_reply c) ≡ c
 unfolding clear_reply clearing_in
-clearing-back Cleared = refl
-clearing-back (NotCleared n) = refl
+clearing-back (Ok tt) = refl
+clearing-back (Err n) = refl
 
 -- the seat that an answer to arming leaves of an empty one
 armed_in : Reply → Profile → Seat
@@ -124,10 +124,10 @@ module _ (firm : Bool) (xs ys : List ℕ) (l : Lent xs) (k : Lent ys) (x : Seat)
   unfolding answer_on next_by ToldOfOther at_seat clear_at stays beside_of clearing_in
   clear_step = go x i j (clear-alike xs l firm x i) (clear-alike ys k firm x j)
     where
-      told : {a b : Clearing} → clear_reply a ≡ clear_reply b → a ≡ b
+      told : {a b : Result (Unit {0}) ℕ} → clear_reply a ≡ clear_reply b → a ≡ b
       told {a} {b} e = sym (clearing-back a) ∙ (ap clearing_in e ∙ clearing-back b)
 
-      is-told : {a : Clearing} {r : Reply} → clear_reply a ≡ r → a ≡ clearing_in r
+      is-told : {a : Result (Unit {0}) ℕ} {r : Reply} → clear_reply a ≡ r → a ≡ clearing_in r
       is-told {a} e = sym (clearing-back a) ∙ ap clearing_in e
 
       Wanted : Bool → Bool → Seat → Type 0

@@ -17,7 +17,7 @@ use Rattle.demand.specs.Moves.{Moves}
 use Rattle.demand.proofs.Moves.{moves}
 use Rattle.state.specs.State.{size, decode}
 use Rattle.state.specs.Sound.{Given}
-use Rattle.calls.specs.declared.Clearing.TheVariants.{Done as Cleared}
+use Rattle.std.specs.declared.result.Result.TheVariants.{Ok}
 use Rattle.firms.specs.Seats.{Seat, empty, taken, Seats, vacant, turned, facing, seat_of, room_beside}
 use Rattle.firms.specs.Doings.{call as calling, clear as clearing, after_doing}
 use Rattle.firms.specs.Sound.{SoundSeat, SoundSeats}
@@ -99,7 +99,7 @@ module _ (xs : List ℕ) (l : Lent xs) (firm : Bool) (s : State) (is : Armed fir
   unfolding encode_seat
   zero-part g e = sym (part-again g) ∙ ap encode_seat e
 
-  pub clears-now : (g : Bool) → clear_firm_answer xs (number_of g) ≡ Cleared
+  pub clears-now : (g : Bool) → clear_firm_answer xs (number_of g) ≡ Ok tt
   unfolding clear_firm_answer clear_refusal first_of
   clears-now g = rw (le-ltb _ _ l.long, le-ltb _ _ (known g), sound)
 

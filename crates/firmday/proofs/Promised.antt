@@ -7,7 +7,7 @@ use mathlib.Core.Bool.{Bool, true, not}
 use mathlib.Core.List.{List, ◌++◌}
 use lib.ListN.{length, drop}
 use Rattle.tables.specs.Inner.Tables.{zeros}
-use Rattle.machine.specs.declared.Answer.TheVariants.{Refused}
+use Rattle.machine.specs.Answer.{Refused}
 use Rattle.machine.specs.State.{State}
 use Rattle.machine.specs.Calls.{Call, offer, send}
 use Rattle.demand.specs.Run.{run_of}

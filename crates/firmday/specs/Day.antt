@@ -5,8 +5,8 @@ use Rattle.machine.specs.Calls.{Call}
 use Rattle.profile.specs.Profile.{outcome_of}
 use Rattle.profile.specs.Reading.{Reading, Accepted, Refused as NotRead}
 use Rattle.firms.specs.Doings.{arm as arming, call as calling, clear as clearing, Reply, refused, done}
-use Rattle.calls.specs.declared.Clearing.{Clearing}
-use Rattle.calls.specs.declared.Clearing.TheVariants.{Done as Cleared, Refused as NotCleared}
+use Rattle.std.specs.Prelude.{Result}
+use Rattle.std.specs.declared.result.Result.TheVariants.{Ok, Err}
 use Rattle.firms.specs.Runs.{Asked, of, clear_all as all_cleared, is_same, Day}
 use Rattle.seats.specs.Memory.{arm_answer, arm_memory, firm_answer, firm_memory, clear_firm_memory, clear_all_memory}
 
@@ -67,6 +67,6 @@ unfoldable pub read_reply : Reading → Reply
 read_reply (Accepted firm rules roots) = done
 read_reply (NotRead number line) = refused number
 
-unfoldable pub clear_reply : Clearing → Reply
-clear_reply Cleared = done
-clear_reply (NotCleared number) = refused number
+unfoldable pub clear_reply : Result (Unit {0}) ℕ → Reply
+clear_reply (Ok tt) = done
+clear_reply (Err number) = refused number

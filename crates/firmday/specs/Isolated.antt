@@ -1,14 +1,13 @@
 -- Isolation: what one firm is answered does not depend on the other, but for three answers, each with its condition. Assumes nothing.
 use Rattle.std.specs.Prelude.{ℕ, ◌<◌, ◌≡◌, ◌⊎◌, Bool, true, cond, List, [], ◌∷◌, get_or}
-use Rattle.machine.specs.declared.Answer.{Answer}
-use Rattle.machine.specs.declared.Answer.TheVariants.{Refused}
+use Rattle.machine.specs.Answer.{Answer, Refused}
 use Rattle.machine.specs.Calls.{Call}
 use Rattle.text.specs.Text.{lines}
 use Rattle.line.specs.Line.{firm_in}
 use Rattle.profile.specs.Profile.{outcome_of, reading_of}
 use Rattle.profile.specs.Reading.{Reading, Refused as NotRead}
-use Rattle.calls.specs.declared.Clearing.{Clearing}
-use Rattle.calls.specs.declared.Clearing.TheVariants.{Done as Cleared, Refused as NotCleared}
+use Rattle.std.specs.Prelude.{Result}
+use Rattle.std.specs.declared.result.Result.TheVariants.{Ok, Err}
 use Rattle.firms.specs.Seats.{Seat, empty, facing, seat_of, use_of, own_places}
 use Rattle.firms.specs.Doings.{is_taken, name_of}
 use Rattle.firms.specs.Runs.{is_same}
@@ -44,7 +43,7 @@ moments_of firm xs (a ∷ rest) =
 pub data Answered : Type 0 where
   read : Reading → Answered
   judged : Answer → Answered
-  cleared : Clearing → Answered
+  cleared : Result (Unit {0}) ℕ → Answered
 
 unfoldable pub answer_on : List ℕ → Asking → Answered
 answer_on xs (arm firm text) = read (arm_answer xs (number_of firm) text)
@@ -75,11 +74,11 @@ pub record OtherNamed (firm : Bool) (xs ys : List ℕ) (text : List ℕ) : Type 
 
 -- 2 at clearing a firm that is not armed, where the other is not armed either; on the other memory it is
 pub record NoneArmed (firm : Bool) (xs ys : List ℕ) : Type 0 where
-  pub told : clear_firm_answer xs (number_of firm) ≡ NotCleared 2
+  pub told : clear_firm_answer xs (number_of firm) ≡ Err 2
   pub own : (seat_of firm (decode_seats xs) ≡ empty) × (seat_of firm (decode_seats ys) ≡ empty)
   pub none : beside_in firm xs ≡ empty
   pub other : is_taken (beside_in firm ys) ≡ true
-  pub done : clear_firm_answer ys (number_of firm) ≡ Cleared
+  pub done : clear_firm_answer ys (number_of firm) ≡ Ok tt
 
 -- 15, where the other uses more than 192 places, and more than on the other memory
 pub record OtherAbove (firm : Bool) (xs ys : List ℕ) (c : Call) : Type 0 where

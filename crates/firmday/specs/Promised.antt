@@ -1,7 +1,7 @@
 -- What is promised of two firms on one state, whatever was asked for either since no firm was armed. Assumes nothing.
 use Rattle.std.specs.Prelude.{ℕ, ◌+◌, ◌≤◌, ◌<◌, ◌≡◌, ◌⊎◌, Bool, not, List, ◌++◌, length, get_or, drop}
 use Rattle.tables.specs.Inner.Tables.{zeros}
-use Rattle.machine.specs.declared.Answer.TheVariants.{Refused}
+use Rattle.machine.specs.Answer.{Refused}
 use Rattle.machine.specs.declared.Offer.{Offer}
 use Rattle.machine.specs.State.{State}
 use Rattle.machine.specs.Calls.{Call, offer, send}
@@ -14,7 +14,7 @@ use Rattle.demand.specs.Words.{Words}
 use Rattle.demand.specs.Moves.{Moves}
 use Rattle.profile.specs.Reading.{Refused as NotRead}
 use Rattle.state.specs.State.{size, decode}
-use Rattle.calls.specs.declared.Clearing.TheVariants.{Done as Cleared}
+use Rattle.std.specs.declared.result.Result.TheVariants.{Ok}
 use Rattle.firms.specs.Seats.{empty, taken, vacant, seat_of, own_places}
 use Rattle.firms.specs.Runs.{Day, no_day, NeverRefused}
 use Rattle.firms.specs.Sound.{Fair}
@@ -71,7 +71,7 @@ pub record FirmPromised (firm : Bool) (memory : List ℕ) (day : Day) (s : State
   -- beside it, the part of a firm that is not armed is zeros
   pub beside : seat_of (not firm) (decode_seats memory) ≡ empty → seat_part (number_of (not firm)) memory ≡ zeros size
   -- clearing either firm is done: its part becomes zeros, and the other's stays number by number, as what is past the state does
-  pub clears : (cleared : Bool) → clear_firm_answer memory (number_of cleared) ≡ Cleared
+  pub clears : (cleared : Bool) → clear_firm_answer memory (number_of cleared) ≡ Ok tt
   pub zeroed : (cleared : Bool) → seat_part (number_of cleared) (clear_firm_memory memory (number_of cleared)) ≡ zeros size
   pub stays :
       (cleared : Bool)
@@ -89,7 +89,7 @@ pub record Promised (before : List ℕ) (asked : List Asking) (memory : List ℕ
   -- the numbers past the state are as they were
   pub past : drop state_size memory ≡ drop state_size before
   -- clearing the state leaves zeros, and what is past it as it was
-  pub clears_all : clear_all_answer memory ≡ Cleared
+  pub clears_all : clear_all_answer memory ≡ Ok tt
   pub zeros : clear_all_memory memory ≡ zeros state_size ++ drop state_size before
 
 -- what is promised of every day of two firms

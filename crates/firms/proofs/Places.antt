@@ -8,8 +8,7 @@ use borrow.Author.Tests.{leb-false, lt-leb, le-ltb}
 use native.Mathlib.Omega.{arith}
 use Rattle.rules.specs.Allowance.{All}
 use Rattle.rules.specs.Valid.{has_rate}
-use Rattle.machine.specs.declared.Answer.{Answer}
-use Rattle.machine.specs.declared.Answer.TheVariants.{Refused, Judged, Left, Standing}
+use Rattle.machine.specs.Answer.{Answer, Refused, Judged, Left, Standing}
 use Rattle.machine.specs.declared.Offer.{Offer}
 use Rattle.machine.specs.State.{Profile, State, rules_in, armed}
 use Rattle.machine.specs.Calls.{Call, order, lockout, offer, remaining, status, send, report, close}

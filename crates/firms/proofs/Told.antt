@@ -8,7 +8,7 @@ use lib.Dec.{T, leb, eqb, lit≤}
 use borrow.Author.Tests.{eqb-true, eqb-false, leb-true, leb-false}
 use native.Mathlib.Omega.{arith}
 use Rattle.rules.specs.Allowance.{All}
-use Rattle.machine.specs.declared.Answer.TheVariants.{Refused}
+use Rattle.machine.specs.Answer.{Refused}
 use Rattle.machine.specs.State.{Profile, State}
 use Rattle.machine.specs.Calls.{Call, order, lockout, offer, remaining, status, send, report, close}
 use Rattle.machine.specs.Refusals.{first_of, refusal_of}

@@ -2,8 +2,7 @@
 use Rattle.std.specs.Prelude.{ℕ, zero, suc, Bool, true, false, not, cond, ◌&&◌, List, [], ◌∷◌, ltb, eqb}
 use Rattle.rules.specs.Valid.{has_rate}
 use Rattle.rules.specs.declared.Rule.{Rule}
-use Rattle.machine.specs.declared.Answer.{Answer}
-use Rattle.machine.specs.declared.Answer.TheVariants.{Refused}
+use Rattle.machine.specs.Answer.{Answer, Refused}
 use Rattle.machine.specs.State.{Profile, State, rules_in, armed}
 use Rattle.machine.specs.Calls.{Call}
 use Rattle.machine.specs.Deeds.{Deed, nothing, passing, filling, resetting, locking_out, sending, closing}

@@ -1,8 +1,7 @@
 -- What is done on a state, one thing after the other, and each firm's day in it. Assumes nothing.
 use Rattle.std.specs.Prelude.{ℕ, ◌≡◌, ◌⊎◌, Bool, true, false, not, cond, List, [], ◌∷◌}
 use Rattle.rules.specs.Allowance.{All}
-use Rattle.machine.specs.declared.Answer.{Answer}
-use Rattle.machine.specs.declared.Answer.TheVariants.{Refused}
+use Rattle.machine.specs.Answer.{Answer, Refused}
 use Rattle.machine.specs.State.{Profile}
 use Rattle.machine.specs.Calls.{Call}
 use Rattle.demand.specs.Run.{Event}

@@ -17,3 +17,4 @@ pub mod Flags
 pub mod Dropped
 pub mod Bounds
 pub mod Windows
+pub mod Told

@@ -2,8 +2,7 @@
 use Rattle.std.specs.Prelude.{ℕ, zero, suc, Bool, true, false, cond, List, [], ◌∷◌}
 use Rattle.rules.specs.declared.Level.TheVariants.{Firm, Root}
 use Rattle.machine.specs.declared.Offer.{Offer}
-use Rattle.machine.specs.declared.Answer.{Answer}
-use Rattle.machine.specs.declared.Answer.TheVariants.{Refused, Judged, Left, Standing}
+use Rattle.machine.specs.Answer.{Answer, Refused, Judged, Left, Standing}
 use Rattle.machine.specs.State.{State}
 use Rattle.machine.specs.Effects.{effect_of}
 use Rattle.machine.specs.Deeds.{Source, granted, reported, Deed, nothing, passing, filling, resetting, locking_out, sending, closing}

@@ -4,8 +4,7 @@ use Rattle.laws.specs.Folds.{keep}
 use Rattle.rules.specs.Allowance.{All}
 use Rattle.rules.specs.declared.Rule.{Rule}
 use Rattle.machine.specs.declared.Entry.{Entry}
-use Rattle.machine.specs.declared.Answer.{Answer}
-use Rattle.machine.specs.declared.Answer.TheVariants.{Refused}
+use Rattle.machine.specs.Answer.{Answer, Refused}
 use Rattle.machine.specs.State.{State, rules_in}
 use Rattle.machine.specs.Entries.{is_flagged}
 use Rattle.machine.specs.Effects.{zeroing}

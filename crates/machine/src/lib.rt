@@ -46,11 +46,10 @@ pub struct Offer {
     pub contracts: u64,
 }
 
-// An answer: a refusal by its number; the verdict on an order, a lockout, an offer or an order sent away, with the grant and the trips; what remains
-// of a limit; or how the roots stand.
+// What a call that is not refused is answered: the verdict on an order, a lockout, an offer or an order sent away, with the grant and the trips; what
+// remains of a limit; or how the roots stand.
 #[derive(Clone, Copy)]
-pub enum Answer {
-    Refused(u64),
+pub enum Accepted {
     Judged {
         verdict: u64,
         grant: u64,

@@ -13,8 +13,7 @@ use Rattle.state.specs.State.{size}
 use Rattle.state.specs.Sound.{Sound, is_sound}
 use Rattle.state.proofs.Exactly.{taken-apart, exactly}
 use Rattle.profile.specs.Reading.{Accepted}
-use Rattle.machine.specs.declared.Answer.{Answer}
-use Rattle.machine.specs.declared.Answer.TheVariants.{Refused, Judged, Left, Standing}
+use Rattle.machine.specs.Answer.{Answer, Refused, Judged, Left, Standing}
 use Rattle.machine.specs.State.{State}
 use Rattle.machine.specs.Calls.{Call}
 use Rattle.machine.specs.Refusals.{first_of}

@@ -9,7 +9,7 @@ use lib.Dec.{eqb}
 use borrow.Author.Tests.{ne_eqb, not-true}
 use mathlib.Core.List.{List}
 use Rattle.rules.specs.declared.Level.{Level}
-use Rattle.machine.specs.declared.Answer.TheVariants.{Refused}
+use Rattle.machine.specs.Answer.{Refused}
 use Rattle.machine.specs.Calls.{Call}
 use Rattle.machine.specs.Refusals.{refusal_of}
 use Rattle.machine.specs.Judge.{log_places, judged, unless, numbers}

@@ -8,7 +8,7 @@ use lib.Seq.{get_or-take}
 use Rattle.rules.specs.declared.Level.{Level}
 use Rattle.rules.specs.declared.Level.TheVariants.{Root}
 use Rattle.machine.specs.declared.Sent.{Sent}
-use Rattle.machine.specs.declared.Answer.TheVariants.{Refused}
+use Rattle.machine.specs.Answer.{Refused}
 use Rattle.machine.specs.State.{State}
 use Rattle.machine.specs.Calls.{Call}
 use Rattle.machine.specs.Register.{is_open, sent_at, register_after}

@@ -13,8 +13,7 @@ use Rattle.machine.specs.State.{State}
 use Rattle.machine.specs.Calls.{Call}
 use Rattle.machine.specs.Refusals.{refusal_of}
 use Rattle.machine.specs.Judge.{log_places, judged, unless, judge, step_in, step, numbers, is_refusal}
-use Rattle.machine.specs.declared.Answer.{Answer}
-use Rattle.machine.specs.declared.Answer.TheVariants.{Refused, Judged, Left, Standing}
+use Rattle.machine.specs.Answer.{Answer, Refused, Judged, Left, Standing}
 use Rattle.state.specs.State.{decode}
 use Rattle.calls.specs.Calls.{memory_refusal, call_answer, refusal_in}
 use Rattle.promises.specs.Refusals.{refusal_row}

@@ -12,7 +12,7 @@ use borrow.Author.Tests.{ne_eqb}
 use Rattle.machine.specs.Refusals.{first_of}
 use Rattle.machine.specs.Judge.{is_refusal}
 use Rattle.profile.specs.Reading.{Refused as NotRead}
-use Rattle.calls.specs.declared.Clearing.TheVariants.{Done as Cleared, Refused as NotCleared}
+use Rattle.std.specs.declared.result.Result.TheVariants.{Ok, Err}
 use Rattle.firms.specs.Seats.{vacant}
 use Rattle.firms.specs.Doings.{arm, clear, after_doing}
 use Rattle.seats.specs.Memory.{state_size, decode_seats, stored_seats, is_sound_memory, firm_of, firm_answer, firm_memory, arm_refusal, given_to, arm_answer, arm_memory, clear_refusal, clear_firm_answer, clear_firm_memory, clear_all_answer, clear_all_memory}
@@ -46,7 +46,7 @@ module _ (xs : List ℕ) (firm : ℕ) where
   unfolding clear_firm_answer clear_row
   clear-row = go (clear_refusal xs firm)
     where
-      go : (k : ℕ) → clear_row (cond (eqb k 0) Cleared (NotCleared k)) ≡ refusal_row k
+      go : (k : ℕ) → clear_row (cond (eqb k 0) (Ok tt) (Err k)) ≡ refusal_row k
       go zero = refl
       go (suc k) = rw (ne_eqb (suc k) 0 (λ z. omega arith))
 
@@ -57,7 +57,7 @@ module _ (xs : List ℕ) (firm : ℕ) where
   unfolding clear_all_answer clear_row
   all_row = go (ltb (length xs) state_size)
     where
-      go : (b : Bool) → clear_row (cond b (NotCleared 1) Cleared) ≡ refusal_row (cond b 1 0)
+      go : (b : Bool) → clear_row (cond b (Err 1) (Ok tt)) ≡ refusal_row (cond b 1 0)
       go true = refl
       go false = refl
 

@@ -14,7 +14,7 @@ use Rattle.machine.specs.State.{State}
 use Rattle.machine.specs.Calls.{Call}
 use Rattle.machine.specs.Refusals.{first_of, bad_time, used, refusal_of}
 use Rattle.machine.specs.Judge.{judged, unless, judge, is_refusal}
-use Rattle.machine.specs.declared.Answer.TheVariants.{Refused}
+use Rattle.machine.specs.Answer.{Refused}
 use Rattle.state.specs.State.{size, decode}
 use Rattle.state.proofs.Exactly.{made-parts, decode-made}
 use Rattle.firms.specs.Seats.{taken, Seats, facing, room_beside}

@@ -18,7 +18,7 @@ use Rattle.state.specs.Inner.Laid.{Fits}
 use Rattle.state.proofs.Exactly.{taken-apart}
 use Rattle.state.proofs.Stored.{stored-rest, decode-stored}
 use Rattle.state.proofs.Exactly.{made-parts, sound-fits, given-is-made, sound-stored}
-use Rattle.machine.specs.declared.Answer.TheVariants.{Refused}
+use Rattle.machine.specs.Answer.{Refused}
 use Rattle.machine.specs.Calls.{Call, order, lockout, offer, remaining, status, send, report, close}
 use Rattle.machine.specs.Locks.{verdict_of}
 use Rattle.machine.specs.Refusals.{refusal_of}

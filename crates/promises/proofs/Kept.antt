@@ -13,8 +13,7 @@ use Rattle.tables.specs.Inner.Tables.{zeros}
 use Rattle.machine.specs.Judge.{is_refusal}
 use Rattle.state.specs.State.{size}
 use Rattle.calls.specs.Calls.{is_short, arm_answer, clear_answer, clear_memory, call_answer, call_memory, say_answer, say_memory, text_answer, text_memory}
-use Rattle.calls.specs.declared.Clearing.TheVariants.{Done, Refused as NotCleared}
-use Rattle.calls.specs.declared.Wording.TheVariants.{Written, Refused as NotSaid}
+use Rattle.std.specs.declared.result.Result.TheVariants.{Ok, Err}
 use Rattle.capi.specs.Rows.{clear_row, text_row}
 use Rattle.promises.specs.Refusals.{refusal_row, ClearRefusals, TextRefusals, RefusedKeeps}
 use Rattle.promises.proofs.Unarmed.{refused-arm-same}
@@ -34,11 +33,11 @@ clear-refusals xs = record {
   accepted = (λ e. done (ltb (length xs) size) refl (ap refusal_of e), λ h. rw (le-ltb _ _ h));
 }
   where
-    one : (b : Bool) → ltb (length xs) size ≡ b → refusal_of (clear_row (cond b (NotCleared 1) Done)) ≡ 1 → length xs < size
+    one : (b : Bool) → ltb (length xs) size ≡ b → refusal_of (clear_row (cond b (Err 1) (Ok tt))) ≡ 1 → length xs < size
     one true e z = ltb-true _ _ e
     one false e z = absurd (omega arith)
 
-    done : (b : Bool) → ltb (length xs) size ≡ b → refusal_of (clear_row (cond b (NotCleared 1) Done)) ≡ 0 → size ≤ length xs
+    done : (b : Bool) → ltb (length xs) size ≡ b → refusal_of (clear_row (cond b (Err 1) (Ok tt))) ≡ 0 → size ≤ length xs
     done true e z = absurd (omega arith)
     done false e z = ltb-false _ _ e
 
@@ -56,7 +55,7 @@ say-number : (words room : List ℕ) → refusal_of (text_row (say_answer words 
 unfolding say_answer text_row
 say-number words room = go (ltb (length room) 20)
   where
-    go : (b : Bool) → refusal_of (text_row (cond b (NotSaid 1) (Written (length words)))) ≡ short_number b
+    go : (b : Bool) → refusal_of (text_row (cond b (Err 1) (Ok (length words)))) ≡ short_number b
     go true = refl
     go false = refl
 
@@ -67,7 +66,7 @@ module _ (verdict : ℕ) (room : List ℕ) where
   text-number = go (eqb verdict 1) (eqb verdict 2)
     where
       go : (a b : Bool)
-          → refusal_of (text_row (cond a (say_answer (bytes "f: RiskMgmtFirmLevel") room) (cond b (say_answer (bytes "s: RiskMgmtSymLevel") room) (NotSaid 13))))
+          → refusal_of (text_row (cond a (say_answer (bytes "f: RiskMgmtFirmLevel") room) (cond b (say_answer (bytes "s: RiskMgmtSymLevel") room) (Err 13))))
           ≡ text_number a b (ltb (length room) 20)
       go true b = say-number (bytes "f: RiskMgmtFirmLevel") room
       go false true = say-number (bytes "s: RiskMgmtSymLevel") room
@@ -112,7 +111,7 @@ clear_kept : (xs : List ℕ) (n : ℕ) → refusal_of (clear_row (clear_answer x
 unfolding clear_answer clear_memory clear_row
 clear_kept xs n e = go (is_short xs) (zeros size ++ drop size xs) e
   where
-    go : (b : Bool) (ys : List ℕ) → refusal_of (clear_row (cond b (NotCleared 1) Done)) ≡ suc n → cond b xs ys ≡ xs
+    go : (b : Bool) (ys : List ℕ) → refusal_of (clear_row (cond b (Err 1) (Ok tt))) ≡ suc n → cond b xs ys ≡ xs
     go true ys e = refl
     go false ys e = absurd (omega arith)
 

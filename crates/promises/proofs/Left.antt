@@ -14,8 +14,7 @@ use Rattle.rules.specs.declared.Level.{Level}
 use Rattle.rules.specs.Valid.{has_rate}
 use Rattle.machine.specs.declared.Offer.{Offer}
 use Rattle.machine.specs.declared.Sent.{Sent}
-use Rattle.machine.specs.declared.Answer.{Answer}
-use Rattle.machine.specs.declared.Answer.TheVariants.{Refused, Judged, Left, Standing}
+use Rattle.machine.specs.Answer.{Answer, Refused, Judged, Left, Standing}
 use Rattle.machine.specs.State.{State, Locks, rules_in, roots_in}
 use Rattle.machine.specs.Entries.{is_entry, is_flagged, recent}
 use Rattle.machine.specs.Effects.{effect_of, last_reset, zeroing, lifting, ZeroesNone}

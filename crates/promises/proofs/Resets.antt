@@ -12,7 +12,7 @@ use Rattle.machine.specs.State.{State}
 use Rattle.machine.specs.Calls.{Call, order}
 use Rattle.machine.specs.Refusals.{refusal_of}
 use Rattle.machine.specs.Judge.{log_places, judged, unless, judge, step_in, step, is_refusal}
-use Rattle.machine.specs.declared.Answer.TheVariants.{Refused}
+use Rattle.machine.specs.Answer.{Refused}
 use Rattle.state.specs.State.{size, encode, decode, stored}
 use Rattle.state.specs.Sound.{SoundState}
 use Rattle.state.proofs.Exactly.{restored}

@@ -18,8 +18,7 @@ use Rattle.state.proofs.Exactly.{given-is-made, sound-decode, sound-state-fits}
 use Rattle.state.proofs.Stored.{decode-stored}
 use Rattle.calls.specs.Calls.{is_short, mark_of, arm_refusal, arm_answer, arm_memory, memory_refusal}
 use Rattle.calls.proofs.Armed.{sound-memory}
-use Rattle.views.specs.declared.Listing.TheVariants.{Written, Short, Refused as NotListed}
-use Rattle.views.specs.Views.{asked, list_answer, list_room, profile_answer, profile_room}
+use Rattle.views.specs.Views.{Listed, Short, NotListed, asked, list_answer, list_room, profile_answer, profile_room}
 use Rattle.promises.specs.Written.{text_in, MayBeArmed, WrittenOut}
 use Rattle.promises.proofs.Fresh.{fresh-sound, accepted-made}
 

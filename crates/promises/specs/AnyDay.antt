@@ -5,7 +5,7 @@ use Rattle.rules.specs.Allowance.{All}
 use Rattle.profile.specs.Reading.{Reading, Refused as NotRead}
 use Rattle.machine.specs.Calls.{Call}
 use Rattle.calls.specs.Calls.{arm_answer, arm_memory, call_answer, call_memory, text_answer, text_memory}
-use Rattle.calls.specs.declared.Wording.{Wording}
+use Rattle.std.specs.Prelude.{Result}
 use Rattle.demand.specs.Run.{Event}
 use Rattle.promises.specs.Day.{Promised}
 
@@ -21,7 +21,7 @@ pub data AnyCall : Type 0 where
 -- a call with what it was answered; Text's room, as it was lent and as it was left
 pub data AnyEvent : Type 0 where
   armed : List ℕ → Reading → AnyEvent
-  said : ℕ → List ℕ → Wording → List ℕ → AnyEvent
+  said : ℕ → List ℕ → Result ℕ ℕ → List ℕ → AnyEvent
   called : Event → AnyEvent
 
 -- a day so far: the memory now, and the calls with their answers, the newest first

@@ -7,11 +7,11 @@ use Rattle.profile.specs.Profile.{outcome_of, reading_of}
 use Rattle.profile.specs.Reading.{Refused as NotRead}
 use Rattle.state.specs.State.{size, decode}
 use Rattle.state.specs.Sound.{Sound}
-use Rattle.machine.specs.declared.Answer.TheVariants.{Refused}
+use Rattle.machine.specs.Answer.{Refused}
 use Rattle.machine.specs.Calls.{Call}
 use Rattle.machine.specs.Judge.{Result}
 use Rattle.calls.specs.Calls.{arm_answer, arm_memory, clear_answer, clear_memory, call_answer, call_memory}
-use Rattle.calls.specs.declared.Clearing.TheVariants.{Done}
+use Rattle.std.specs.declared.result.Result.TheVariants.{Ok}
 use Rattle.demand.specs.Run.{Event, run_of}
 use Rattle.demand.specs.Demand.{Demand3}
 use Rattle.demand.specs.Answers.{Each}
@@ -89,7 +89,7 @@ pub record Promised (before text : List ℕ) (calls : List Call) (day : Day) : T
   -- a second Arm is refused with 3, and changes nothing
   pub armed_once : (other : List ℕ) → (arm_answer day.memory other ≡ NotRead 3 0) × (arm_memory day.memory other ≡ day.memory)
   -- Clear ends the day: the state's numbers become zeros, the rest is as it was, and the memory is idle
-  pub clears : clear_answer day.memory ≡ Done
+  pub clears : clear_answer day.memory ≡ Ok tt
   pub zeroed : clear_memory day.memory ≡ zeros size ++ drop size before
   pub ended : Idle (clear_memory day.memory)
 

@@ -2,7 +2,7 @@
 use Rattle.std.specs.Prelude.{ℕ, ◌≤◌, ◌≡◌, true, List, []}
 use Rattle.laws.specs.Folds.{every}
 use Rattle.machine.specs.declared.Offer.{Offer}
-use Rattle.machine.specs.declared.Answer.TheVariants.{Refused}
+use Rattle.machine.specs.Answer.{Refused}
 use Rattle.machine.specs.State.{State, roots_in}
 use Rattle.machine.specs.Entries.{is_flagged}
 use Rattle.machine.specs.Register.{kept_places}

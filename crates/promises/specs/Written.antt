@@ -6,8 +6,7 @@ use Rattle.profile.specs.Reading.{Accepted}
 use Rattle.writing.specs.Writing.{text_of, text_most}
 use Rattle.state.specs.State.{size, decode, stored}
 use Rattle.calls.specs.Calls.{mark_of, arm_answer, arm_memory}
-use Rattle.views.specs.declared.Listing.TheVariants.{Written, Short}
-use Rattle.views.specs.Views.{profile_answer, profile_room}
+use Rattle.views.specs.Views.{Listed, Short, profile_answer, profile_room}
 
 -- the text of the profile that a memory holds
 abbrev pub text_in : List ℕ → List ℕ
@@ -21,7 +20,7 @@ MayBeArmed fresh = (size ≤ length fresh) × (mark_of fresh ≡ 0)
 pub record WrittenOut (memory : List ℕ) : Type 0 where
   -- with room for it the size is answered and the text stands in front; bytes past it are untouched
   pub written : (room : List ℕ) → length (text_in memory) ≤ length room
-      → (profile_answer memory room ≡ Written (length (text_in memory))) × (profile_room memory room ≡ text_in memory ++ drop (length (text_in memory)) room)
+      → (profile_answer memory room ≡ Listed (length (text_in memory))) × (profile_room memory room ≡ text_in memory ++ drop (length (text_in memory)) room)
   -- in less room nothing is written, and the size that is needed is answered with 1
   pub short : (room : List ℕ) → length room < length (text_in memory)
       → (profile_answer memory room ≡ Short (length (text_in memory))) × (profile_room memory room ≡ room)

@@ -9,10 +9,10 @@ use Rattle.refusals.specs.Numbers.{refusal_number, refused_with, numbered}
 abbrev in_order : List Refusal
 in_order = NoRoom ∷ NoRoom ∷ Unsound ∷ ArmedAlready ∷ NotArmed ∷ ProfileLength ∷ Malformed ∷ OtherFirm ∷ OutOfRange ∷ LevelClash ∷ UnitClash ∷ TooMany ∷ BadTime ∷ Unknown ∷ BadAmount ∷ LogFull ∷ FaultyRecord ∷ RegisterFull ∷ IdentityClash ∷ OverReported ∷ Unfit ∷ AccountFull ∷ []
 
-abbrev refusal_at : ℕ → Refusal
+abbrev pub refusal_at : ℕ → Refusal
 refusal_at n = get_or in_order n NoRoom
 
-refusal_at_number : (r : Refusal) → refusal_at (refusal_number r) ≡ r
+pub refusal_at_number : (r : Refusal) → refusal_at (refusal_number r) ≡ r
 refusal_at_number NoRoom = refl
 refusal_at_number Unsound = refl
 refusal_at_number ArmedAlready = refl
@@ -46,6 +46,13 @@ one_numbered (Err r) (Err t) e = let same : refusal_number r ≡ refusal_number 
 one_numbered (Ok x) (Err t) e = absurd (let w : ◌≡◌ {A = ℕ} 0 1 = cc in omega arith)
 one_numbered (Err r) (Ok y) e = absurd (let w : ◌≡◌ {A = ℕ} 0 1 = cc in omega arith)
 
--- no refusal has the number 0, which stands for none
+-- no refusal has the number of none
 pub some_number : (r : Refusal) → refusal_number r ≡ 0 → ⊥
-some_number r e = let first : refusal_number r ≡ 1 = ap refusal_number (sym (refusal_at_number r) ∙ ap refusal_at e) in omega arith
+some_number r e = let none : NoRoom ≡ r = ap refusal_at (sym e) ∙ refusal_at_number r in let w : ◌≡◌ {A = ℕ} 1 0 = ap refusal_number none ∙ e in omega arith
+
+-- a test told by its number is one test
+pub one_tested : (a b : Result (Unit {0}) Refusal) → refused_with a ≡ refused_with b → a ≡ b
+one_tested (Ok x) (Ok y) e = refl
+one_tested (Err r) (Err t) e = ap Err (one_refusal r t e)
+one_tested (Ok x) (Err t) e = absurd (some_number t (sym e))
+one_tested (Err r) (Ok y) e = absurd (some_number r e)

@@ -1,10 +1,12 @@
 // Rows of five numbers, as document 01 gives answers: the refusal first.
 #![tactic(auto)]
 
-ghost use Rattle.std.specs.Prelude.{◌≡◌, cond, [], ◌∷◌};
+ghost use Rattle.std.specs.Prelude.{◌≡◌, [], ◌∷◌};
+ghost use Rattle.machine.specs.Answer.{answer_told};
 ghost use Rattle.machine.specs.Judge.{numbers};
 
-use machine::Answer;
+use machine::Accepted;
+use refusals::Refusal;
 
 // Writes five numbers to a row.
 pub fn put_row(row: &mut [u64; 5], a: u64, b: u64, c: u64, d: u64, e: u64)
@@ -13,32 +15,30 @@ pub fn put_row(row: &mut [u64; 5], a: u64, b: u64, c: u64, d: u64, e: u64)
     *row = [a, b, c, d, e];
 }
 
-// A flag as a number.
-fn flag(b: bool) -> u64
-    ensures { result ≡ cond b 1 0 }
-{
-    if b { 1 } else { 0 }
-}
-
 // Writes the row of an answer.
-pub fn put_answer(answer: Answer, row: &mut [u64; 5])
-    ensures { row.new ≡ numbers answer }
+#[tactic(auto, unfolding(machine::specs::Judge::numbers))]
+pub fn put_answer(answer: Result<Accepted, Refusal>, row: &mut [u64; 5])
+    ensures { row.new ≡ numbers (answer_told answer) }
 {
-    match answer {
-        Answer::Refused(number) => put_row(row, number, 0, 0, 0, 0),
-        Answer::Judged {
+    *row = match answer {
+        Err(refusal) => [refusal.number(), 0, 0, 0, 0],
+        Ok(Accepted::Judged {
             verdict,
             grant,
             roottrip,
             firmtrip,
-        } => put_row(row, 0, verdict, grant, flag(roottrip), flag(firmtrip)),
-        Answer::Left(n) => put_row(row, 0, n, 0, 0, 0),
-        Answer::Standing(roots) => {
+        }) => {
+            let root = u64::from(roottrip);
+            let firm = u64::from(firmtrip);
+            [0, verdict, grant, root, firm]
+        }
+        Ok(Accepted::Left(left)) => [0, left, 0, 0, 0],
+        Ok(Accepted::Standing(roots)) => {
             let tripped = roots.tripped as u64;
             let user = roots.user as u64;
             let locked = roots.locked as u64;
             let lowest = roots.lowest as u64;
-            put_row(row, 0, tripped, user, locked, lowest)
+            [0, tripped, user, locked, lowest]
         }
-    }
+    };
 }

@@ -7,7 +7,7 @@ use mathlib.Core.List.{List, [], ◌∷◌, ◌++◌, append_assoc}
 use lib.ListN.{length, get_or, take, drop}
 use lib.Dec.{eqb}
 use borrow.Author.Tests.{eq-eqb, ne_eqb}
-use Rattle.machine.specs.declared.Answer.{Answer}
+use Rattle.machine.specs.Answer.{Answer}
 use Rattle.machine.specs.State.{State, rules_in}
 use Rattle.machine.specs.Calls.{Call}
 use Rattle.machine.specs.Deeds.{Deed, nothing}
@@ -24,8 +24,7 @@ use Rattle.firms.specs.Doings.{call, joins, after_doing}
 use Rattle.firms.specs.Sound.{SoundSeat, SoundSeats}
 use Rattle.firms.proofs.Places.{never-refusal}
 use Rattle.firms.proofs.Sound.{sound-facing}
-use Rattle.seats.specs.declared.offers.Called.{Called}
-use Rattle.seats.specs.Memory.{state_size, seat_part, encode_seat, decode_seat, encode_seats, stored_seats, decode_seats, is_seat, firm_refusal, firm_of, firm_answer, firm_memory, Done}
+use Rattle.seats.specs.Memory.{state_size, seat_part, encode_seat, decode_seat, encode_seats, stored_seats, decode_seats, is_seat, firm_refusal, firm_of, firm_answer, firm_memory, Done, Called}
 use Rattle.seats.proofs.Laws.{Tests, Seated, seated, seat-long, seats-parts, seat-again, seat-put}
 use Rattle.seats.proofs.Exactly.{tested-sound, encoded-long, encoded-passes, encoded-again, part-first, part-second, all-again, all-seated, all_rest}
 use Rattle.seats.proofs.Calls.{Ready, ready-is, own, own-sound, own-taken, other, judgement, firm-answer, seats-after, put-stored, span, lent_is}

@@ -12,8 +12,7 @@ use Rattle.laws.proofs.Tests.{and_i}
 use Rattle.measures.specs.Ranges.{◌to◌, is_in, times, units, premiums, offers}
 use Rattle.rules.specs.Valid.{has_rate}
 use Rattle.rules.specs.declared.Level.TheVariants.{Firm, Root}
-use Rattle.machine.specs.declared.Answer.{Answer}
-use Rattle.machine.specs.declared.Answer.TheVariants.{Refused, Judged}
+use Rattle.machine.specs.Answer.{Answer, Refused, Judged}
 use Rattle.machine.specs.declared.Offer.{Offer}
 use Rattle.machine.specs.State.{State, rules_in, roots_in}
 use Rattle.machine.specs.Entries.{recent}
@@ -41,8 +40,7 @@ use Rattle.calls.proofs.Armed.{sound-memory}
 use Rattle.calls.proofs.Offers.{met-asked, met-free}
 use Rattle.firms.specs.Seats.{Seat, empty, taken, use_of, own_places, room_beside}
 use Rattle.firms.specs.Doings.{joins}
-use Rattle.seats.specs.declared.offers.Called.{Called}
-use Rattle.seats.specs.Memory.{decode_seat, is_seat, Done}
+use Rattle.seats.specs.Memory.{decode_seat, is_seat, Done, Called}
 use Rattle.seats.proofs.Tested.{use-low}
 use borrow.Author.Tests.{eqb-true}
 use Rattle.laws.proofs.Tests.{and_l}

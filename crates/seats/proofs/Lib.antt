@@ -11,3 +11,4 @@ pub mod Uses
 pub mod Clearing
 pub mod Armable
 pub mod ArmKept
+pub mod Told

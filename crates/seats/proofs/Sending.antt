@@ -11,8 +11,7 @@ use borrow.Author.Tests.{eq-eqb, ne_eqb, lt-ltb, le-ltb, ltb-true, ltb-false}
 use Rattle.laws.proofs.Tests.{and_l, and_r, and_i}
 use Rattle.measures.specs.Ranges.{is_in, units, premiums, offers, identities, reports_asked}
 use Rattle.rules.specs.Valid.{has_rate}
-use Rattle.machine.specs.declared.Answer.{Answer}
-use Rattle.machine.specs.declared.Answer.TheVariants.{Refused}
+use Rattle.machine.specs.Answer.{Answer, Refused}
 use Rattle.machine.specs.declared.Offer.{Offer}
 use Rattle.machine.specs.State.{State, rules_in, roots_in}
 use Rattle.machine.specs.Entries.{are_ordered, recent}
@@ -33,8 +32,7 @@ use Rattle.calls.proofs.Steps.{accepted-by, acts}
 use Rattle.calls.proofs.Offers.{in_order}
 use Rattle.firms.specs.Doings.{joins}
 use Rattle.firms.proofs.Places.{never-refusal}
-use Rattle.seats.specs.declared.offers.Called.{Called}
-use Rattle.seats.specs.Memory.{Done, quiet}
+use Rattle.seats.specs.Memory.{Done, quiet, Called}
 use Rattle.seats.proofs.Granting.{ready_of, refused-done, acts-done}
 
 and-true : (b : Bool) → (b && true) ≡ b

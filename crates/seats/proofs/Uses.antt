@@ -16,17 +16,18 @@ use Rattle.state.specs.Sound.{is_sound}
 use Rattle.state.proofs.Exactly.{sound-decode}
 use Rattle.firms.specs.Seats.{facing, room_beside}
 use Rattle.seats.specs.declared.Using.{Using}
-use Rattle.seats.specs.declared.Using.TheVariants.{Places, Refused as NotUsed}
+use Rattle.std.specs.Prelude.{Result}
+use Rattle.std.specs.declared.result.Result.TheVariants.{Ok, Err}
 use Rattle.seats.specs.Memory.{seat_part, decode_seats, firm_refusal, firm_of, use_in, use_answer}
 
 -- ---- of one firm's part, by the clock that was read
 
 module _ (xs : List ℕ) (time places : ℕ) {clock : ℕ} (is : clock ≡ (decode xs).part.clock) where
-  pub use-late : not (is_in times time && leb clock time) ≡ true → NotUsed 12 ≡ use_in (decode xs) places time
+  pub use-late : not (is_in times time && leb clock time) ≡ true → Err 12 ≡ use_in (decode xs) places time
   unfolding use_in bad_time
   use-late h = rw (← is, h)
 
-  pub use-told : not (is_in times time && leb clock time) ≡ false → {n : ℕ} → n ≡ used (decode xs) time → Places n places ≡ use_in (decode xs) places time
+  pub use-told : not (is_in times time && leb clock time) ≡ false → {n : ℕ} → n ≡ used (decode xs) time → Ok (record { used = n; places = places }) ≡ use_in (decode xs) places time
   unfolding use_in bad_time
   use-told h e =
       let late : not (is_in times time && leb (decode xs).part.clock time) ≡ false = ap (λ (t : ℕ). not (is_in times time && leb t time)) (sym is) ∙ h in
@@ -41,11 +42,11 @@ use-ordered xs h time {clock} is late =
 
 -- ---- of the state
 
-pub use-refused : (xs : List ℕ) (firm : ℕ) {n : ℕ} → n ≡ firm_refusal xs firm → (n ≡ 0 → ⊥) → (time : ℕ) → NotUsed n ≡ use_answer xs firm time
+pub use-refused : (xs : List ℕ) (firm : ℕ) {n : ℕ} → n ≡ firm_refusal xs firm → (n ≡ 0 → ⊥) → (time : ℕ) → Err n ≡ use_answer xs firm time
 unfolding use_answer
 use-refused xs firm e h time = rw (← e, ne_eqb _ _ h)
 
-pub use-asked : (xs : List ℕ) (firm : ℕ) → firm_refusal xs firm ≡ 0 → (time : ℕ) {part : List ℕ} {places : ℕ} {r : Using} → part ≡ seat_part firm xs
+pub use-asked : (xs : List ℕ) (firm : ℕ) → firm_refusal xs firm ≡ 0 → (time : ℕ) {part : List ℕ} {places : ℕ} {r : Result Using ℕ} → part ≡ seat_part firm xs
     → places ≡ room_beside (facing (firm_of firm) (decode_seats xs)).second → r ≡ use_in (decode part) places time → r ≡ use_answer xs firm time
 unfolding use_answer
 use-asked xs firm none time own room is = is ∙ rw (own, room, none)

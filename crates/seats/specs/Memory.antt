@@ -1,8 +1,10 @@
 -- The state in lent memory: its two seats side by side, each zeros or the numbers of an armed state. Assumes nothing.
-use Rattle.std.specs.Prelude.{ℕ, ◌+◌, ◌*◌, ◌-◌, ◌≡◌, Bool, true, false, not, cond, ◌&&◌, ◌||◌, List, [], ◌∷◌, ◌++◌, length, get_or, take, drop, eqb, leb, ltb}
+use Rattle.std.specs.Prelude.{ℕ, ◌+◌, ◌*◌, ◌-◌, ◌≡◌, Bool, true, false, not, cond, ◌&&◌, ◌||◌, List, [], ◌∷◌, ◌++◌, length, get_or, take, drop, eqb, leb, ltb, Result}
 use Rattle.tables.specs.Inner.Tables.{zeros, all_zero}
-use Rattle.machine.specs.declared.Answer.{Answer}
-use Rattle.machine.specs.declared.Answer.TheVariants.{Refused}
+use Rattle.std.specs.declared.result.Result.TheVariants.{Ok, Err}
+use Rattle.refusals.specs.declared.Refusal.{Refusal}
+use Rattle.refusals.specs.Numbers.{refusal_number}
+use Rattle.machine.specs.Answer.{Answer, Refused, answer_told}
 use Rattle.machine.specs.State.{State, rules_in}
 use Rattle.machine.specs.Step.{after}
 use Rattle.machine.specs.Calls.{Call}
@@ -11,14 +13,11 @@ use Rattle.machine.specs.Judge.{judge, log_places, is_refusal}
 use Rattle.state.specs.State.{size, encode, decode, stored}
 use Rattle.state.specs.Sound.{Given, is_sound}
 use Rattle.firms.specs.Seats.{Seat, empty, taken, Seats, vacant, facing, room_beside}
-use Rattle.calls.specs.declared.Clearing.{Clearing}
-use Rattle.calls.specs.declared.Clearing.TheVariants.{Done as Cleared, Refused as NotCleared}
 use Rattle.firms.specs.Doings.{arm, call, clear, Reply, refused, done, answered, is_taken, name_of, joins, reply_to, after_doing}
 use Rattle.profile.specs.Profile.{Outcome, outcome_beside, reading_of}
 use Rattle.profile.specs.Reading.{Reading, Refused as NotRead}
-use Rattle.seats.specs.declared.offers.Called.{Called}
+use Rattle.seats.specs.declared.offers.Called.{Called as WasCalled}
 use Rattle.seats.specs.declared.Using.{Using}
-use Rattle.seats.specs.declared.Using.TheVariants.{Places, Refused as NotUsed}
 use Rattle.firms.specs.Sound.{SoundSeats}
 
 -- how many numbers the state takes
@@ -104,14 +103,14 @@ firm_memory xs firm c =
 -- ---- how much of the log a firm uses
 
 -- 12 for a time that its calls would refuse; else its use at that time, and the places that it may use in all
-unfoldable pub use_in : State → ℕ → ℕ → Using
-use_in s places time = cond (bad_time s.part time) (NotUsed 12) (Places (used s time) places)
+unfoldable pub use_in : State → ℕ → ℕ → Result Using ℕ
+use_in s places time = cond (bad_time s.part time) (Err 12) (Ok (record { used = used s time; places = places }))
 
-unfoldable pub use_answer : List ℕ → ℕ → ℕ → Using
+unfoldable pub use_answer : List ℕ → ℕ → ℕ → Result Using ℕ
 use_answer xs firm time =
     cond (eqb (firm_refusal xs firm) 0)
     (use_in (decode (seat_part firm xs)) (room_beside (facing (firm_of firm) (decode_seats xs)).second) time)
-    (NotUsed (firm_refusal xs firm))
+    (Err (firm_refusal xs firm))
 
 -- ---- clearing
 
@@ -119,15 +118,15 @@ use_answer xs firm time =
 unfoldable pub clear_refusal : List ℕ → ℕ → ℕ
 clear_refusal xs firm = first_of ((ltb (length xs) state_size, 1) ∷ (ltb 1 firm, 13) ∷ (not (is_sound_memory xs), 2) ∷ [])
 
-unfoldable pub clear_firm_answer : List ℕ → ℕ → Clearing
-clear_firm_answer xs firm = cond (eqb (clear_refusal xs firm) 0) Cleared (NotCleared (clear_refusal xs firm))
+unfoldable pub clear_firm_answer : List ℕ → ℕ → Result (Unit {0}) ℕ
+clear_firm_answer xs firm = cond (eqb (clear_refusal xs firm) 0) (Ok tt) (Err (clear_refusal xs firm))
 
 unfoldable pub clear_firm_memory : List ℕ → ℕ → List ℕ
 clear_firm_memory xs firm = cond (eqb (clear_refusal xs firm) 0) (stored_seats (after_doing (firm_of firm) (decode_seats xs) clear) xs) xs
 
 -- the whole state, whatever the memory held
-unfoldable pub clear_all_answer : List ℕ → Clearing
-clear_all_answer xs = cond (ltb (length xs) state_size) (NotCleared 1) Cleared
+unfoldable pub clear_all_answer : List ℕ → Result (Unit {0}) ℕ
+clear_all_answer xs = cond (ltb (length xs) state_size) (Err 1) (Ok tt)
 
 unfoldable pub clear_all_memory : List ℕ → List ℕ
 clear_all_memory xs = cond (ltb (length xs) state_size) xs (stored_seats vacant xs)
@@ -160,6 +159,11 @@ arm_memory xs firm text =
 
 -- ---- a call on a firm's own seat
 
+-- what it is answered, and whether an entry joined the log
+pub record Called : Type 0 where
+  pub answer : Answer
+  pub joined : Bool
+
 -- what it is answered and leaves, with this room, and whether an entry joined the log
 pub record Done (room : ℕ) (c : Call) (xs ys : List ℕ) (r : Called) : Type 0 where
   pub answer : r.answer ≡ (judge room (decode xs) c).answer
@@ -169,3 +173,8 @@ pub record Done (room : ℕ) (c : Call) (xs ys : List ℕ) (r : Called) : Type 0
 -- an answer by which no entry joined
 abbrev pub quiet : Answer → Called
 quiet a = record { answer = a; joined = false }
+
+-- what the code answers, in these words: by a refusal no entry joins
+abbrev pub called_told : Result WasCalled Refusal → Called
+called_told (Ok c) = record { answer = answer_told (Ok c.accepted); joined = c.joined }
+called_told (Err r) = quiet (Refused (refusal_number r))

@@ -2,6 +2,8 @@
 #![tactic(auto)]
 
 ghost use Rattle.std.specs.Prelude.{◌≡◌, true, ◌≤◌, length};
+ghost use Rattle.refusals.specs.Numbers.{refused_with, numbered};
+ghost use Rattle.machine.specs.Answer.{answer_told};
 ghost use Rattle.machine.specs.Calls.{Call};
 ghost use Rattle.profile.specs.Reading.{reading_told};
 ghost use Rattle.state.specs.State.{size, decode};
@@ -14,15 +16,15 @@ pub mod offers;
 pub mod sends;
 mod trims;
 
-use calls::Clearing;
-use machine::{Answer, Offer};
+use machine::{Accepted, Offer};
 use profile::{Armed, Fault};
+use refusals::Refusal;
 
-// What a question for the use of the log is answered: the use and the places that the firm may use in all, or a refusal.
+// The use of the log, and the places that the firm may use in all.
 #[derive(Clone, Copy)]
-pub enum Using {
-    Places { used: u64, places: u64 },
-    Refused(u64),
+pub struct Using {
+    pub used: u64,
+    pub places: u64,
 }
 
 // How many numbers the state takes.
@@ -74,24 +76,24 @@ pub fn is_sound(m: &[u64]) -> bool
     fit_together(first, second)
 }
 
-// The refusal that a firm's call meets by the memory and the firm's number, 0 for none.
-pub fn refusal(m: &[u64], firm: u64) -> u64
-    ensures { result ≡ firm_refusal m.now firm }
+// The refusal that a firm's call meets by the memory and the firm's number.
+pub fn refusal(m: &[u64], firm: u64) -> Result<(), Refusal>
+    ensures { refused_with result ≡ firm_refusal m.now firm }
 {
     if m.len() < SIZE {
-        return 1;
+        return Err(Refusal::NoRoom);
     }
     if 1 < firm {
-        return 13;
+        return Err(Refusal::Unknown);
     }
     let at = firm as usize * state::SIZE;
     if m[at] == 0 {
-        return 4;
+        return Err(Refusal::NotArmed);
     }
     if !is_sound(m) {
-        return 2;
+        return Err(Refusal::Unsound);
     }
-    0
+    Ok(())
 }
 
 // The part of a firm that no refusal keeps from its call.
@@ -115,27 +117,24 @@ pub fn places_for(m: &[u64], firm: u64) -> u64
 }
 
 // The use of the log in a firm's part at a time, beside so many places that it may use.
-fn used_in(s: &[u64], time: u64, places: u64) -> Using
+fn used_in(s: &[u64], time: u64, places: u64) -> Result<Using, Refusal>
     requires { is_sound s.now ≡ true }
-    ensures { result ≡ use_in (decode s.now) places time }
+    ensures { numbered result ≡ use_in (decode s.now) places time }
 {
     if calls::refusing::bad_time(time, state::clock_in(s)) {
-        return Using::Refused(12);
+        return Err(Refusal::BadTime);
     }
-    Using::Places {
+    Ok(Using {
         used: state::used_at(s, time),
         places,
-    }
+    })
 }
 
 // How much of the log a firm uses at a time, and how much it may use. No clock moves.
-pub fn log_use(m: &[u64], firm: u64, time: u64) -> Using
-    ensures { result ≡ use_answer m.now firm time }
+pub fn log_use(m: &[u64], firm: u64, time: u64) -> Result<Using, Refusal>
+    ensures { numbered result ≡ use_answer m.now firm time }
 {
-    let refusal = refusal(m, firm);
-    if refusal != 0 {
-        return Using::Refused(refusal);
-    }
+    refusal(m, firm)?;
     let places = places_for(m, firm);
     used_in(part(m, firm), time, places)
 }
@@ -161,62 +160,50 @@ pub fn arm(m: &mut [u64], firm: u64, text: &[u8]) -> Result<Armed, Fault>
 }
 
 // How the roots of a firm stand.
-pub fn status(m: &[u64], firm: u64) -> Answer
-    ensures { result ≡ firm_answer m.now firm Call.status }
+pub fn status(m: &[u64], firm: u64) -> Result<Accepted, Refusal>
+    ensures { answer_told result ≡ firm_answer m.now firm Call.status }
 {
-    let refusal = refusal(m, firm);
-    if refusal != 0 {
-        return Answer::Refused(refusal);
-    }
+    refusal(m, firm)?;
     let at = firm as usize * state::SIZE;
     let end = at + state::SIZE;
-    calls::tested::status(&m[at..end])
+    Ok(calls::tested::status(&m[at..end]))
 }
 
 // A lockout of a root of a firm, or of the firm.
-pub fn lockout(m: &mut [u64], firm: u64, time: u64, level: u64, root: u64) -> Answer
-    ensures value { result ≡ firm_answer m.old firm (Call.lockout time level root) }
+pub fn lockout(m: &mut [u64], firm: u64, time: u64, level: u64, root: u64) -> Result<Accepted, Refusal>
+    ensures value { answer_told result ≡ firm_answer m.old firm (Call.lockout time level root) }
     ensures m_after { m.new ≡ firm_memory m.old firm (Call.lockout time level root) }
 {
-    let refusal = refusal(m, firm);
-    if refusal != 0 {
-        return Answer::Refused(refusal);
-    }
+    refusal(m, firm)?;
     let at = firm as usize * state::SIZE;
     let end = at + state::SIZE;
     calls::tested::lockout(&mut m[at..end], time, level, root)
 }
 
 // An offered fill of a firm; when its entry joins the log, the other's old ones leave too.
-pub fn offer(m: &mut [u64], firm: u64, o: Offer) -> Answer
-    ensures value { result ≡ firm_answer m.old firm (Call.offer o) }
+pub fn offer(m: &mut [u64], firm: u64, o: Offer) -> Result<Accepted, Refusal>
+    ensures value { answer_told result ≡ firm_answer m.old firm (Call.offer o) }
     ensures m_after { m.new ≡ firm_memory m.old firm (Call.offer o) }
 {
-    let refusal = refusal(m, firm);
-    if refusal != 0 {
-        return Answer::Refused(refusal);
-    }
+    refusal(m, firm)?;
     let at = firm as usize * state::SIZE;
     let end = at + state::SIZE;
     let other = state::SIZE - at;
     let close = other + state::SIZE;
     let room = offers::room_beside(&m[other..close]);
-    let called = offers::own_offer(&mut m[at..end], o, room);
+    let called = offers::own_offer(&mut m[at..end], o, room)?;
     if called.joined {
         trims::trim_seat(&mut m[other..close]);
     }
-    called.answer
+    Ok(called.accepted)
 }
 
 // An order of a firm to be sent away.
-pub fn send(m: &mut [u64], firm: u64, o: Offer, identity: u64, reports: u64) -> Answer
-    ensures value { result ≡ firm_answer m.old firm (Call.send o identity reports) }
+pub fn send(m: &mut [u64], firm: u64, o: Offer, identity: u64, reports: u64) -> Result<Accepted, Refusal>
+    ensures value { answer_told result ≡ firm_answer m.old firm (Call.send o identity reports) }
     ensures m_after { m.new ≡ firm_memory m.old firm (Call.send o identity reports) }
 {
-    let refusal = refusal(m, firm);
-    if refusal != 0 {
-        return Answer::Refused(refusal);
-    }
+    refusal(m, firm)?;
     let at = firm as usize * state::SIZE;
     let end = at + state::SIZE;
     let other = state::SIZE - at;
@@ -226,94 +213,82 @@ pub fn send(m: &mut [u64], firm: u64, o: Offer, identity: u64, reports: u64) -> 
 }
 
 // A fill of a firm that came back; its entry joins the log where it has a rate rule, and then the other's old ones leave too.
-pub fn report(m: &mut [u64], firm: u64, time: u64, identity: u64, contracts: u64) -> Answer
-    ensures value { result ≡ firm_answer m.old firm (Call.report time identity contracts) }
+pub fn report(m: &mut [u64], firm: u64, time: u64, identity: u64, contracts: u64) -> Result<Accepted, Refusal>
+    ensures value { answer_told result ≡ firm_answer m.old firm (Call.report time identity contracts) }
     ensures m_after { m.new ≡ firm_memory m.old firm (Call.report time identity contracts) }
 {
-    let refusal = refusal(m, firm);
-    if refusal != 0 {
-        return Answer::Refused(refusal);
-    }
+    refusal(m, firm)?;
     let at = firm as usize * state::SIZE;
     let end = at + state::SIZE;
     let other = state::SIZE - at;
     let close = other + state::SIZE;
-    let called = sends::own_report(&mut m[at..end], time, identity, contracts);
+    let called = sends::own_report(&mut m[at..end], time, identity, contracts)?;
     if called.joined {
         trims::trim_seat(&mut m[other..close]);
     }
-    called.answer
+    Ok(called.accepted)
 }
 
 // An order of a firm: the reset comes first, then the verdict.
-pub fn order(m: &mut [u64], firm: u64, time: u64, root: u64, reset: u64) -> Answer
-    ensures value { result ≡ firm_answer m.old firm (Call.order time root reset) }
+pub fn order(m: &mut [u64], firm: u64, time: u64, root: u64, reset: u64) -> Result<Accepted, Refusal>
+    ensures value { answer_told result ≡ firm_answer m.old firm (Call.order time root reset) }
     ensures m_after { m.new ≡ firm_memory m.old firm (Call.order time root reset) }
 {
-    let refusal = refusal(m, firm);
-    if refusal != 0 {
-        return Answer::Refused(refusal);
-    }
+    refusal(m, firm)?;
     let at = firm as usize * state::SIZE;
     let end = at + state::SIZE;
     calls::tested::order(&mut m[at..end], time, root, reset)
 }
 
 // The order of an identity that a firm sent away is closed.
-pub fn close(m: &mut [u64], firm: u64, time: u64, identity: u64) -> Answer
-    ensures value { result ≡ firm_answer m.old firm (Call.close time identity) }
+pub fn close(m: &mut [u64], firm: u64, time: u64, identity: u64) -> Result<Accepted, Refusal>
+    ensures value { answer_told result ≡ firm_answer m.old firm (Call.close time identity) }
     ensures m_after { m.new ≡ firm_memory m.old firm (Call.close time identity) }
 {
-    let refusal = refusal(m, firm);
-    if refusal != 0 {
-        return Answer::Refused(refusal);
-    }
+    refusal(m, firm)?;
     let at = firm as usize * state::SIZE;
     let end = at + state::SIZE;
     calls::tested::close(&mut m[at..end], time, identity)
 }
 
 // What remains of the limit of a firm's rule for a unit at a time.
-pub fn remaining(m: &[u64], firm: u64, time: u64, rule: u64, unit: u64) -> Answer
-    ensures { result ≡ firm_answer m.now firm (Call.remaining time rule unit) }
+pub fn remaining(m: &[u64], firm: u64, time: u64, rule: u64, unit: u64) -> Result<Accepted, Refusal>
+    ensures { answer_told result ≡ firm_answer m.now firm (Call.remaining time rule unit) }
 {
-    let refusal = refusal(m, firm);
-    if refusal != 0 {
-        return Answer::Refused(refusal);
-    }
+    refusal(m, firm)?;
     let at = firm as usize * state::SIZE;
     let end = at + state::SIZE;
     calls::tested::remaining(&m[at..end], time, rule, unit)
 }
 
 // Clears one firm: its part becomes zeros and its entries leave; the other stays.
-pub fn clear_firm(m: &mut [u64], firm: u64) -> Clearing
-    ensures value { result ≡ clear_firm_answer m.old firm }
+pub fn clear_firm(m: &mut [u64], firm: u64) -> Result<(), Refusal>
+    ensures value { numbered result ≡ clear_firm_answer m.old firm }
     ensures m_after { m.new ≡ clear_firm_memory m.old firm }
 {
     if m.len() < SIZE {
-        return Clearing::Refused(1);
+        return Err(Refusal::NoRoom);
     }
     if 1 < firm {
-        return Clearing::Refused(13);
+        return Err(Refusal::Unknown);
     }
     if !is_sound(m) {
-        return Clearing::Refused(2);
+        return Err(Refusal::Unsound);
     }
     let at = firm as usize * state::SIZE;
     let end = at + state::SIZE;
     daylog::blank(&mut m[at..end]);
-    Clearing::Done
+    Ok(())
 }
 
 // Clears the state, whatever the memory held.
-pub fn clear(m: &mut [u64]) -> Clearing
-    ensures value { result ≡ clear_all_answer m.old }
+pub fn clear(m: &mut [u64]) -> Result<(), Refusal>
+    ensures value { numbered result ≡ clear_all_answer m.old }
     ensures m_after { m.new ≡ clear_all_memory m.old }
 {
     if m.len() < SIZE {
-        return Clearing::Refused(1);
+        return Err(Refusal::NoRoom);
     }
     daylog::blank(&mut m[..SIZE]);
-    Clearing::Done
+    Ok(())
 }

@@ -2,16 +2,18 @@
 ghost use Rattle.std.specs.Prelude.{ℕ, ◌+◌, ◌≤◌, ◌≡◌, true, ◌&&◌, ltb};
 ghost use Rattle.rules.specs.Valid.{has_rate};
 ghost use Rattle.machine.specs.State.{rules_in};
+ghost use Rattle.machine.specs.Answer.{answer_told};
 ghost use Rattle.machine.specs.Calls.{Call};
 ghost use Rattle.machine.specs.Entries.{are_ordered};
 ghost use Rattle.machine.specs.Refusals.{used};
 ghost use Rattle.state.specs.State.{decode};
 ghost use Rattle.state.specs.Sound.{is_sound};
 ghost use Rattle.state.specs.Inner.Laid.{Laid};
-ghost use Rattle.seats.specs.Memory.{Done, quiet};
+ghost use Rattle.seats.specs.Memory.{Done, quiet, called_told};
 
 use crate::offers::Called;
-use machine::{Answer, Offer};
+use machine::{Accepted, Offer};
+use refusals::Refusal;
 
 // Whether the log has a rate rule to serve, and the use at a time with so many places more passes the room.
 fn lacks(s: &[u64], time: u64, places: u64, room: u64) -> bool
@@ -25,34 +27,25 @@ fn lacks(s: &[u64], time: u64, places: u64, room: u64) -> bool
 }
 
 // An order to be sent away: 15 by the room comes last, and only at verdict 0.
-pub fn own_send(s: &mut [u64], o: Offer, identity: u64, reports: u64, room: u64) -> Answer
+pub fn own_send(s: &mut [u64], o: Offer, identity: u64, reports: u64, room: u64) -> Result<Accepted, Refusal>
     requires { (is_sound s.old ≡ true) × (room ≤ 512) }
-    ensures { Done room (Call.send o identity reports) s.old s.new (quiet result) }
+    ensures { Done room (Call.send o identity reports) s.old s.new (quiet (answer_told result)) }
 {
-    let refusal = calls::refusing::send_refusal(s, o, identity, reports);
-    if refusal != 0 {
-        return Answer::Refused(refusal);
-    }
+    calls::refusing::send_refusal(s, o, identity, reports)?;
     let verdict = locks::verdict(&s[state::LOCKS..state::REGISTER], o.root);
     if (verdict == 0) & lacks(s, o.time, reports, room) {
-        return Answer::Refused(15);
+        return Err(Refusal::LogFull);
     }
-    calls::tested::sent(s, o, identity, reports)
+    Ok(calls::tested::sent(s, o, identity, reports))
 }
 
 // A fill that came back, whatever the room.
-pub fn own_report(s: &mut [u64], time: u64, identity: u64, contracts: u64) -> Called
+pub fn own_report(s: &mut [u64], time: u64, identity: u64, contracts: u64) -> Result<Called, Refusal>
     requires { is_sound s.old ≡ true }
-    ensures { (room : ℕ) → Done room (Call.report time identity contracts) s.old s.new result }
+    ensures { (room : ℕ) → Done room (Call.report time identity contracts) s.old s.new (called_told result) }
 {
-    let refusal = calls::refusing::report_refusal(s, time, identity, contracts);
-    if refusal != 0 {
-        return Called {
-            answer: Answer::Refused(refusal),
-            joined: false,
-        };
-    }
+    calls::refusing::report_refusal(s, time, identity, contracts)?;
     let joined = 0 < state::longest_window(s);
-    let answer = calls::tested::came_back(s, time, identity, contracts);
-    Called { answer, joined }
+    let accepted = calls::tested::came_back(s, time, identity, contracts);
+    Ok(Called { accepted, joined })
 }

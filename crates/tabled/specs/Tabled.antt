@@ -1,8 +1,7 @@
 -- The day's table: what records leave of a state's memory and of its account, and the lines of the table. Assumes nothing.
 use Rattle.std.specs.Prelude.{Result, ℕ, ◌+◌, not, cond, ◌||◌, List, [], ◌∷◌, ◌++◌, eqb}
 use Rattle.text.specs.Digits.{name_bytes}
-use Rattle.machine.specs.declared.Answer.{Answer}
-use Rattle.machine.specs.declared.Answer.TheVariants.{Refused}
+use Rattle.machine.specs.Answer.{Answer, Refused}
 use Rattle.machine.specs.State.{Profile}
 use Rattle.rules.specs.declared.Level.{Level}
 use Rattle.rules.specs.declared.Level.TheVariants.{Firm, Root}

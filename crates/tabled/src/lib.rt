@@ -4,6 +4,7 @@
 ghost use Rattle.std.specs.Prelude.{◌≡◌, ◌++◌, ◌+◌, ◌≤◌, length};
 ghost use Rattle.std.proofs.lemmas.List.Edits.{sets};
 ghost use Rattle.text.specs.Digits.{name_bytes};
+ghost use Rattle.machine.specs.Answer.{answer_told};
 ghost use Rattle.answering.specs.Lines.{spaced};
 ghost use Rattle.state.specs.State.{decode};
 ghost use Rattle.state.specs.Inner.Laid.{Laid};
@@ -14,8 +15,9 @@ ghost use Rattle.accounted.specs.Accounted.{call_of};
 ghost use Rattle.tabled.specs.Tabled.{tabled_answer, tabled_memory, account_of, memory_taken, account_taken, root_lines, table_text};
 
 use accounted::Event;
-use machine::Answer;
+use machine::Accepted;
 use records::Event16;
+use refusals::Refusal;
 
 // How many bytes a table has at most: 65 lines of at most 192.
 pub const TABLE_BYTES: usize = 12_480;
@@ -73,14 +75,14 @@ fn event_of(e: Event16) -> Event
 
 // Applies the event of a record and counts it; a record that is not one is refused with 16.
 #[tactic(auto, unfolding(crate::specs::Tabled::tabled_answer, crate::specs::Tabled::tabled_memory, crate::specs::Tabled::account_of))]
-pub fn take_record(m: &mut [u64], a: &mut [u64], s: &[u8]) -> Answer
-    ensures value { result ≡ tabled_answer m.old a.old (read16_of s.now) }
+pub fn take_record(m: &mut [u64], a: &mut [u64], s: &[u8]) -> Result<Accepted, Refusal>
+    ensures value { answer_told result ≡ tabled_answer m.old a.old (read16_of s.now) }
     ensures m_after { m.new ≡ tabled_memory m.old a.old (read16_of s.now) }
     ensures a_after { a.new ≡ account_of m.old a.old (read16_of s.now) }
 {
     match records::read16(s) {
         Ok(e) => accounted::apply(m, a, event_of(e)),
-        Err(refusal) => Answer::Refused(refusal.number()),
+        Err(refusal) => Err(refusal),
     }
 }
 
@@ -131,9 +133,11 @@ pub fn put_table(m: &[u64], a: &[u64], room: &mut [u8; TABLE_BYTES]) -> usize
     if a.len() < figures::SIZE {
         return 0;
     }
-    if calls::memory_refusal(m) != 0 {
-        return 0;
+    match calls::memory_refusal(m) {
+        Err(_) => 0,
+        Ok(()) => {
+            let to = put_roots(m, a, room);
+            put_row(m[state::FIRM], &a[figures::FIRM..figures::SIZE], room, to)
+        }
     }
-    let to = put_roots(m, a, room);
-    put_row(m[state::FIRM], &a[figures::FIRM..figures::SIZE], room, to)
 }

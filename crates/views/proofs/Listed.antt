@@ -27,8 +27,7 @@ use Rattle.state.proofs.Map.{roots_told, roots-told, map-test, decode_is}
 use Rattle.state.proofs.Parts.{rules-are}
 use Rattle.calls.specs.Calls.{memory_refusal}
 use Rattle.calls.proofs.Armed.{sound-memory}
-use Rattle.views.specs.declared.Listing.TheVariants.{Written as Listed, Short, Refused as NotListed}
-use Rattle.views.specs.Views.{asked, list_answer, list_room, profile_answer, profile_room}
+use Rattle.views.specs.Views.{Listed, Short, NotListed, asked, list_answer, list_room, profile_answer, profile_room}
 use Rattle.views.proofs.Held.{laid}
 
 -- the memory meets a refusal

@@ -13,31 +13,30 @@ use Rattle.given.specs.Names.{name_bytes}
 use Rattle.writing.specs.Writing.{text_of}
 use Rattle.state.specs.State.{decode}
 use Rattle.calls.specs.Calls.{memory_refusal}
-use Rattle.calls.specs.declared.Wording.{Wording}
-use Rattle.calls.specs.declared.Wording.TheVariants.{Written, Refused as NotSaid}
-use Rattle.views.specs.declared.Found.{Found}
-use Rattle.views.specs.declared.Found.TheVariants.{Root, Refused as NotFound}
-use Rattle.views.specs.declared.Listing.{Listing}
-use Rattle.views.specs.declared.Listing.TheVariants.{Written as Listed, Short, Refused as NotListed}
-use Rattle.views.specs.declared.Told.{Told}
-use Rattle.views.specs.declared.Told.TheVariants.{Rule as Terms, Refused as NotTold}
+use Rattle.std.specs.Prelude.{Result}
+use Rattle.std.specs.declared.result.Result.TheVariants.{Ok, Err}
+use Rattle.refusals.specs.declared.Refusal.{Refusal}
+use Rattle.refusals.specs.Numbers.{refusal_number}
+use Rattle.views.specs.declared.Terms.{Terms}
+use Rattle.views.specs.declared.Unlisted.{Unlisted}
+use Rattle.views.specs.declared.Unlisted.TheVariants.{Short as RoomShort, Refused as WasRefused}
 
 -- the profile in a memory, asked for where the memory meets no refusal
 unfoldable pub asked : {A : Type 0} → List ℕ → (ℕ → A) → (Profile → A) → A
 asked xs refused answer = cond (eqb (memory_refusal xs) 0) (answer (decode xs).part.profile) (refused (memory_refusal xs))
 
 -- the place of a name among the roots, 13 where it does not stand there; bytes that are no name of 1 to 6 capitals or digits stand nowhere
-unfoldable pub found_root : List ℕ → Option ℕ → Found
-found_root roots (Some name) = cond (ltb (index_of name roots) (length roots)) (Root (index_of name roots)) (NotFound 13)
-found_root roots None = NotFound 13
+unfoldable pub found_root : List ℕ → Option ℕ → Result ℕ ℕ
+found_root roots (Some name) = cond (ltb (index_of name roots) (length roots)) (Ok (index_of name roots)) (Err 13)
+found_root roots None = Err 13
 
-unfoldable pub root_named : List ℕ → List ℕ → Found
-root_named xs name = asked xs NotFound (λ p. found_root p.roots (name_of 1 6 name))
+unfoldable pub root_named : List ℕ → List ℕ → Result ℕ ℕ
+root_named xs name = asked xs Err (λ p. found_root p.roots (name_of 1 6 name))
 
 -- a root's name: 13 for a root that is not known, then 1 for room below 6 bytes, else how many bytes the name has
-unfoldable pub name_answer : List ℕ → ℕ → List ℕ → Wording
+unfoldable pub name_answer : List ℕ → ℕ → List ℕ → Result ℕ ℕ
 name_answer roots root room =
-    cond (ltb root (length roots)) (cond (ltb (length room) 6) (NotSaid 1) (Written (length (name_bytes (get_or roots root 0))))) (NotSaid 13)
+    cond (ltb root (length roots)) (cond (ltb (length room) 6) (Err 1) (Ok (length (name_bytes (get_or roots root 0))))) (Err 13)
 
 -- the name in front of the room, and the room after it untouched; with a refusal the whole room is
 unfoldable pub name_room : List ℕ → ℕ → List ℕ → List ℕ
@@ -45,8 +44,8 @@ name_room roots root room =
     let name = name_bytes (get_or roots root 0) in
     cond (ltb root (length roots)) (cond (ltb (length room) 6) room (name ++ drop (length name) room)) room
 
-unfoldable pub root_name : List ℕ → ℕ → List ℕ → Wording
-root_name xs root room = asked xs NotSaid (λ p. name_answer p.roots root room)
+unfoldable pub root_name : List ℕ → ℕ → List ℕ → Result ℕ ℕ
+root_name xs root room = asked xs Err (λ p. name_answer p.roots root room)
 
 unfoldable pub root_name_room : List ℕ → ℕ → List ℕ → List ℕ
 root_name_room xs root room = asked xs (λ number. room) (λ p. name_room p.roots root room)
@@ -68,12 +67,30 @@ unit_of (WholeRoot root) = 4
 unit_of (OneUnit root unit) = unit
 
 -- a rule as numbers: type, limit (dollars, contracts or executions), window in milliseconds (0 for an absolute rule), root, unit
-unfoldable pub terms_of : Rule → Told
-terms_of rule = Terms (type_number rule.kind rule.limit) (limit_number rule.limit) (window_number rule.kind) (root_of rule.scope) (unit_of rule.scope)
+unfoldable pub terms_of : Rule → Terms
+terms_of rule = record {
+  ruletype = type_number rule.kind rule.limit;
+  limit = limit_number rule.limit;
+  window = window_number rule.kind;
+  root = root_of rule.scope;
+  unit = unit_of rule.scope;
+}
 
 -- a rule by its number, 13 for one that is not known
-unfoldable pub rule_told : List ℕ → ℕ → Told
-rule_told xs rule = asked xs NotTold (λ p. cond (ltb rule (length p.rules)) (terms_of (get_or p.rules rule no_account.rule)) (NotTold 13))
+unfoldable pub rule_told : List ℕ → ℕ → Result Terms ℕ
+rule_told xs rule = asked xs Err (λ p. cond (ltb rule (length p.rules)) (Ok (terms_of (get_or p.rules rule no_account.rule))) (Err 13))
+
+-- the size that was written; the size that is needed where the room is short, which is refusal 1; or a refusal
+pub data Listing : Type 0 where
+  Listed : ℕ → Listing
+  Short : ℕ → Listing
+  NotListed : ℕ → Listing
+
+-- what the code answers, in these words
+abbrev pub listing_told : Result ℕ Unlisted → Listing
+listing_told (Ok size) = Listed size
+listing_told (Err (RoomShort size)) = Short size
+listing_told (Err (WasRefused r)) = NotListed (refusal_number r)
 
 -- the whole profile as text: 1 for room below the text's size, with the size that is needed; else the size that is written
 unfoldable pub list_answer : Profile → List ℕ → Listing

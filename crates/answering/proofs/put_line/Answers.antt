@@ -4,6 +4,7 @@ use mathlib.Core.Path.{ap, ◌∙◌}
 use lib.ListN.{length}
 use lib.Seq.{sets}
 use native.Mathlib.Omega.{arith}
+use Rattle.machine.specs.Answer.{answer_told}
 use Rattle.machine.specs.Judge.{numbers}
 use Rattle.text.specs.Digits.{decimal}
 use Rattle.text.proofs.Decimal.{decimal-few}
@@ -18,10 +19,10 @@ put_decimal-next-requires c =
     omega (arith, s.requires, decimal-few s.args.place)
 
 pub slice_bounds-put_spaced-end : goal.slice_bounds-put_spaced-end
-slice_bounds-put_spaced-end c = five c.args.answer c.put_answer.ensures
+slice_bounds-put_spaced-end c = five (answer_told c.args.answer) c.put_answer.ensures
 
 pub put_spaced-requires : goal.put_spaced-requires
-put_spaced-requires c = omega (arith, c.requires, five c.args.answer c.put_answer.ensures, c.put_decimal-next.ensures.value, c.put_decimal-next.auto.room, decimal-few c.args.place)
+put_spaced-requires c = omega (arith, c.requires, five (answer_told c.args.answer) c.put_answer.ensures, c.put_decimal-next.ensures.value, c.put_decimal-next.auto.room, decimal-few c.args.place)
 
 pub returns : goal.returns
 unfolding record_line
@@ -31,7 +32,7 @@ returns c =
     let short = decimal-few place in
     let near = c.put_spaced.ensures.upper_bound in
     let is =
-    then-written c.args.room.now (decimal place) (spaced (numbers c.args.answer)) c.args.at c.put_decimal-next.ensures.value c.put_decimal-next.ensures.room_after (c.put_spaced.ensures.value ∙ ap (λ l. c.put_decimal-next.result + length (spaced l)) row)
+    then-written c.args.room.now (decimal place) (spaced (numbers (answer_told c.args.answer))) c.args.at c.put_decimal-next.ensures.value c.put_decimal-next.ensures.room_after (c.put_spaced.ensures.value ∙ ap (λ l. c.put_decimal-next.result + length (spaced l)) row)
     (c.put_spaced.ensures.room_after ∙ ap (λ l. sets c.put_decimal-next.new.room c.put_decimal-next.result (spaced l)) row)
     in
-    record { line = record { short = omega (arith, near, five c.args.answer row, c.put_decimal-next.ensures.value); inside = omega (arith, near, five c.args.answer row, c.put_decimal-next.ensures.value, c.requires) }; value = is.0; room_after = is.1 }
+    record { line = record { short = omega (arith, near, five (answer_told c.args.answer) row, c.put_decimal-next.ensures.value); inside = omega (arith, near, five (answer_told c.args.answer) row, c.put_decimal-next.ensures.value, c.requires) }; value = is.0; room_after = is.1 }

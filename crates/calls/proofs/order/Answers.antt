@@ -1,8 +1,11 @@
 -- `calls::order` meets its contract: it is refused by the memory, or it is the call on tested memory. Assumes nothing.
+use Rattle.std.proofs.lemmas.Result.{err_from_is_err_and}
 use Rattle.machine.specs.Calls.{Call}
 use Rattle.calls.proofs.Armed.{call-refused}
+use Rattle.refusals.proofs.Once.{some_number}
 use Rattle.calls.proofs.order.Goals as goal
 
-pub returns-then-refusal-ne0 : goal.returns-then-refusal-ne0
-returns-then-refusal-ne0 c =
-    let p = call-refused _ (Call.order _ _ _) _ c.memory_refusal-refusal.ensures c.if-refusal-ne0.true in record { value = p.0; m_after = p.1 }
+pub returns-in_err-memory_refusal : goal.returns-in_err-memory_refusal
+returns-in_err-memory_refusal c =
+    let e = err_from_is_err_and c.from_residual.result c.from_residual.ensures.1 in
+    let p = call-refused _ (Call.order _ _ _) _ c.in_err-memory_refusal.ensures (some_number _) in record { value = rw (e.1, e.2) p.0; m_after = p.1 }

@@ -1,30 +1,33 @@
 -- `seats::close` meets its contract: it is refused by the memory, or it is the firm's call on its own seat. Assumes nothing.
+use Rattle.std.proofs.lemmas.Result.{err_from_is_err_and}
 use mathlib.Core.Path.{sym, ◌∙◌}
 use native.Mathlib.Omega.{arith}
 use Rattle.machine.specs.Calls.{Call}
 use Rattle.seats.proofs.Calls.{refused-is, ready-is, own-tested, own-call, close-rooms, close-quiet}
+use Rattle.refusals.proofs.Once.{some_number}
 use Rattle.seats.proofs.close.Goals as goal
 
-pub returns-then-refusal-ne0 : goal.returns-then-refusal-ne0
-returns-then-refusal-ne0 c =
-    let p = refused-is _ _ _ c.refusal-refusal.ensures c.if-refusal-ne0.true (Call.close _ _) in record { value = p.0; m_after = p.1 }
+pub returns-in_err-refusal : goal.returns-in_err-refusal
+returns-in_err-refusal c =
+    let e = err_from_is_err_and c.from_residual.result c.from_residual.ensures.1 in
+    let p = refused-is _ _ _ c.in_err-refusal.ensures (some_number _) (Call.close _ _) in record { value = rw (e.1, e.2) p.0; m_after = p.1 }
 
 pub overflow_mul-at : goal.overflow_mul-at
-overflow_mul-at c = record { fits = omega (arith, (ready-is _ _ (sym c.refusal-refusal.ensures ∙ c.if-refusal-ne0.false)).known) }
+overflow_mul-at c = record { fits = omega (arith, (ready-is _ _ (sym c.in_ok-refusal.ensures)).known) }
 
 pub overflow_add-end : goal.overflow_add-end
-overflow_add-end c = record { fits = omega (arith, (ready-is _ _ (sym c.refusal-refusal.ensures ∙ c.if-refusal-ne0.false)).known) }
+overflow_add-end c = record { fits = omega (arith, (ready-is _ _ (sym c.in_ok-refusal.ensures)).known) }
 
 pub offset_bounds-m-at : goal.offset_bounds-m-at
-offset_bounds-m-at c = record { fits = omega (arith, (ready-is _ _ (sym c.refusal-refusal.ensures ∙ c.if-refusal-ne0.false)).known) }
+offset_bounds-m-at c = record { fits = omega (arith, (ready-is _ _ (sym c.in_ok-refusal.ensures)).known) }
 
 pub slice_bounds-close-end : goal.slice_bounds-close-end
-slice_bounds-close-end c = let r = ready-is _ _ (sym c.refusal-refusal.ensures ∙ c.if-refusal-ne0.false) in omega (arith, r.known, r.tests.long)
+slice_bounds-close-end c = let r = ready-is _ _ (sym c.in_ok-refusal.ensures) in omega (arith, r.known, r.tests.long)
 
 pub close-requires : goal.close-requires
-close-requires c = own-tested _ _ (ready-is _ _ (sym c.refusal-refusal.ensures ∙ c.if-refusal-ne0.false))
+close-requires c = own-tested _ _ (ready-is _ _ (sym c.in_ok-refusal.ensures))
 
 pub returns : goal.returns
 returns c =
-    let p = own-call _ _ (sym c.refusal-refusal.ensures ∙ c.if-refusal-ne0.false) (Call.close _ _)
+    let p = own-call _ _ (sym c.in_ok-refusal.ensures) (Call.close _ _)
     (λ room s. close-rooms room s _ _) (λ room s. close-quiet room s _ _) _ _ c.close.ensures.value c.close.ensures.m_after in record { value = p.0; m_after = p.1 }

@@ -1,8 +1,11 @@
 -- `tested::send` meets its contract: it is refused as it meets it, or sent. Assumes nothing.
+use Rattle.std.proofs.lemmas.Result.{err_from_is_err_and}
 use Rattle.machine.specs.Calls.{Call}
 use Rattle.calls.proofs.Steps.{refused-by}
+use Rattle.refusals.proofs.Once.{some_number}
 use Rattle.calls.proofs.tested.send.Goals as goal
 
-pub returns-then-refusal-ne0 : goal.returns-then-refusal-ne0
-returns-then-refusal-ne0 c =
-    let p = refused-by _ (Call.send c.args.o _ _) _ c.send_refusal-refusal.ensures c.if-refusal-ne0.true in record { value = p.0; m_after = p.1 }
+pub returns-in_err-send_refusal : goal.returns-in_err-send_refusal
+returns-in_err-send_refusal c =
+    let e = err_from_is_err_and c.from_residual.result c.from_residual.ensures.1 in
+    let p = refused-by _ (Call.send c.args.o _ _) _ c.in_err-send_refusal.ensures (some_number _) in record { value = rw (e.1, e.2) p.0; m_after = p.1 }

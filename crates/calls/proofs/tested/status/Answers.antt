@@ -5,7 +5,7 @@ use Rattle.machine.specs.Calls.{Call}
 use Rattle.machine.specs.Judge.{step, step_in, judge, unless, judged}
 use Rattle.machine.specs.Refusals.{refusal_of}
 use Rattle.machine.specs.Remaining.{standing}
-use Rattle.machine.specs.declared.Answer.TheVariants.{Standing}
+use Rattle.machine.specs.Answer.{Standing}
 use Rattle.locks.proofs.Laid.{locks-held, locks-are}
 use Rattle.calls.proofs.Armed.{sound-long, call-taken}
 use Rattle.calls.proofs.Steps.{laid}
