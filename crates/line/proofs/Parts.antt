@@ -1,13 +1,15 @@
 -- From the parts of a line to the whole: its places, its limit, and what it comes to by what its two halves say. Assumes nothing.
-use Prim.Native.Nat.{ℕ, suc, ◌+◌, ◌≤◌, ◌<◌}
-use mathlib.Core.Path.{◌≡◌, refl, sym, ap, ◌∙◌}
-use mathlib.Core.Bool.{Bool, true, false, cond, ◌&&◌, ◌||◌, not, beq, false≢true, and_assoc, and-false}
+use Prim.Native.Nat.{ℕ, zero, suc, ◌+◌, ◌≤◌, ◌<◌}
+use mathlib.Core.Path.{◌≡◌, refl, sym, ap, subst, ◌∙◌}
+use mathlib.Core.Logic.{◌⊎◌, inl, inr}
+use mathlib.Core.Bool.{Bool, true, false, cond, ◌&&◌, ◌||◌, not, beq, not-not, false≢true}
 use mathlib.Core.List.{List, [], ◌∷◌}
-use lib.ListN.{length, drop}
+use lib.ListN.{length, get_or, drop}
 use lib.Dec.{eqb, leb, ltb}
-use borrow.Author.Tests.{ltb-true, ne_eqb, le-leb, lt-leb, lt-ltb, le-ltb}
+use borrow.Author.Tests.{ltb-true, leb-true, ne_eqb, le-leb, lt-leb, lt-ltb, le-ltb}
 use native.Mathlib.Decide.{dec_lt}
 use native.Mathlib.Omega.{arith}
+use Rattle.std.proofs.lemmas.List.{get_or_past}
 use Rattle.laws.proofs.Tests.{tests}
 use Rattle.measures.specs.Ranges.{Range, In, is_in}
 use Rattle.measures.specs.Checked.{Taken, Beyond}
@@ -15,81 +17,16 @@ use Rattle.rules.specs.declared.Limit.{Limit}
 use Rattle.rules.specs.declared.Rule.{Rule}
 use Rattle.laws.specs.Lists.{same}
 use Rattle.laws.proofs.Lists.{same-eq}
-use Rattle.text.specs.Text.{fields, field, index_of}
-use Rattle.text.specs.Inner.Taking.{Cursor, field_at, Near, taken_as}
-use Rattle.std.specs.Prelude.{Option, Some, None, Result, Ok, Err}
-use Rattle.text.specs.declared.fields.Taken.{Taken as FieldTaken}
-use Rattle.text.proofs.Lists.{cursor-field, cursor-step, cursor-there, cursor-gone}
-use Rattle.text.proofs.Taking.{field-size, field-small}
-use Rattle.line.specs.Line.{limits_of, limit_of, letter_of, kind_of, is_absolute, type_in, limit_in, time_in, root_in, is_firm_level, call_put, month, malformed, other_firm, out_of_range, level_clash, unit_clash, fault_of, scope_of, rule_of, line_of}
-use Rattle.line.specs.Inner.Parts.{limit_read, after_field, HeadSays, TailSays}
+use Rattle.std.specs.Cmp.Lexicographic.{pointwise}
+use lib.Seq.{drop-drop}
+use Rattle.text.specs.Text.{fields, field, all, made, is_digit, numeral, field_number}
+use Rattle.text.specs.Inner.Taking.{read_as}
+use Rattle.text.proofs.Lists.{field-drop}
+use Rattle.std.specs.Prelude.{Option, Some, None, is_some, Result, Ok, Err}
+use Rattle.line.specs.Line.{firm_field, type_field, root_field, limit_field, time_field, limits_of, limit_of, letter_of, kind_of, is_absolute, type_in, limit_in, time_in, root_in, is_firm_level, call_put, month, malformed, other_firm, out_of_range, level_clash, unit_clash, fault_of, scope_of, rule_of, line_of}
+use Rattle.line.specs.Inner.Parts.{limit_read, chosen, side_number, month_number, Says}
 use Rattle.line.specs.declared.LimitType.{LimitType}
-use Rattle.line.specs.declared.fields.Head.{Head}
-use Rattle.line.specs.declared.fields.Tail.{Tail}
-
--- a field that is told by its bytes ends behind them
-pub told-end : (f word : List ℕ) (at : ℕ) {n : ℕ} → same f word ≡ true → n ≡ length word + 1 → at + n ≡ at + length f + 1
-told-end f word at e n = omega (arith, ap length (same-eq f word e))
-
--- and any field where the next comma stands, which is no far place
-module _ (line : List ℕ) (at : ℕ) {n : ℕ} (found : n ≡ at + index_of 44 (drop at line)) where
-  pub found-end : n + 1 ≡ after_field line at
-  found-end = omega (arith, field-size line at)
-
-  pub found-small : Near line at → n < 131_136
-  found-small near = omega (arith, field-small line at near)
-
--- an empty field is told by its length too, and one letter alone by its number
-pub empty-test : (f : List ℕ) → eqb (length f) 0 ≡ same f []
-unfolding same
-empty-test [] = refl
-empty-test (x ∷ xs) = ne_eqb (suc (length xs)) 0 (λ e. omega arith)
-
-pub letter-one : (a b : ℕ) (f : List ℕ) → eqb (letter_of a b f) 1 ≡ same f (a ∷ [])
-unfolding same letter_of
-letter-one a b [] = refl
-letter-one a b (x ∷ xs) = go (same (x ∷ xs) (a ∷ [])) (same (x ∷ xs) (b ∷ []))
-  where
-    go : (one two : Bool) → eqb (cond one 1 (cond two 2 3)) 1 ≡ one
-    go true two = refl
-    go false true = refl
-    go false false = refl
-
--- the place of a field lies near the line, and within it exactly if the field is there
-module _ {line : List ℕ} {at k : ℕ} (c : Cursor line at k) where
-  pub near-at : length line ≤ 65_536 → k < 9 → Near line at
-  near-at few early = (few, omega (arith, c.reach))
-
-  -- what is read at the place is read of field k, and behind it the next field begins
-  pub read_here : {A : Type 0} (read : List ℕ → A) {x : A} → x ≡ read (field_at line at) → x ≡ read (field line k)
-  read_here read e = e ∙ ap read (cursor-field c refl)
-
-  pub number-here : (read : List ℕ → Option ℕ) {t : FieldTaken} → t ≡ taken_as (read (field_at line at)) line at → t.number ≡ read (field line k)
-  number-here read e = read_here read (ap (λ (t : FieldTaken). t.number) e)
-
-  pub goes_on : {next : ℕ} → next ≡ after_field line at → Cursor line next (k + 1)
-  goes_on e = cursor-step c refl e
-
-  pub goes-past : (number : Option ℕ) {t : FieldTaken} → t ≡ taken_as number line at → Cursor line t.next (k + 1)
-  goes-past number e = goes_on (ap (λ (t : FieldTaken). t.next) e)
-
-  pub there-test : leb at (length line) ≡ leb (k + 1) (length (fields line))
-  there-test = go (dec_lt (length line) at)
-    where
-      go : Dec (length line < at) → leb at (length line) ≡ leb (k + 1) (length (fields line))
-      go (yes h) = rw (lt-leb at (length line) h, lt-leb (k + 1) (length (fields line)) (omega (arith, cursor-gone c h)))
-      go (no h) =
-          let w : at ≤ length line = omega arith in
-          rw (le-leb at (length line) w, le-leb (k + 1) (length (fields line)) (omega (arith, cursor-there c w)))
-
-  pub gone-test : ltb (length line) at ≡ leb (length (fields line)) k
-  gone-test = go (dec_lt (length line) at)
-    where
-      go : Dec (length line < at) → ltb (length line) at ≡ leb (length (fields line)) k
-      go (yes h) = rw (lt-ltb (length line) at h, le-leb (length (fields line)) k (cursor-gone c h))
-      go (no h) =
-          let w : at ≤ length line = omega arith in
-          rw (le-ltb (length line) at w, lt-leb (length (fields line)) k (cursor-there c w))
+use Rattle.line.specs.declared.fields.Said.{Said}
 
 -- a number that passes a range's test lies in the range
 pub test_in : (r : Range) (n : ℕ) → is_in r n ≡ true → In r n
@@ -97,13 +34,13 @@ test_in r n e = (search tests, search tests)
 
 -- a limit by what the constructor of its measure answers, and the other way round
 module _ (type : LimitType) (n : ℕ) where
-  pub limit-taken : {m : ℕ} → Taken (limits_of type) n m → Some (limit_of type m) ≡ limit_read type n
+  pub limit_taken : {m : ℕ} → Taken (limits_of type) n m → Some (limit_of type m) ≡ limit_read type n
   unfolding limit_read
-  limit-taken t = rw (t.0, le-leb _ _ t.1.0, le-leb _ _ t.1.1)
+  limit_taken t = rw (t.0, le-leb _ _ t.1.0, le-leb _ _ t.1.1)
 
-  pub limit-beyond : Beyond (limits_of type) n → None ≡ limit_read type n
+  pub limit_beyond : Beyond (limits_of type) n → None ≡ limit_read type n
   unfolding limit_read
-  limit-beyond b = go (is_in (limits_of type) n) refl
+  limit_beyond b = go (is_in (limits_of type) n) refl
     where
       go : (t : Bool) → is_in (limits_of type) n ≡ t → None ≡ cond t (Some (limit_of type n)) None
       go true e = absurd (b (test_in (limits_of type) n e))
@@ -156,34 +93,26 @@ line_first firm line = go (malformed line) (other_firm firm line) (range_fault l
     go false false false false true = refl
     go false false false false false = refl
 
--- what a line comes to by what its two halves say
-unfoldable pub said : ℕ → Head → Tail → Result Rule ℕ
-said firm head tail = first_of
-    (not (head.well && tail.well))
-    (not (eqb head.firm firm))
-    (out_of_range head.named head.limit tail.time)
-    (level_clash head.root tail.firmwide)
-    (unit_clash tail.firmwide tail.call tail.month)
+-- what a line comes to by what its fields say
+unfoldable pub come_to : ℕ → Said → Result Rule ℕ
+come_to firm said = first_of
+    false
+    (not (eqb said.firm firm))
+    (out_of_range said.named said.limit said.time)
+    (level_clash said.root said.firmwide)
+    (unit_clash said.firmwide (side_number said.call) (month_number said.month))
     (record {
-      scope = scope_of head.root tail.firmwide tail.call tail.month;
-      kind = kind_of head.named tail.time;
-      limit = limit_of head.named head.limit;
+      scope = scope_of said.root said.firmwide (side_number said.call) (month_number said.month);
+      kind = kind_of said.named said.time;
+      limit = limit_of said.named said.limit;
     })
 
--- nine tests as those of the first four fields and those of the last four
-halves : (a b c d e f g h i : Bool) → (a && b && c && d && e && f && g && h && i) ≡ ((a && c && d && e && f) && (b && g && h && i))
-halves false b c d e f g h i = refl
-halves true false c d e f g h i = sym (and-false (c && d && e && f))
-halves true true c d e f g h i = sym (rw (← and_assoc (c && d && e && f) (g && h) i, ← and_assoc (c && d && e && f) g h))
+pub line-said : (firm : ℕ) {line : List ℕ} {said : Said} → Says line said → line_of firm line ≡ come_to firm said
+unfolding other_firm rule_of come_to
+line-said firm {line} s = rw (line_first firm line, s.well, s.firm, s.named, s.root, s.limit, s.time, s.firmwide, s.call, s.month)
 
-pub line-said : (firm : ℕ) {line : List ℕ} {head : Head} {tail : Tail}
-    → HeadSays line head → TailSays line (is_absolute head.named) tail → line_of firm line ≡ said firm head tail
-unfolding malformed other_firm rule_of said
-line-said firm {line} h t = rw (line_first firm line, halves, h.well, h.firm, h.root, h.limit, t.well, t.time, t.firmwide, t.call, t.month, h.named)
-
--- in a tail that is well formed call/put and month are 0 to 2, and month is set where call/put is, unless they clash
-pub letters : {line : List ℕ} {absolute : Bool} {tail : Tail} → TailSays line absolute tail → tail.well ≡ true → (tail.call ≤ 2) × (tail.month ≤ 2)
-letters t e = let w = rw t.well at e in (rw t.call (search tests depth 8), rw t.month (search tests depth 8))
+pub line-malformed : (firm : ℕ) (line : List ℕ) → malformed line ≡ true → line_of firm line ≡ Err 6
+line-malformed firm line e = rw (line_first firm line, e)
 
 pub both-set : (firmwide : Bool) (call month : ℕ) → unit_clash firmwide call month ≡ false → 0 < call → 0 < month
 unfolding unit_clash
@@ -192,3 +121,107 @@ both-set firmwide call month e h = go (ltb 0 month) refl (rw (lt-ltb 0 call h) a
     go : (t : Bool) → ltb 0 month ≡ t → (not (beq true t) || (firmwide && true)) ≡ false → 0 < month
     go true s e = ltb-true 0 month s
     go false s e = absurd (false≢true (sym e))
+
+-- a line is well formed by nine tests of its fields
+pub record WellFormed (line : List ℕ) : Type 0 where
+  pub least : leb 4 (length (fields line)) ≡ true
+  pub most : leb (length (fields line)) 8 ≡ true
+  pub firm : is_some (firm_field line) ≡ true
+  pub named : is_some (type_field line) ≡ true
+  pub root : is_some (root_field line) ≡ true
+  pub limit : is_some (limit_field line) ≡ true
+  pub time : is_some (time_field line) ≡ true
+  pub call : leb (call_put line) 2 ≡ true
+  pub month : leb (month line) 2 ≡ true
+
+pub well-formed : (line : List ℕ) → malformed line ≡ false → WellFormed line
+unfolding malformed
+well-formed line e =
+    let w = rw not-not at (ap not e) in
+    record {
+      least = search tests depth 12;
+      most = search tests depth 12;
+      firm = search tests depth 12;
+      named = search tests depth 12;
+      root = search tests depth 12;
+      limit = search tests depth 12;
+      time = search tests depth 12;
+      call = search tests depth 12;
+      month = search tests depth 12;
+    }
+
+pub is-well : (line : List ℕ) → WellFormed line → malformed line ≡ false
+unfolding malformed
+is-well line w = rw (w.least, w.most, w.firm, w.named, w.root, w.limit, w.time, w.call, w.month)
+
+pub faulty : (line : List ℕ) → (WellFormed line → ⊥) → malformed line ≡ true
+faulty line never = go (malformed line) refl
+  where
+    go : (t : Bool) → malformed line ≡ t → t ≡ true
+    go true e = refl
+    go false e = absurd (never (well-formed line e))
+
+-- what is read of a field that is not there is no number
+pub there-four : (line : List ℕ) → is_some (limit_field line) ≡ true → leb 4 (length (fields line)) ≡ true
+unfolding field_number made
+there-four line e = go (dec_lt 3 (length (fields line)))
+  where
+    go : Dec (3 < length (fields line)) → leb 4 (length (fields line)) ≡ true
+    go (yes h) = le-leb 4 (length (fields line)) (omega arith)
+    go (no h) =
+        let none : field line 3 ≡ [] = get_or_past (fields line) 3 [] (omega arith) in
+        absurd (false≢true (rw none at e))
+
+-- a field that reads as nothing is no field that reads as something
+pub none-some : {A : Type 0} {o : Option A} → None ≡ o → is_some o ≡ true → ⊥
+none-some e h = false≢true (ap is_some e ∙ h)
+
+-- a word is the same as a field if they are equal byte by byte
+pub same-pointwise : (a b : List ℕ) → pointwise eqb a b ≡ same a b
+unfolding same
+same-pointwise [] [] = refl
+same-pointwise [] (y ∷ b) = refl
+same-pointwise (x ∷ a) [] = refl
+same-pointwise (x ∷ a) (y ∷ b) = ap (λ t. eqb x y && t) (same-pointwise a b)
+
+-- the fields that are left begin with field k, and behind it are those from the next on
+module _ (line : List ℕ) (k : ℕ) {left : List (List ℕ)} (at : left ≡ drop k (fields line)) where
+  pub next-is : get_or left 0 [] ≡ field line k
+  next-is = ap (λ (l : List (List ℕ)). get_or l 0 []) at ∙ sym (field-drop line k)
+
+  pub next-left : {more : List (List ℕ)} → more ≡ drop 1 left → more ≡ drop (k + 1) (fields line)
+  next-left e = e ∙ rw (at, drop-drop)
+
+-- a number of at most 12 digits where none is 0 is a time
+pub time_digits : (f : List ℕ) → read_as is_digit 0 12 10 48 f ≡ cond (eqb (length f) 0) (Some 0) (field_number f)
+unfolding read_as made field_number numeral all
+time_digits [] = refl
+time_digits (x ∷ xs) = rw (ne_eqb (suc (length xs)) 0 (λ e. omega arith), le-leb 0 (suc (length xs)) (omega arith), le-leb 1 (suc (length xs)) (omega arith))
+
+-- a letter that may not stand there has no number up to 2, and one that may has its choice's number
+module _ {A : Type 0} (one two : A) where
+  pub chosen-none : (n : ℕ) → None ≡ chosen one two n → leb n 2 ≡ true → ⊥
+  chosen-none zero e h = let w : ◌≡◌ {A = ℕ} 0 1 = cc in omega arith
+  chosen-none (suc zero) e h = let w : ◌≡◌ {A = ℕ} 0 1 = cc in omega arith
+  chosen-none (suc (suc zero)) e h = let w : ◌≡◌ {A = ℕ} 0 1 = cc in omega arith
+  chosen-none (suc (suc (suc n))) e h = let l = leb-true (suc (suc (suc n))) 2 h in omega arith
+
+  pub chosen-some : (number : Option A → ℕ) → number None ≡ 0 → number (Some one) ≡ 1 → number (Some two) ≡ 2
+      → (n : ℕ) {a : Option A} → Some a ≡ chosen one two n → (number a ≡ n) × (leb n 2 ≡ true)
+  chosen-some number z o t zero {a} e = let is : a ≡ None = cc in (ap number is ∙ z, refl)
+  chosen-some number z o t (suc zero) {a} e = let is : a ≡ Some one = cc in (ap number is ∙ o, refl)
+  chosen-some number z o t (suc (suc zero)) {a} e = let is : a ≡ Some two = cc in (ap number is ∙ t, refl)
+  chosen-some number z o t (suc (suc (suc n))) {a} e =
+      let three = suc (suc (suc n)) in
+      let away : chosen one two three ≡ None = rw (ne_eqb three 0 (λ z. omega arith), ne_eqb three 1 (λ z. omega arith), ne_eqb three 2 (λ z. omega arith)) in
+      absurd (false≢true (ap is_some (sym (e ∙ away))))
+
+-- a number of 1 to 12 digits
+pub digits-number : (f : List ℕ) → read_as is_digit 1 12 10 48 f ≡ field_number f
+unfolding read_as field_number
+digits-number f = refl
+
+-- what holds of both of two types holds of a type that is one of them
+pub either : {A : Type 0} {x one two : A} → (x ≡ one) ⊎ (x ≡ two) → (P : A → Type 0) → P one → P two → P x
+either (inl e) P p q = subst P (sym e) p
+either (inr e) P p q = subst P (sym e) q

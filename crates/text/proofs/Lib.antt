@@ -3,7 +3,6 @@ pub mod Numerals
 pub mod Bytes
 pub mod Runs
 pub mod Taking
-pub mod Words
 pub mod InBase
 pub mod Written
 pub mod Sizes

@@ -1,18 +1,18 @@
--- Laws of lists of bytes: places, the pieces of a text, and a cursor over the fields of a line. Assumes nothing.
+-- Laws of lists of bytes: places, the pieces of a text, and the fields of a line. Assumes nothing.
 use Prim.Native.Nat.{ℕ, zero, suc, ◌+◌, ◌-◌, ◌≤◌, ◌<◌}
 use mathlib.Core.Path.{◌≡◌, refl, sym, ap, ◌∙◌}
 use mathlib.Core.Bool.{Bool, true, false, cond, ◌||◌, false≢true}
-use mathlib.Core.List.{List, [], ◌∷◌}
-use lib.ListN.{length, get_or, take, drop, length-drop}
+use mathlib.Core.List.{List, [], ◌∷◌, ◌++◌}
+use lib.ListN.{length, get_or, take, drop, length-drop, length-append, take-append-drop}
 use lib.Seq.{drop-drop, get_or-drop, length-take-le}
 use lib.Dec.{eqb, leb, leb-suc-suc}
 use borrow.Author.Tests.{eqb-false, leb-false, le-leb, lt-leb, eq-eqb, ne_eqb}
 use native.Mathlib.Decide.{dec_lt}
 use native.Mathlib.Nat.{add_assoc, add-zero, zero-add, suc-add}
 use native.Mathlib.Omega.{arith}
+use native.Mathlib.Numerals.{add-one}
 use Rattle.laws.proofs.Lists.{from, ended}
-use Rattle.text.specs.Text.{onto, pieces, lines, fields, field, fields_from, index_of}
-use Rattle.text.specs.Inner.Taking.{Cursor}
+use Rattle.text.specs.Text.{onto, pieces, lines, fields, field, index_of}
 
 -- the index of b lies further on past a byte that is not b; it is here at b, and at the end
 module _ (b : ℕ) (s : List ℕ) (i : ℕ) where
@@ -28,11 +28,40 @@ module _ (b : ℕ) (s : List ℕ) (i : ℕ) where
   unfolding index_of
   index-end h = rw (ended s i h) (omega arith)
 
--- some bytes from a place on that are joined by | into one test are none of them b where the test fails, so the index of b lies past them
-pub index-past : (b : ℕ) (s : List ℕ) (at i : ℕ) {n : ℕ} (near : Bool) → (near ≡ false → n ≡ at + i + index_of b (drop (at + i) s)) → at + i < length s
-    → (near || eqb (get_or s (at + i) 0) b) ≡ false → n ≡ at + (i + 1) + index_of b (drop (at + (i + 1)) s)
-index-past b s at i true far h e = absurd (false≢true (sym e))
-index-past b s at i false far h e = far refl ∙ index_on b s (at + i) h (eqb-false (get_or s (at + i) 0) b e) ∙ rw (add_assoc at i 1)
+-- so many bytes stand before the first b
+pub index-hit : (b x : ℕ) (s : List ℕ) → x ≡ b → index_of b (x ∷ s) ≡ 0
+unfolding index_of
+index-hit b x s e = rw (eq-eqb x b e)
+
+pub index-miss : (b x : ℕ) (s : List ℕ) → (x ≡ b → ⊥) → index_of b (x ∷ s) ≡ index_of b s + 1
+unfolding index_of
+index-miss b x s n = rw (ne_eqb x b n) (sym (add-one _))
+
+pub index-past : (b : ℕ) (s t : List ℕ) → index_of b s ≡ length s → index_of b (s ++ t) ≡ length s + index_of b t
+unfolding index_of
+index-past b [] t e = omega arith
+index-past b (x ∷ s) t e = go (eqb x b) (index-past b s t) e
+  where
+    go : (q : Bool) → (index_of b s ≡ length s → index_of b (s ++ t) ≡ length s + index_of b t) → cond q zero (suc (index_of b s)) ≡ suc (length s)
+        → cond q zero (suc (index_of b (s ++ t))) ≡ suc (length s) + index_of b t
+    go true more e = absurd (omega arith)
+    go false more e = omega (arith, more (omega arith))
+
+-- the first bytes, and those behind them, where none of the first is b
+pub index-on : (b : ℕ) (rest first more : List ℕ) (n : ℕ) → first ≡ take n rest → more ≡ drop n rest → index_of b first ≡ length first
+    → (length more ≤ length rest) × (index_of b rest ≡ length rest - length more + index_of b more)
+index-on b rest first more n e f far =
+    let whole : first ++ more ≡ rest = rw (e, f) (take-append-drop n rest) in
+    let long : length first + length more ≡ length rest = sym (length-append first more) ∙ ap length whole in
+    let is : index_of b rest ≡ length first + index_of b more = ap (index_of b) (sym whole) ∙ index-past b first more far in
+    (omega arith, omega arith)
+
+-- one byte more that is not b
+pub index-further : (b : ℕ) (s : List ℕ) (x : ℕ) (near : Bool) → (near ≡ false → index_of b s ≡ length s) → (near || eqb x b) ≡ false
+    → index_of b (s ++ (x ∷ [])) ≡ length (s ++ (x ∷ []))
+unfolding index_of
+index-further b s x true far e = absurd (false≢true (sym e))
+index-further b s x false far e = omega (arith, index-past b s (x ∷ []) (far refl), length-append s (x ∷ []), index-miss b x [] (eqb-false x b e))
 
 pub index-le : (b : ℕ) (s : List ℕ) → index_of b s ≤ length s
 unfolding index_of
@@ -140,72 +169,24 @@ line-here s at e h ends =
 pub first-line : (s : List ℕ) (at e : ℕ) → e ≡ at + index_of 10 (drop at s) → get_or (lines (drop at s)) 0 [] ≡ take (e - at) (drop at s)
 first-line s at e ends = piece-here [] 10 s at e ends refl
 
--- there are fields from a place on exactly if the place is not past the end
-pub fields_within : (line : List ℕ) (at : ℕ) → at ≤ length line → fields_from line at ≡ fields (drop at line)
-unfolding fields_from
-fields_within line at h = rw (le-leb at (length line) h)
+-- the first field of a line ends at the first comma, and the others are the fields of what stands behind it, if it is there
+pub first-field : (s : List ℕ) → get_or (fields s) 0 [] ≡ take (index_of 44 s) s
+first-field s = first ([] ∷ []) 44 refl s
 
-pub fields-past : (line : List ℕ) (at : ℕ) → length line < at → fields_from line at ≡ []
-unfolding fields_from
-fields-past line at h = rw (lt-leb at (length line) h)
+pub fields-some : (s : List ℕ) → 0 < length (fields s)
+fields-some s = some ([] ∷ []) 44 s (omega arith)
 
-pub fields-some : (line : List ℕ) (at : ℕ) → at ≤ length line → 0 < length (fields_from line at)
-fields-some line at h = rw (fields_within line at h) (some ([] ∷ []) 44 (drop at line) (omega arith))
+pub other-fields : (s : List ℕ) → index_of 44 s < length s → fields (drop (index_of 44 s + 1) s) ≡ drop 1 (fields s)
+unfolding onward
+other-fields s h =
+    let within : suc (index_of 44 s) ≤ length s = omega arith in
+    sym (rest ([] ∷ []) 44 refl s ∙ rw (le-leb (suc (index_of 44 s)) (length s) within, add-one (index_of 44 s)))
 
-pub fields-none : (line : List ℕ) (at : ℕ) → fields_from line at ≡ [] → length line < at
-fields-none line at e = go (dec_lt (length line) at)
-  where
-    go : Dec (length line < at) → length line < at
-    go (yes h) = h
-    go (no h) = absurd (omega (arith, fields-some line at (omega arith), ap length e))
-
-pub fields-whole : (line : List ℕ) → fields_from line 0 ≡ fields line
-fields-whole line = fields_within line 0 (omega arith)
-
--- the first field from a place on ends at the first comma, and lies within the line
-pub field-here : (line : List ℕ) (at e : ℕ) → at ≤ length line → e ≡ at + index_of 44 (drop at line) → get_or (fields_from line at) 0 [] ≡ take (e - at) (drop at line)
-field-here line at e h ends = rw (fields_within line at h) (piece-here ([] ∷ []) 44 line at e ends refl)
-
-pub field-length : (line : List ℕ) (at : ℕ) → at ≤ length line → length (get_or (fields_from line at) 0 []) ≡ index_of 44 (drop at line)
-field-length line at h =
-    rw (fields_within line at h, first ([] ∷ []) 44 refl (drop at line)) (length-take-le (index_of 44 (drop at line)) (drop at line) (index-le 44 (drop at line)))
-
-pub fields-next : (line : List ℕ) (at : ℕ) → fields_from line (at + length (get_or (fields_from line at) 0 []) + 1) ≡ drop 1 (fields_from line at)
-unfolding fields_from onward
-fields-next line at = go (dec_lt (length line) at)
-  where
-    go : Dec (length line < at) → fields_from line (at + length (get_or (fields_from line at) 0 []) + 1) ≡ drop 1 (fields_from line at)
-    go (yes h) = rw (fields-past line at h) (fields-past line (at + 0 + 1) (omega arith))
-    go (no h) =
-        let w : at ≤ length line = omega arith in
-        rw (field-length line at w, fields_within line at w) (sym (piece-next ([] ∷ []) 44 line at _ refl refl w))
+pub no-fields : (s : List ℕ) → length s ≤ index_of 44 s → drop 1 (fields s) ≡ []
+unfolding onward
+no-fields s h =
+    let past : length s < suc (index_of 44 s) = omega arith in
+    rest ([] ∷ []) 44 refl s ∙ rw (lt-leb (suc (index_of 44 s)) (length s) past)
 
 pub field-drop : (line : List ℕ) (k : ℕ) → field line k ≡ get_or (drop k (fields line)) 0 []
 field-drop line k = rw (get_or-drop, add-zero)
-
--- a cursor at the first field, and one field on; whether it is there
-pub cursor-start : (line : List ℕ) → Cursor line 0 0
-cursor-start line = record {
-  left = fields-whole line;
-  reach = omega arith;
-}
-
-module _ {line : List ℕ} {at k : ℕ} (c : Cursor line at k) where
-  pub cursor-field : {f : List ℕ} → f ≡ get_or (fields_from line at) 0 [] → f ≡ field line k
-  cursor-field e = e ∙ rw (c.left, field-drop line k)
-
-  pub cursor-step : {f : List ℕ} {next : ℕ} → f ≡ get_or (fields_from line at) 0 [] → next ≡ at + length f + 1 → Cursor line next (k + 1)
-  cursor-step {f} e n = record {
-    left = rw (n, e, fields-next line at, c.left, drop-drop);
-    reach = rw n (go (dec_lt (length line) at));
-  }
-    where
-      go : Dec (length line < at) → at + length f + 1 ≤ length line + (k + 1)
-      go (yes h) = rw (e, fields-past line at h) (omega (arith, c.reach))
-      go (no h) = let w : at ≤ length line = omega arith in rw (e, field-length line at w) (omega (arith, within 44 line at w))
-
-  pub cursor-there : at ≤ length line → k < length (fields line)
-  cursor-there h = omega (arith, fields-some line at h, ap length c.left, length-drop k (fields line))
-
-  pub cursor-gone : length line < at → length (fields line) ≤ k
-  cursor-gone h = omega (arith, ap length (sym c.left ∙ fields-past line at h), length-drop k (fields line))

@@ -4,7 +4,8 @@ use mathlib.Core.Path.{◌≡◌, refl, sym, ap, ◌∙◌}
 use mathlib.Core.Bool.{Bool, true, ◌&&◌}
 use mathlib.Core.List.{List, [], ◌∷◌, map}
 use lib.Count.{count_leading_zeros, leading_of_zero, leading_top}
-use lib.Dec.{eqb, leb, lit<}
+use Rattle.std.specs.Int.{div_ceil}
+use lib.Dec.{leb, lit<}
 use lib.ListN.{length, get_or, length-append, length-map}
 use borrow.Author.Tests.{eqb-true, leb-true}
 use native.Mathlib.Decide.{dec_lt}
@@ -81,11 +82,11 @@ name-right : below (bounds 256 (λ j. j / 8) (λ j. suc (j / 8))) 64 ≡ true
 unfolding below
 name-right = refl
 
-pub name-bits : (n : ℕ) → n < 2 ^ 64 → (64 - count_leading_zeros 64 n + 7) / 8 ≡ length (name_bytes n)
+pub name-bits : (n : ℕ) → n < 2 ^ 64 → div_ceil (64 - count_leading_zeros 64 n) 8 ≡ length (name_bytes n)
 unfolding name_bytes
 name-bits n fits = go (dec_lt 0 n)
   where
-    go : Dec (0 < n) → (64 - count_leading_zeros 64 n + 7) / 8 ≡ length (digits_up_to 256 8 n)
+    go : Dec (0 < n) → div_ceil (64 - count_leading_zeros 64 n) 8 ≡ length (digits_up_to 256 8 n)
     go (yes some) =
         let b = by_bits 256 (λ j. j / 8) (λ j. suc (j / 8)) name-right n some fits in
         let size = digits_between 256 (lit< tt) 8 (b.0 / 8) n (omega (arith, b.1)) b.2.low b.2.high in
@@ -94,60 +95,6 @@ name-bits n fits = go (dec_lt 0 n)
         let z : n ≡ 0 = omega arith in
         rw (z, leading_of_zero 64, digits-none 256 8)
 
--- a number's decimal digits are its bits by 1233 / 4096, or one more: the power of ten there decides
-abbrev tens : ℕ → ℕ
-tens j = suc j * 1233 / 4096
-
-tens-right : below (bounds 10 (λ j. tens j - 1) (λ j. suc (tens j))) 64 ≡ true
-unfolding below
-tens-right = refl
-
--- the powers of ten
-abbrev pub powers : List ℕ
-powers =
-    1 ∷ 10 ∷ 100 ∷ 1_000 ∷ 10_000 ∷ 100_000 ∷ 1_000_000 ∷ 10_000_000 ∷ 100_000_000 ∷ 1_000_000_000 ∷ 10_000_000_000 ∷ 100_000_000_000
-    ∷ 1_000_000_000_000 ∷ 10_000_000_000_000 ∷ 100_000_000_000_000 ∷ 1_000_000_000_000_000 ∷ 10_000_000_000_000_000 ∷ 100_000_000_000_000_000
-    ∷ 1_000_000_000_000_000_000 ∷ 10_000_000_000_000_000_000 ∷ []
-
-powers-right : below (λ k. eqb (get_or powers k 0) (10 ^ k)) 20 ≡ true
-unfolding below
-powers-right = refl
-
-one-ten : (k n : ℕ) → 0 < n → n < 10 ^ k → 0 < k
-one-ten zero n h l = absurd (omega (arith, pow-zero 10))
-one-ten (suc k) n h l = omega arith
-
-module _ (n : ℕ) (some : 0 < n) (fits : n < 2 ^ 64) where
-  -- the code's guess
-  abbrev guess : ℕ
-  guess = (64 - count_leading_zeros 64 n) * 1233 / 4096
-
-  record Guessed : Type 0 where
-    few : guess < 20
-    low : 10 ^ (guess - 1) ≤ n
-    high : n < 10 ^ suc guess
-    power : get_or powers guess 0 ≡ 10 ^ guess
-
-  guessed : Guessed
-  guessed =
-      let b = by_bits 10 (λ j. tens j - 1) (λ j. suc (tens j)) tens-right n some fits in
-      let is : tens b.0 ≡ guess = omega (arith, b.1) in
-      let small : guess < 20 = omega (arith, b.1) in
-      record {
-        few = small;
-        low = rw is at b.2.low;
-        high = rw is at b.2.high;
-        power = eqb-true (get_or powers guess 0) (10 ^ guess) (below_at (λ k. eqb (get_or powers k 0) (10 ^ k)) 20 powers-right guess small);
-      }
-
-  pub decimal-more : get_or powers guess 0 ≤ n → guess + 1 ≡ length (decimal n)
-  decimal-more h =
-      let g = guessed in
-      sym (decimal-between guess n g.few (omega (arith, g.power)) g.high ∙ sym (add-one guess))
-
-  pub decimal-less : n < get_or powers guess 0 → guess ≡ length (decimal n)
-  decimal-less h =
-      let g = guessed in
-      let above = one-ten guess n some (omega (arith, g.power)) in
-      let is : suc (guess - 1) ≡ guess = omega arith in
-      sym (decimal-between (guess - 1) n (omega (arith, g.few)) g.low (omega (arith, g.power, ap (λ (k : ℕ). 10 ^ k) is)) ∙ is)
+-- a number's decimal digits are one more than its logarithm
+pub decimal-log : (n k : ℕ) → 10 ^ k ≤ n → n < 10 * 10 ^ k → k < 20 → k + 1 ≡ length (decimal n)
+decimal-log n k low high few = sym (decimal-between k n few low (omega (arith, pow-suc 10 k)) ∙ sym (add-one k))

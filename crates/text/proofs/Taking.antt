@@ -1,41 +1,34 @@
 -- A field that is read where it stands: what its bytes in front with a property tell of it. Assumes nothing.
 use Prim.Native.Nat.{ℕ, zero, suc, ◌+◌, ◌-◌, ◌≤◌, ◌<◌}
 use mathlib.Core.Path.{◌≡◌, refl, sym, ap, ◌∙◌}
-use mathlib.Core.Bool.{Bool, true, false, cond, ◌&&◌, false≢true, and_assoc, and-false}
+use mathlib.Core.Bool.{Bool, true, false, cond, not, ◌&&◌, false≢true, and_assoc, and-false}
 use mathlib.Core.List.{List, [], ◌∷◌}
-use lib.ListN.{length, take, drop, length-take, length-drop}
+use lib.ListN.{length, get_or, take, drop, length-take, length-drop}
 use lib.Seq.{take-nil, drop-drop, length-take-le}
 use lib.Dec.{eqb, leb, leb-suc-suc}
-use borrow.Author.Tests.{eqb-true, le-leb, lt-leb}
+use borrow.Author.Tests.{eqb-true, eqb-false, eq-eqb, ne_eqb, le-leb, lt-leb}
 use native.Mathlib.Decide.{dec_lt}
 use native.Mathlib.Omega.{arith}
-use Rattle.text.specs.Text.{all, made, numeral, index_of}
-use Rattle.text.specs.Inner.Taking.{field_at, Near, front, run_read, is_end, taken_as}
-use Rattle.std.specs.Prelude.{Option, Some, None}
-use Rattle.text.specs.declared.fields.Run.{Run}
-use Rattle.laws.proofs.Lists.{ended}
-use Rattle.text.proofs.Lists.{index-le, fields-past, field-here}
+use Rattle.text.specs.Text.{all, pieces, fields, made, numeral, index_of}
+use Rattle.text.specs.Inner.Taking.{fields_in, front, run_read, read_as}
+use Rattle.std.specs.Prelude.{Option, Some, None, is_some, unwrap_or}
+use denote.Ref.{Bor}
+use Rattle.std.specs.Bool.{then_some}
+use Rattle.laws.proofs.Lists.{from, ended}
+use Rattle.text.proofs.Lists.{index-le, first-field, fields-some}
 use Rattle.text.proofs.Runs.{front-all, front-le}
 
 -- the bytes before the first comma
 abbrev pub until_comma : List ℕ → List ℕ
 until_comma s = take (index_of 44 s) s
 
--- the field that begins at a place is what stands there before the next comma
-module _ (line : List ℕ) (at : ℕ) where
-  pub field_is : field_at line at ≡ until_comma (drop at line)
-  field_is = go (dec_lt (length line) at)
-    where
-      go : Dec (length line < at) → field_at line at ≡ until_comma (drop at line)
-      go (yes h) = rw (fields-past line at h, ended line at (omega arith), take-nil)
-      go (no h) = let n : at + index_of 44 (drop at line) - at ≡ index_of 44 (drop at line) = omega arith in rw n at (field-here line at _ (omega arith) refl)
+-- whether a field ends before these bytes: there are none, or a comma is the first
+unfoldable is_end : List ℕ → Bool
+is_end [] = true
+is_end (x ∷ xs) = eqb x 44
 
-  pub field-size : length (field_at line at) ≡ index_of 44 (drop at line)
-  field-size = rw field_is (length-take-le (index_of 44 (drop at line)) (drop at line) (index-le 44 (drop at line)))
-
--- the place after a field of a line that is no longer than a profile may be is a small number
-pub field-small : (line : List ℕ) (at : ℕ) → Near line at → at + index_of 44 (drop at line) < 131_136
-field-small line at near = omega (arith, index-le 44 (drop at line), length-drop at line)
+pub field-size : (s : List ℕ) → length (until_comma s) ≡ index_of 44 s
+field-size s = length-take-le (index_of 44 s) s (index-le 44 s)
 
 -- a property that no comma has: the bytes in front that have it, of at most m, are the field where the field ends behind them, and else the field is
 -- longer than m or has a byte without the property
@@ -95,83 +88,100 @@ front-part p (suc m) (x ∷ xs) h = go (p x) refl (front-part p m xs) h
     go true t part h = rw (t, leb-suc-suc) (part (omega arith))
     go false t part h = rw (t, and-false)
 
--- what a field of least to most bytes, each with the property p, is read as
-abbrev pub read_as : (ℕ → Bool) → ℕ → ℕ → ℕ → ℕ → List ℕ → Option ℕ
-read_as p least most base naught s = cond (made p least most s) (Some (numeral base naught s)) None
-
 module _ (p : ℕ → Bool) (least most base naught : ℕ) (s : List ℕ) where
-  pub read_short : length s < least → None ≡ read_as p least most base naught s
-  unfolding made
+  read_short : length s < least → None ≡ read_as p least most base naught s
+  unfolding made read_as
   read_short h = rw (lt-leb least (length s) h)
 
   read-over : (leb (length s) most && all p s) ≡ false → None ≡ read_as p least most base naught s
-  unfolding made
+  unfolding made read_as
   read-over e = rw (and_assoc (leb least (length s)) (leb (length s) most) (all p s), e, and-false)
 
   -- it is read where it is the bytes in front, of at most as many
   read-front : (t : List ℕ) → s ≡ front p (take most t) → least ≤ length s → Some (numeral base naught s) ≡ read_as p least most base naught s
-  unfolding made
+  unfolding made read_as
   read-front t e h =
       let few : length s ≤ most = omega (arith, ap length e, front-le p (take most t), length-take most t) in
       let tested : all p s ≡ true = rw e (front-all p (take most t)) in
       rw (le-leb least (length s) h, le-leb (length s) most few, tested)
 
--- a run from a place of a line on, and the field that begins there
-module _ (p : ℕ → Bool) (no : p 44 ≡ false) (least most base naught : ℕ) (line : List ℕ) (at : ℕ) {run : Run} (is : run ≡ run_read p base naught (take most (drop at line)) at) where
+-- a run over the first bytes of what is left of a line, and its first field
+module _ (p : ℕ → Bool) (tame : p 44 ≡ false) (least most base naught : ℕ) (s : List ℕ) {value end : ℕ} (is : (value, end) ≡ run_read p base naught (take most s)) where
   abbrev lead : List ℕ
-  lead = front p (take most (drop at line))
+  lead = front p (take most s)
 
-  run_end : run.end ≡ at + length lead
+  run_end : end ≡ length lead
   unfolding run_read
-  run_end = ap (λ (r : Run). r.end) is
+  run_end = ap (λ (r : ℕ × ℕ). r.1) is
 
-  pub run-ge : at ≤ run.end
-  run-ge = omega (arith, run_end)
-
-  pub run-le : run.end ≤ at + most
-  run-le = omega (arith, run_end, front-le p (take most (drop at line)), length-take most (drop at line))
-
-  run_value : run.value ≡ numeral base naught lead
+  run_value : value ≡ numeral base naught lead
   unfolding run_read
-  run_value = ap (λ (r : Run). r.value) is
+  run_value = ap (λ (r : ℕ × ℕ). r.0) is
 
-  behind : {t : Bool} → is_end (drop run.end line) ≡ t → is_end (drop (length lead) (drop at line)) ≡ t
-  behind e = rw drop-drop (rw run_end at e)
+  pub run-within : end ≤ length s
+  run-within = omega (arith, run_end, front-le p (take most s), length-take most s)
 
-  whole : is_end (drop run.end line) ≡ true → field_at line at ≡ lead
-  whole e = field_is line at ∙ front-field p no most (drop at line) (behind e)
+  -- a byte that is no comma stands behind the run
+  pub taken-over : end < length s → (get_or s end 0 ≡ 44 → ⊥) → None ≡ read_as p least most base naught (get_or (fields s) 0 [])
+  unfolding is_end
+  taken-over h n =
+      let off : is_end (drop (length lead) s) ≡ false = rw (← run_end, from s end h, ne_eqb (get_or s end 0) 44 n) in
+      rw (first-field s) (read-over p least most base naught (until_comma s) (front-over p tame most s off))
 
-  pub taken-over : is_end (drop run.end line) ≡ false → {n : ℕ} → n ≡ at + index_of 44 (drop at line)
-      → record { number = None; next = n + 1 } ≡ taken_as (read_as p least most base naught (field_at line at)) line at
-  taken-over e {n} f =
-      let next : n + 1 ≡ at + length (field_at line at) + 1 = omega (arith, field-size line at) in
-      let over : (leb (length (field_at line at)) most && all p (field_at line at)) ≡ false = rw (field_is line at) (front-over p no most (drop at line) (behind e)) in
-      (λ i. record { number = read-over p least most base naught (field_at line at) over i; next = next i })
+  module _ (ends : end < length s → get_or s end 0 ≡ 44) where
+    at-end : is_end (drop (length lead) s) ≡ true
+    unfolding is_end
+    at-end = rw (← run_end) (go (dec_lt end (length s)))
+      where
+        go : Dec (end < length s) → is_end (drop end s) ≡ true
+        go (yes h) = rw (from s end h, eq-eqb (get_or s end 0) 44 (ends h))
+        go (no h) = rw (ended s end (omega arith))
 
-  module _ (ends : is_end (drop run.end line) ≡ true) where
-    size : length (field_at line at) ≡ length lead
-    size = ap length (whole ends)
+    whole : until_comma s ≡ lead
+    whole = front-field p tame most s at-end
 
-    next-is : run.end + 1 ≡ at + length (field_at line at) + 1
-    next-is = omega (arith, run_end, size)
+    pub run-comma : end ≡ index_of 44 s
+    run-comma = omega (arith, run_end, ap length whole, field-size s)
 
-    pub taken-short : run.end < at + least → record { number = None; next = run.end + 1 } ≡ taken_as (read_as p least most base naught (field_at line at)) line at
-    taken-short h = λ i. record { number = read_short p least most base naught (field_at line at) (omega (arith, run_end, size)) i; next = next-is i }
+    pub taken-short : end < least → None ≡ read_as p least most base naught (get_or (fields s) 0 [])
+    taken-short h = rw (first-field s) (read_short p least most base naught (until_comma s) (omega (arith, run_end, ap length whole)))
 
-    pub taken_is : at + least ≤ run.end → record { number = Some run.value; next = run.end + 1 } ≡ taken_as (read_as p least most base naught (field_at line at)) line at
-    taken_is h = λ i. record {
-      number = (ap Some (run_value ∙ ap (numeral base naught) (sym (whole ends))) ∙ read-front p least most base naught (field_at line at) (drop at line) (whole ends) (omega (arith, run_end, size))) i;
-      next = next-is i;
-    }
+    pub taken_is : least ≤ end → Some value ≡ read_as p least most base naught (get_or (fields s) 0 [])
+    taken_is h =
+        rw (first-field s)
+        (ap Some (run_value ∙ ap (numeral base naught) (sym whole))
+        ∙ read-front p least most base naught (until_comma s) s whole (omega (arith, run_end, ap length whole)))
 
--- a run over a whole field: it stops before its end, or it has read it
-module _ (p : ℕ → Bool) (least most base naught : ℕ) (s : List ℕ) {run : Run} (is : run ≡ run_read p base naught (take most s) 0) where
-  pub field-stops : run.end < length s → None ≡ read_as p least most base naught s
-  unfolding run_read
-  field-stops h = read-over p least most base naught s (front-part p most s (omega (arith, ap (λ (r : Run). r.end) is)))
+-- a run over all bytes: they are read exactly if it has read them
+module _ (p : ℕ → Bool) (most base naught : ℕ) (s : List ℕ) {run : ℕ × ℕ} (is : run ≡ run_read p base naught (take most s)) where
+  pub field-whole : then_some (eqb run.1 (length s)) run.0 ≡ cond (made p 0 most s) (Some (numeral base naught s)) None
+  unfolding run_read read_as
+  field-whole = go (eqb run.1 (length s)) refl
+    where
+      size : run.1 ≡ length (front p (take most s))
+      size = ap (λ (r : ℕ × ℕ). r.1) is
 
-  pub field-read : least ≤ length s → length s ≤ run.end → Some run.value ≡ read_as p least most base naught s
-  unfolding run_read
-  field-read h k =
-      let full = front-full p most s (omega (arith, ap (λ (r : Run). r.end) is)) in
-      ap Some (ap (λ (r : Run). r.value) is ∙ ap (numeral base naught) full) ∙ read-front p least most base naught s s (sym full) h
+      go : (t : Bool) → eqb run.1 (length s) ≡ t → then_some t run.0 ≡ read_as p 0 most base naught s
+      go true e =
+          let full = front-full p most s (omega (arith, size, eqb-true run.1 (length s) e)) in
+          ap Some (ap (λ (r : ℕ × ℕ). r.0) is ∙ ap (numeral base naught) full) ∙ read-front p 0 most base naught s s (sym full) (omega arith)
+      go false e =
+          read-over p 0 most base naught s (front-part p most s (omega (arith, size, eqb-false run.1 (length s) e, front-le p (take most s), length-take most s)))
+
+-- where nothing is left, no bytes have the same first field and the same others
+pub rest-first : (left : Option (Bor (List ℕ))) (none : Bor (List ℕ)) → none.now ≡ []
+    → get_or (fields_in left) 0 [] ≡ get_or (fields (unwrap_or left none).now) 0 []
+unfolding pieces
+rest-first None none e = rw e refl
+rest-first (Some rest) none e = refl
+
+pub rest-others : (left : Option (Bor (List ℕ))) (none : Bor (List ℕ)) → none.now ≡ [] → drop 1 (fields_in left) ≡ drop 1 (fields (unwrap_or left none).now)
+unfolding pieces
+rest-others None none e = rw e refl
+rest-others (Some rest) none e = refl
+
+pub rest-none : (left : Option (Bor (List ℕ))) (none : Bool) → is_some left ≡ not none → none ≡ eqb (length (fields_in left)) 0
+rest-none None true e = refl
+rest-none None false e = absurd (false≢true e)
+rest-none (Some rest) true e = absurd (false≢true (sym e))
+rest-none (Some rest) false e = sym (ne_eqb (length (fields rest.now)) 0 (λ z. omega (arith, fields-some rest.now)))

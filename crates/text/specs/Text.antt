@@ -1,5 +1,5 @@
 -- Bytes, the pieces of a text between separators, names and numbers, as lists. Assumes nothing.
-use Rattle.std.specs.Prelude.{ℕ, zero, suc, ◌+◌, ◌-◌, ◌*◌, ◌^◌, Bool, true, cond, ◌&&◌, ◌||◌, List, [], ◌∷◌, length, get_or, drop, eqb, leb, Option, Some, None}
+use Rattle.std.specs.Prelude.{ℕ, zero, suc, ◌+◌, ◌-◌, ◌*◌, ◌^◌, Bool, true, cond, ◌&&◌, ◌||◌, List, [], ◌∷◌, length, get_or, eqb, leb, Option, Some, None}
 use Prim.Native.Char.{code}
 use Prim.Native.String.{String, [] as nothing, ◌∷◌ as then}
 
@@ -34,10 +34,6 @@ fields s = pieces ([] ∷ []) 44 s
 -- field k of a line, from 0; an absent one reads as empty
 abbrev pub field : List ℕ → ℕ → List ℕ
 field s k = get_or (fields s) k []
-
--- the fields of a line from a place on, none past its end
-unfoldable pub fields_from : List ℕ → ℕ → List (List ℕ)
-fields_from line at = cond (leb at (length line)) (fields (drop at line)) []
 
 -- how many bytes stand before the first b: all, if there is none
 unfoldable pub index_of : ℕ → List ℕ → ℕ

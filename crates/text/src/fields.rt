@@ -1,159 +1,110 @@
-// The fields of a line, read where they stand: the loop that reads a field finds its end, so that each byte is looked at once.
-ghost use Rattle.std.specs.Prelude.{◌≡◌, true, ◌+◌, ◌≤◌, ◌<◌, min, length, take, drop};
-ghost use Rattle.laws.specs.Lists.{same};
-ghost use Rattle.text.specs.Text.{all, is_name_byte, is_digit, name_of, field_number};
-ghost use Rattle.text.specs.Inner.Taking.{field_at, Near, run_read, is_end, is_no_comma, taken_as};
+// The fields of a line, read one after the other: the loop that reads a field finds its end, so that each byte is looked at once.
+ghost use Rattle.std.specs.Prelude.{◌≡◌, ℕ, List, [], ◌+◌, ◌^◌, ◌≤◌, cond, is_some, is_none, length, get_or, drop, eqb};
+ghost use Rattle.text.specs.Text.{fields, index_of, is_digit, name_of};
+ghost use Rattle.text.specs.Inner.Taking.{fields_in, read_as};
 
+use crate::digits::{Decimal, Digits, Letters, front};
 use crate::find;
+use std::marker::Model;
 
-// What a field is read as, and the place after it and its comma.
-#[derive(Clone, Copy)]
-pub struct Taken {
-    pub number: Option<u64>,
-    pub next: usize,
+// The fields of a line that are still to be read. One that is absent reads as empty.
+#[derive(Drop)]
+pub struct Fields<'a> {
+    // The bytes that are left, nothing after the last field.
+    left: Option<&'a [u8]>,
 }
 
-// What bytes side by side stand for, and the place after them.
-#[derive(Clone, Copy)]
-pub(crate) struct Run {
-    pub(crate) value: u64,
-    pub(crate) end: usize,
+impl<'a> Model for Fields<'a> {
+    ghost Value = { List (List ℕ) };
+
+    ghost view = { λ f. fields_in f.left };
 }
 
-// Whether a byte is a capital letter or a digit.
-fn name_byte(x: u8) -> bool
-    ensures { result ≡ is_name_byte x }
+// What is left of a line after a field that ends at a place.
+fn after(rest: &[u8], end: usize) -> Option<&[u8]>
+    requires { end ≡ index_of 44 rest.now }
+    ensures { fields_in result ≡ drop 1 (fields rest.now) }
 {
-    (b'0' <= x) & (x <= b'9') | (b'A' <= x) & (x <= b'Z')
-}
-
-// The place after so many bytes from a place on, or the end where that is nearer.
-fn within(s: &[u8], from: usize, most: usize) -> usize
-    requires { (from < 65_600) × (most ≤ 12) }
-    ensures { result ≡ min (length s.now) (from + most) }
-{
-    if s.len() <= from + most {
-        s.len()
+    if end < rest.len() {
+        Some(&rest[end + 1..])
     } else {
-        from + most
+        None
     }
 }
 
-// The name that at most so many capitals and digits from a place on make.
-pub(crate) fn name_run(s: &[u8], from: usize, most: usize) -> Run
-    requires { (from < 65_600) × (most ≤ 8) }
-    ensures { result ≡ run_read is_name_byte 256 0 (take most (drop from s.now)) from }
-{
-    let end = within(s, from, most);
-    let mut v: u64 = 0;
-    let mut i = from;
-    while i < end {
-        let x = s[i];
-        if !name_byte(x) {
-            return Run { value: v, end: i };
+impl<'a> Fields<'a> {
+    // The fields of a line, of which an empty one has one.
+    pub fn of(line: &'a [u8]) -> Fields<'a>
+        ensures { result ≡ fields line.now }
+    {
+        Fields { left: Some(line) }
+    }
+
+    // Whether no field is left.
+    pub fn is_empty(&self) -> bool
+        ensures { result ≡ eqb (length self.now) 0 }
+    {
+        self.left.is_none()
+    }
+
+    // The bytes whose first field is the next one.
+    fn rest(&self) -> &'a [u8]
+        ensures first { get_or self.now 0 [] ≡ get_or (fields result.now) 0 [] }
+        ensures others { drop 1 self.now ≡ drop 1 (fields result.now) }
+    {
+        self.left.unwrap_or(&[])
+    }
+
+    // The next field.
+    pub fn next_field(&mut self) -> &'a [u8]
+        ensures value { result.now ≡ get_or self.old 0 [] }
+        ensures left { self.new ≡ drop 1 self.old }
+    {
+        let rest = self.rest();
+        let end = find(rest, b',');
+        self.left = after(rest, end);
+        &rest[..end]
+    }
+
+    // The next field as the number of least to most digits, or nothing, and all fields are left.
+    fn numeral<D: Digits>(&mut self, least: usize, most: usize) -> Option<u64>
+        requires { D.BASE ^ most ≤ 2 ^ 64 }
+        ensures value { result ≡ read_as D.is_digit least most D.BASE D.NAUGHT (get_or self.old 0 []) }
+        ensures left { self.new ≡ cond (is_some result) (drop 1 self.old) self.old }
+    {
+        let rest = self.rest();
+        let (value, end) = front::<D>(rest, most);
+        if end < rest.len() && rest[end] != b',' {
+            return None;
         }
-        v = v * 256 + numbers::wide(x);
-        i += 1;
-    }
-    Run { value: v, end: i }
-}
-
-// The number that at most 12 digits from a place on make.
-fn digit_run(s: &[u8], from: usize) -> Run
-    requires { from < 65_600 }
-    ensures { result ≡ run_read is_digit 10 48 (take 12 (drop from s.now)) from }
-{
-    let end = within(s, from, 12);
-    let mut v: u64 = 0;
-    let mut i = from;
-    while i < end {
-        let x = s[i];
-        if x < b'0' {
-            return Run { value: v, end: i };
+        if end < least {
+            return None;
         }
-        if b'9' < x {
-            return Run { value: v, end: i };
-        }
-        v = v * 10 + numbers::wide(x - b'0');
-        i += 1;
+        self.left = after(rest, end);
+        Some(value)
     }
-    Run { value: v, end: i }
-}
 
-// Whether a field ends at a place: a comma stands there, or nothing.
-fn is_end(line: &[u8], at: usize) -> bool
-    ensures { result ≡ is_end (drop at line.now) }
-{
-    if at < line.len() {
-        return line[at] == b',';
+    // The next field as a number of at most 12 digits.
+    pub fn number(&mut self, least: usize) -> Option<u64>
+        ensures value { result ≡ read_as is_digit least 12 10 48 (get_or self.old 0 []) }
+        ensures left { self.new ≡ cond (is_some result) (drop 1 self.old) self.old }
+    {
+        self.numeral::<Decimal>(least, 12)
     }
-    true
-}
 
-// The field that begins at a place, as the number of a name of least to most bytes.
-pub fn name_at(line: &[u8], at: usize, least: usize, most: usize) -> Taken
-    requires { Near line.now at × (least ≤ 8) × (most ≤ 8) }
-    ensures { result ≡ taken_as (name_of least most (field_at line.now at)) line.now at }
-{
-    let run = name_run(line, at, most);
-    let end = run.end;
-    if !is_end(line, end) {
-        return Taken {
-            number: None,
-            next: find(line, at, b',') + 1,
-        };
+    // The next field as the number of a firm's name.
+    pub fn firm(&mut self) -> Option<u64>
+        ensures value { result ≡ name_of 1 4 (get_or self.old 0 []) }
+        ensures left { self.new ≡ cond (is_some result) (drop 1 self.old) self.old }
+    {
+        self.numeral::<Letters>(1, 4)
     }
-    if end < at + least {
-        return Taken {
-            number: None,
-            next: end + 1,
-        };
-    }
-    Taken {
-        number: Some(run.value),
-        next: end + 1,
-    }
-}
 
-// The field that begins at a place, as a number of 1 to 12 digits.
-pub fn digits_at(line: &[u8], at: usize) -> Taken
-    requires { Near line.now at }
-    ensures { result ≡ taken_as (field_number (field_at line.now at)) line.now at }
-{
-    let run = digit_run(line, at);
-    let end = run.end;
-    if !is_end(line, end) {
-        return Taken {
-            number: None,
-            next: find(line, at, b',') + 1,
-        };
+    // The next field as the number of a root's name, 0 where it is empty.
+    pub fn root(&mut self) -> Option<u64>
+        ensures value { result ≡ name_of 0 6 (get_or self.old 0 []) }
+        ensures left { self.new ≡ cond (is_some result) (drop 1 self.old) self.old }
+    {
+        self.numeral::<Letters>(0, 6)
     }
-    if end == at {
-        return Taken {
-            number: None,
-            next: end + 1,
-        };
-    }
-    Taken {
-        number: Some(run.value),
-        next: end + 1,
-    }
-}
-
-// Whether the field that begins at a place holds these bytes. The loop has no way out, so that they are compared at once.
-pub fn is_field(line: &[u8], at: usize, word: &[u8]) -> bool
-    requires { (at < 65_600) × (length word.now ≤ 16) × (all is_no_comma word.now ≡ true) }
-    ensures { result ≡ same (field_at line.now at) word.now }
-{
-    let end = at + word.len();
-    if line.len() < end {
-        return word.len() == 0;
-    }
-    let mut alike = true;
-    let mut i: usize = 0;
-    while i < word.len() {
-        alike = alike & (line[at + i] == word[i]);
-        i += 1;
-    }
-    alike & is_end(line, end)
 }

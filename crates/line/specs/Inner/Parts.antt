@@ -1,39 +1,42 @@
 -- What the private functions that read the parts of a line answer; no public contract cites this. Assumes nothing.
-use Rattle.std.specs.Prelude.{ℕ, ◌+◌, ◌≡◌, Bool, cond, ◌&&◌, List, length, leb, Option, Some, None, is_some, unwrap_or}
+use Rattle.std.specs.Prelude.{ℕ, ◌≡◌, Bool, false, cond, List, eqb, Option, Some, None}
 use Rattle.measures.specs.Ranges.{is_in}
 use Rattle.rules.specs.declared.Limit.{Limit}
-use Rattle.text.specs.Text.{fields, field}
-use Rattle.text.specs.Inner.Taking.{Cursor, field_at}
-use Rattle.line.specs.Line.{limits_of, limit_of, time_of, firm_field, type_field, root_field, limit_field, is_firm_level, call_put, month, firm_in, type_in, root_in, limit_in}
+use Rattle.line.specs.Line.{limits_of, limit_of, malformed, is_firm_level, call_put, month, firm_in, type_in, root_in, limit_in, time_in}
 use Rattle.line.specs.declared.LimitType.{LimitType}
-use Rattle.line.specs.declared.fields.Head.{Head}
-use Rattle.line.specs.declared.fields.Tail.{Tail}
+use Rattle.line.specs.declared.fields.Side.{Side}
+use Rattle.line.specs.declared.fields.Side.TheVariants.{Call, Put}
+use Rattle.line.specs.declared.fields.Month.{Month}
+use Rattle.line.specs.declared.fields.Month.TheVariants.{Front, Trailing}
+use Rattle.line.specs.declared.fields.Said.{Said}
 
 -- a number as a type's limit, if it is in range
 unfoldable pub limit_read : LimitType → ℕ → Option Limit
 limit_read type n = cond (is_in (limits_of type) n) (Some (limit_of type n)) None
 
--- the place after the field that begins at a place, and its comma
-abbrev pub after_field : List ℕ → ℕ → ℕ
-after_field line at = at + length (field_at line at) + 1
+-- the choice that a number of `letter_of` stands for: none, one of two, or nothing that may stand there
+abbrev pub chosen : {A : Type 0} → A → A → ℕ → Option (Option A)
+chosen one two n = cond (eqb n 0) (Some None) (cond (eqb n 1) (Some (Some one)) (cond (eqb n 2) (Some (Some two)) None))
 
--- what the first four fields say, and that the fifth begins at the place after them
-pub record HeadSays (line : List ℕ) (head : Head) : Type 0 where
-  pub well :
-      head.well
-      ≡ (leb 4 (length (fields line)) && is_some (firm_field line) && is_some (type_field line) && is_some (root_field line) && is_some (limit_field line))
-  pub firm : head.firm ≡ firm_in line
-  pub named : head.named ≡ type_in line
-  pub root : head.root ≡ root_in line
-  pub limit : head.limit ≡ limit_in line
-  pub next : Cursor line head.next 4
+-- the numbers of the choices that a line can make
+abbrev pub side_number : Option Side → ℕ
+side_number None = 0
+side_number (Some Call) = 1
+side_number (Some Put) = 2
 
--- what the last four fields say
-pub record TailSays (line : List ℕ) (absolute : Bool) (tail : Tail) : Type 0 where
-  pub well :
-      tail.well
-      ≡ (leb (length (fields line)) 8 && is_some (time_of absolute (field line 4)) && leb (call_put line) 2 && leb (month line) 2)
-  pub time : tail.time ≡ unwrap_or (time_of absolute (field line 4)) 0
-  pub firmwide : tail.firmwide ≡ is_firm_level line
-  pub call : tail.call ≡ call_put line
-  pub month : tail.month ≡ month line
+abbrev pub month_number : Option Month → ℕ
+month_number None = 0
+month_number (Some Front) = 1
+month_number (Some Trailing) = 2
+
+-- what the fields of a line say that is well formed
+pub record Says (line : List ℕ) (said : Said) : Type 0 where
+  pub well : malformed line ≡ false
+  pub firm : said.firm ≡ firm_in line
+  pub named : said.named ≡ type_in line
+  pub root : said.root ≡ root_in line
+  pub limit : said.limit ≡ limit_in line
+  pub time : said.time ≡ time_in line
+  pub firmwide : said.firmwide ≡ is_firm_level line
+  pub call : side_number said.call ≡ call_put line
+  pub month : month_number said.month ≡ month line

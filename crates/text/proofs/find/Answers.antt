@@ -1,16 +1,16 @@
--- `text::find` meets its contract: what is left from i on has its first b as far as the whole has it. Assumes nothing.
-use mathlib.Core.Path.{refl, sym, ◌∙◌}
-use Rattle.text.proofs.Lists.{index_on, index-here, index-end}
+-- `text::find` meets its contract: as many bytes stand before the first b as the search passes. Assumes nothing.
+use Rattle.std.proofs.Common.{ℕ, ◌≡◌, List, refl, sym, ◌∙◌, rules, tests}
+use Rattle.std.proofs.lemmas.Iterator.{IsFirst-from_position, YieldsList-from_slice, index_from_first}
+use Rattle.text.specs.Text.{index_of}
+use Rattle.text.proofs.Lists.{index-hit, index-miss}
 use Rattle.text.proofs.find.Goals as goal
 
-pub loop-i-init : goal.loop-i-init
-loop-i-init c = refl
-
-pub returns-then-s-i : goal.returns-then-s-i
-returns-then-s-i c = sym (c.loop-i.invariant ∙ index-here _ _ _ c.loop-i-test.true c.if-s-i.true)
-
-pub loop-i-preserved : goal.loop-i-preserved
-loop-i-preserved c = c.loop-i.invariant ∙ index_on _ _ _ c.loop-i-test.true c.if-s-i.false
-
 pub returns : goal.returns
-returns c = sym (c.loop-i.invariant ∙ index-end _ _ _ c.loop-i-test.false)
+unfolding index_of
+returns c =
+    let b = c.args.b in
+    c.unwrap_or.ensures
+    ∙ sym (
+    index_from_first (index_of b) (λ x. x ≡ b) (λ x. x ≡ b → ⊥) refl (index-hit b) (index-miss b) c.args.s.now c.position.result
+    (IsFirst-from_position _ _ _ (λ x. x ≡ b) (λ x. x ≡ b → ⊥) c.position.ensures.ran (YieldsList-from_slice c.args.s.now cc) (λ x q k. search (rules, tests)) (λ x q k. search (rules, tests)))
+    )

@@ -1,15 +1,13 @@
--- `text::find_far` meets its contract: what is left from i on has its first b as far as the whole has it. Assumes nothing.
-use mathlib.Core.Path.{refl, sym, ◌∙◌}
+-- `text::find_far` meets its contract: the bytes that were passed have no b. Assumes nothing.
+use Rattle.std.proofs.Common.{arith}
+use Rattle.text.proofs.Lists.{index-le, index-on}
 use Rattle.text.proofs.find_far.Goals as goal
 
-pub loop-i-init : goal.loop-i-init
-loop-i-init c = refl
+pub loop-eight-preserved : goal.loop-eight-preserved
+loop-eight-preserved c =
+    let cut = c.in-Some.ensures.cases in
+    let on = index-on c.args.b c.loop-eight.rest.now c.in-Some.eight.now c.in-Some.more.now 8 cut.0 cut.1 (c.is_near.ensures c.if-is_near.false) in
+    (omega arith, omega arith)
 
-pub returns-then-is_near : goal.returns-then-is_near
-returns-then-is_near c = c.find-then-is_near.ensures ∙ sym c.loop-i.invariant
-
-pub loop-i-preserved : goal.loop-i-preserved
-loop-i-preserved c = c.loop-i.invariant ∙ c.is_near.ensures c.if-is_near.false
-
-pub returns : goal.returns
-returns c = c.find-2.ensures ∙ sym c.loop-i.invariant
+pub overflow_add-result : goal.overflow_add-result
+overflow_add-result c = omega (arith, index-le c.args.b c.args.s.now)

@@ -1,40 +1,35 @@
 -- What the functions answer that read the fields of a line where they stand. Assumes nothing.
-use Rattle.std.specs.Prelude.{ℕ, ◌+◌, ◌≤◌, ◌<◌, ◌≡◌, Bool, true, cond, not, List, [], ◌∷◌, length, get_or, drop, eqb, Option}
-use Rattle.text.specs.Text.{fields, fields_from, numeral}
-use Rattle.text.specs.declared.fields.Run.{Run}
-use Rattle.text.specs.declared.fields.Taken.{Taken}
+use Rattle.std.specs.Prelude.{ℕ, zero, suc, ◌+◌, ◌-◌, ◌/◌, ◌%◌, ◌≤◌, ◌<◌, ◌≡◌, Bool, true, false, cond, List, [], ◌∷◌, ◌++◌, length, Option, Some, None}
+use denote.Ref.{Bor}
+use Rattle.text.specs.Text.{fields, made, numeral}
 
--- the field of a line that begins at a place, empty where the place is past the end
-abbrev pub field_at : List ℕ → ℕ → List ℕ
-field_at line at = get_or (fields_from line at) 0 []
-
--- a cursor over the fields of a line: field k begins at the place, which is past the end exactly if there is no field k
-pub record Cursor (line : List ℕ) (at k : ℕ) : Type 0 where
-  pub left : fields_from line at ≡ drop k (fields line)
-  pub reach : at ≤ length line + k
-
--- a place in a line or just past it, where the line is no longer than a profile may be
-abbrev pub Near : List ℕ → ℕ → Type 0
-Near line at = (length line ≤ 65_536) × (at < 65_600)
+-- the fields that are left of a line: none where nothing is
+abbrev pub fields_in : Option (Bor (List ℕ)) → List (List ℕ)
+fields_in None = []
+fields_in (Some rest) = fields rest.now
 
 -- the bytes in front that have a property
 unfoldable pub front : (ℕ → Bool) → List ℕ → List ℕ
 front p [] = []
 front p (x ∷ xs) = cond (p x) (x ∷ front p xs) []
 
--- what the bytes in front with a property stand for in a base, and the place after them
-unfoldable pub run_read : (ℕ → Bool) → ℕ → ℕ → List ℕ → ℕ → Run
-run_read p base naught s at = record { value = numeral base naught (front p s); end = at + length (front p s) }
+-- what the bytes in front with a property stand for in a base, and how many they are
+unfoldable pub run_read : (ℕ → Bool) → ℕ → ℕ → List ℕ → ℕ × ℕ
+run_read p base naught s = (numeral base naught (front p s), length (front p s))
 
--- whether a field ends before these bytes: there are none, or a comma is the first
-unfoldable pub is_end : List ℕ → Bool
-is_end [] = true
-is_end (x ∷ xs) = eqb x 44
+-- what a field of least to most bytes, each with the property p, is read as
+unfoldable pub read_as : (ℕ → Bool) → ℕ → ℕ → ℕ → ℕ → List ℕ → Option ℕ
+read_as p least most base naught f = cond (made p least most f) (Some (numeral base naught f)) None
 
--- a byte that stands in fields
-abbrev pub is_no_comma : ℕ → Bool
-is_no_comma x = not (eqb x 44)
+-- bytes that are digits stand for numbers below the base, which one byte holds, and no comma is one
+pub record AreDigits (p : ℕ → Bool) (base naught : ℕ) : Type 0 where
+  pub low : (x : ℕ) → p x ≡ true → naught ≤ x
+  pub high : (x : ℕ) → p x ≡ true → x - naught < base
+  pub some : 0 < base
+  pub byte : base + naught ≤ 256
+  pub comma : p 44 ≡ false
 
--- what a field is read as, with the place after the field and its comma
-abbrev pub taken_as : Option ℕ → List ℕ → ℕ → Taken
-taken_as number line at = record { number = number; next = at + length (field_at line at) + 1 }
+-- the last k digits of a number in a base, each as the byte that stands for it
+unfoldable pub last_digits : ℕ → ℕ → ℕ → ℕ → List ℕ
+last_digits base naught zero n = []
+last_digits base naught (suc k) n = last_digits base naught k (n / base) ++ ((n % base + naught) ∷ [])

@@ -1,28 +1,27 @@
--- `line::LimitType::limit` meets its contract: the arm tells the type, and the function of its measure the limit. Assumes nothing.
+-- `line::LimitType::limit` meets its contract: the arm tells the measure, whose constructor takes the number. Assumes nothing.
+use Rattle.std.proofs.Common.{◌≡◌, Some}
+use Rattle.rules.specs.declared.Limit.TheVariants.{Notional, Volume, Count}
 use Rattle.line.specs.Line.{limits_of, limit_of}
 use Rattle.line.specs.Inner.Parts.{limit_read}
+use Rattle.line.specs.declared.LimitType.{LimitType}
+use Rattle.line.specs.declared.LimitType.TheVariants.{RateNtnl, RateVol, RateCount, AbsNtnl, AbsVol, AbsCount}
+use Rattle.line.proofs.Parts.{limit_taken, either}
 use Rattle.line.proofs.LimitType.limit.Goals as goal
 
-pub returns-in-RateNtnl : goal.returns-in-RateNtnl
-unfolding limit_read limits_of limit_of
-returns-in-RateNtnl c = rw c.in-RateNtnl.is c.notional.ensures
+pub returns-in_ok-limit-in-RateNtnl : goal.returns-in_ok-limit-in-RateNtnl
+unfolding limits_of limit_of
+returns-in_ok-limit-in-RateNtnl c =
+    either c.in-RateNtnl.is (λ (t : LimitType). Some (Notional c.in_ok-limit-in-RateNtnl.field-0) ≡ limit_read t c.args.n)
+    (limit_taken RateNtnl c.args.n c.in_ok-limit-in-RateNtnl.ensures) (limit_taken AbsNtnl c.args.n c.in_ok-limit-in-RateNtnl.ensures)
 
-pub returns-in-RateVol : goal.returns-in-RateVol
-unfolding limit_read limits_of limit_of
-returns-in-RateVol c = rw c.in-RateVol.is c.volume.ensures
+pub returns-in_ok-limit-in-RateVol : goal.returns-in_ok-limit-in-RateVol
+unfolding limits_of limit_of
+returns-in_ok-limit-in-RateVol c =
+    either c.in-RateVol.is (λ (t : LimitType). Some (Volume c.in_ok-limit-in-RateVol.field-0) ≡ limit_read t c.args.n)
+    (limit_taken RateVol c.args.n c.in_ok-limit-in-RateVol.ensures) (limit_taken AbsVol c.args.n c.in_ok-limit-in-RateVol.ensures)
 
-pub returns-in-RateCount : goal.returns-in-RateCount
-unfolding limit_read limits_of limit_of
-returns-in-RateCount c = rw c.in-RateCount.is c.count.ensures
-
-pub returns-in-AbsNtnl : goal.returns-in-AbsNtnl
-unfolding limit_read limits_of limit_of
-returns-in-AbsNtnl c = rw c.in-AbsNtnl.is c.notional-in-AbsNtnl.ensures
-
-pub returns-in-AbsVol : goal.returns-in-AbsVol
-unfolding limit_read limits_of limit_of
-returns-in-AbsVol c = rw c.in-AbsVol.is c.volume-in-AbsVol.ensures
-
-pub returns-in-AbsCount : goal.returns-in-AbsCount
-unfolding limit_read limits_of limit_of
-returns-in-AbsCount c = rw c.in-AbsCount.is c.count-in-AbsCount.ensures
+pub returns-in_ok-limit-in-RateCount : goal.returns-in_ok-limit-in-RateCount
+unfolding limits_of limit_of
+returns-in_ok-limit-in-RateCount c =
+    either c.in-RateCount.is (λ (t : LimitType). Some (Count c.in_ok-limit-in-RateCount.field-0) ≡ limit_read t c.args.n)
+    (limit_taken RateCount c.args.n c.in_ok-limit-in-RateCount.ensures) (limit_taken AbsCount c.args.n c.in_ok-limit-in-RateCount.ensures)
