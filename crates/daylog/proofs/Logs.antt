@@ -118,10 +118,6 @@ pub set-table : (xs ys : List ℕ) (n : ℕ) (es : List Entry) → length xs ≡
 set-table [] ys n es l k e = absurd (omega arith)
 set-table (x ∷ xs) ys n es l k e = (λ i. k i ∷ (e i ++ nothing-after xs (omega arith) i)) ∙ ap (λ (q : List ℕ). length es ∷ q) (append-nil (log_table es))
 
--- as many entries as the table says
-pub entries-many : (xs : List ℕ) → length (entries_in xs) ≡ get_or xs 0 0
-entries-many xs = length-places codec (get_or xs 0 0) (places_in xs)
-
 -- the test of a table, by its count
 module _ (n clock : ℕ) (xs : List ℕ) where
   pub log-many : 512 < get_or xs 0 0 → false ≡ log_holds n clock xs
