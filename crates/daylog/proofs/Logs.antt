@@ -16,7 +16,7 @@ use Rattle.machine.specs.Entries.{is_entry, are_ordered, is_flagged}
 use Rattle.machine.specs.declared.Entry.{Entry}
 use Rattle.packing.specs.EntryPlace.{entry_at, entry_numbers, is_entry_place, log_table}
 use Rattle.packing.proofs.Parts.{two}
-use Rattle.tables.proofs.Tables.{Codec, is-table, valid-places, length-table, length-places, place-table, places-table, rest-table}
+use Rattle.tables.proofs.Tables.{Codec, is-table, valid-places, length-table, place-table, places-table, rest-table}
 use Rattle.tables.proofs.Passing.{pass-each, each-pass}
 use Rattle.packing.proofs.EntryPlace.{entry-codec, entry-wider}
 use Rattle.daylog.specs.Inner.Log.{is_log_place, entries_hold, log_holds, HeldLog, HeldIn, entries_of, places_in, entries_in, log_numbers}

@@ -13,7 +13,6 @@ use Rattle.laws.proofs.Every.{every_first, every_drop, every_append, every-join}
 use Rattle.machine.specs.Entries.{is_entry}
 use Rattle.machine.specs.declared.Entry.{Entry}
 use Rattle.packing.specs.EntryPlace.{entry_at, entry_numbers, is_entry_place, log_table}
-use Rattle.shapes.proofs.Tables.{length-zeros}
 use Rattle.tables.proofs.Tables.{length-flat, length-places, length-table, place-table, read_table, put-at, put_next}
 use Rattle.tables.proofs.AllZero.{zeros-add}
 use Rattle.daylog.specs.Inner.Log.{HeldLog, entries_of, last_of, joined_entries, Left}

@@ -4,7 +4,7 @@ use native.Mathlib.Nat.{mul-one}
 use native.Mathlib.Omega.{arith}
 use mathlib.Core.Path.{◌≡◌, refl, sym, ap, ◌∙◌}
 use mathlib.Core.Bool.{true}
-use mathlib.Core.List.{List, [], ◌∷◌, ◌++◌}
+use mathlib.Core.List.{List, ◌∷◌, ◌++◌}
 use lib.ListN.{length, get_or, take, drop, set, get_or-map}
 use lib.Seq.{get_or-take, get_or-drop}
 use Rattle.shapes.specs.Shape.{Exact, cell, both, named, word, flag, rows, table}

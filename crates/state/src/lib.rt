@@ -66,6 +66,8 @@ pub fn write_armed(m: &mut [u64], firm: u64, roots: u64, rules: u64, names: &[u6
     daylog::blank(&mut m[TOTALS..SIZE]);
 }
 
+// Each function says `Laid` itself: a struct's ghost field has to be a fact with one proof, which `Laid` is not shown to be.
+
 // The longest window of the rules, 0 if none is a rate rule.
 pub fn longest_window(m: &[u64]) -> u64
     requires { Laid m.now }

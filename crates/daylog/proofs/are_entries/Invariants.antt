@@ -1,5 +1,5 @@
 -- `daylog::are_entries` meets its contract: what is left from place i on decides as the whole does. Assumes nothing.
-use Prim.Native.Nat.{◌-◌, ◌≤◌, ◌<◌}
+use Prim.Native.Nat.{◌≤◌, ◌<◌}
 use mathlib.Core.Path.{◌≡◌}
 use mathlib.Core.Bool.{◌&&◌}
 use Rattle.packing.specs.Gaps.{is_clear}

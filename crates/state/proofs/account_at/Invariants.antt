@@ -1,5 +1,4 @@
 -- `state::account_at` meets its contract: the place is that of the accounts of rule i, for each rule before the one that is asked for. Assumes nothing.
-use Prim.Native.Nat.{◌-◌, ◌≤◌}
 use mathlib.Core.Path.{◌≡◌}
 use Rattle.machine.specs.State.{rules_in}
 use Rattle.machine.specs.Remaining.{first_cell}

@@ -1,5 +1,5 @@
 -- `daylog::unflag_places` meets its contract: what came of the first i entries stands in front, the others as they were, and at the end the places after those that stay are set to 0. Assumes nothing.
-use Prim.Native.Nat.{◌-◌, ◌≤◌}
+use Prim.Native.Nat.{◌≤◌}
 use mathlib.Core.Path.{◌≡◌}
 use lib.ListN.{length}
 use Rattle.machine.specs.Effects.{zeroing}

@@ -1,6 +1,6 @@
 -- `daylog::since` meets its contract: those from a place on are passed, with those that are still to be passed before it. Each turn looks at four entries at
 -- most, and all that were looked at so far are passed, so these and what is still to be looked at are as many as the reading looks at. Assumes nothing.
-use Prim.Native.Nat.{◌+◌, ◌-◌, ◌*◌, ◌/◌, ◌≤◌}
+use Prim.Native.Nat.{◌+◌, ◌-◌, ◌*◌}
 use mathlib.Core.Path.{◌≡◌}
 use lib.ListN.{length}
 use Rattle.daylog.specs.Inner.Log.{entries_of}

@@ -1,6 +1,6 @@
 -- `daylog::singly` meets its contract: those from a place on are passed, with those that are still to be passed before it. Each turn looks at one entry, so
 -- the turns made and the entries still to be looked at are as many as the reading looks at. Assumes nothing.
-use Prim.Native.Nat.{◌+◌, ◌-◌, ◌≤◌}
+use Prim.Native.Nat.{◌+◌, ◌-◌}
 use mathlib.Core.Path.{◌≡◌}
 use lib.ListN.{length}
 use Rattle.daylog.specs.Inner.Log.{entries_of}
