@@ -2,7 +2,7 @@
 use Prim.Native.Nat.{ℕ, zero, suc}
 use mathlib.Core.Path.{◌≡◌, refl, sym, ap, ◌∙◌}
 use mathlib.Core.Bool.{Bool, true, false, not, cond, ◌&&◌, ◌||◌}
-use mathlib.Core.List.{List}
+use mathlib.Core.List.{List, [], ◌∷◌}
 use lib.ListN.{get_or, set}
 use lib.Dec.{eqb}
 use borrow.Author.Tests.{eq-eqb}
@@ -79,32 +79,68 @@ module _ {xs : List ℕ} (h : AreLocks xs) where
   locks-firm level root other =
       ap (λ (q : List ℕ). set q 1 1) h.are ∙ ap (λ (level : Level). locks_numbers (locked_out level (locks_in xs))) (sym (names-firm level root other))
 
-  -- what an effect lifts
-  pub lifts : (root : ℕ) (effect : Effect) {a b t u : ℕ} → a ≡ cond effect.liftfirm 0 (get_or xs 0 0)
-      → b ≡ cond effect.liftfirm 0 (get_or xs 1 0)
-      → t ≡ cond effect.liftroot (without_bit (get_or xs 2 0) root) (get_or xs 2 0)
-      → u ≡ cond effect.liftroot (without_bit (get_or xs 3 0) root) (get_or xs 3 0)
-      → set (set (set (set xs 0 a) 1 b) 2 t) 3 u ≡ locks_numbers (lifted (lifting effect root) root (locks_in xs))
-  unfolding lifted lifting
-  lifts root effect ea eb et eu =
-      let l = locks_in xs in
-      let firm = effect.liftfirm in
-      let lift = lifts-root effect root in
-      let trip = ea ∙ ap (cond firm 0) firm-trip ∙ flag-lifted firm l.firm_tripped in
-      let user = eb ∙ ap (cond firm 0) firm-user ∙ flag-lifted firm l.firm_by_user in
-      let trips = et ∙ (λ i. cond (lift i) (without_bit (trip-word i) root) (trip-word i)) in
-      let users = eu ∙ (λ i. cond (lift i) (without_bit (user-word i) root) (user-word i)) in
-      λ i. set (set (set (set (h.are i) 0 (trip i)) 1 (user i)) 2 (trips i)) 3 (users i)
+  -- what an effect lifts: first the firm's marks
+  firm-lifted : (lifts : Bool) {ys : List ℕ} → ys ≡ cond lifts (set (set xs 0 0) 1 0) xs
+      → ys ≡ locks_numbers (record {
+        firm_tripped = not lifts && (locks_in xs).firm_tripped;
+        firm_by_user = not lifts && (locks_in xs).firm_by_user;
+        tripped = (locks_in xs).tripped;
+        by_user = (locks_in xs).by_user;
+      })
+  firm-lifted true e = e ∙ ap (λ (q : List ℕ). set (set q 0 0) 1 0) h.are
+  firm-lifted false e = e ∙ h.are
 
-  -- what trips
-  pub trips : (root : ℕ) (roottrips firmtrips : Bool) {a t : ℕ} → a ≡ cond firmtrips 1 (get_or xs 0 0)
-      → t ≡ cond roottrips (with_bit (get_or xs 2 0) root) (get_or xs 2 0)
-      → set (set xs 0 a) 2 t ≡ locks_numbers (tripped_by (tripping roottrips firmtrips) root (locks_in xs))
-  unfolding tripped_by tripping
-  trips root roottrips firmtrips ea et =
-      let trip = ea ∙ ap (cond firmtrips 1) firm-trip ∙ flag-set firmtrips (locks_in xs).firm_tripped in
-      let word = et ∙ (λ i. cond roottrips (with_bit (trip-word i) root) (trip-word i)) in
-      λ i. set (set (h.are i) 0 (trip i)) 2 (word i)
+  module _ (root : ℕ) (effect : Effect) {ys : List ℕ} (e : ys ≡ cond effect.liftfirm (set (set xs 0 0) 1 0) xs) where
+    pub lifts-on : effect.liftroot ≡ true → {t u : ℕ} → t ≡ without_bit (get_or ys 2 0) root → u ≡ without_bit (get_or (set ys 2 t) 3 0) root
+        → set (set ys 2 t) 3 u ≡ locks_numbers (lifted (lifting effect root) root (locks_in xs))
+    unfolding lifted lifting
+    lifts-on on {t} {u} et eu =
+        let l = locks_in xs in
+        let y = firm-lifted effect.liftfirm e in
+        let lift = sym (lifts-root effect root) ∙ on in
+        let trips : t ≡ without_bit l.tripped root = et ∙ (λ i. without_bit (get_or (y i) 2 0) root) in
+        let users : u ≡ without_bit l.by_user root = eu ∙ (λ i. without_bit (get_or (set (y i) 2 t) 3 0) root) in
+        (λ i. set (set (y i) 2 (trips i)) 3 (users i))
+        ∙ sym (λ i. flag_number (not effect.liftfirm && l.firm_tripped) ∷ flag_number (not effect.liftfirm && l.firm_by_user)
+        ∷ cond (lift i) (without_bit l.tripped root) l.tripped ∷ cond (lift i) (without_bit l.by_user root) l.by_user ∷ [])
+
+    pub lifts-off : effect.liftroot ≡ false → ys ≡ locks_numbers (lifted (lifting effect root) root (locks_in xs))
+    unfolding lifted lifting
+    lifts-off off =
+        let l = locks_in xs in
+        let lift = sym (lifts-root effect root) ∙ off in
+        firm-lifted effect.liftfirm e
+        ∙ sym (λ i. flag_number (not effect.liftfirm && l.firm_tripped) ∷ flag_number (not effect.liftfirm && l.firm_by_user)
+        ∷ cond (lift i) (without_bit l.tripped root) l.tripped ∷ cond (lift i) (without_bit l.by_user root) l.by_user ∷ [])
+
+  -- what trips: first the firm
+  firm-trips : (trips : Bool) {ys : List ℕ} → ys ≡ cond trips (set xs 0 1) xs
+      → ys ≡ locks_numbers (record {
+        firm_tripped = trips || (locks_in xs).firm_tripped;
+        firm_by_user = (locks_in xs).firm_by_user;
+        tripped = (locks_in xs).tripped;
+        by_user = (locks_in xs).by_user;
+      })
+  firm-trips true e = e ∙ ap (λ (q : List ℕ). set q 0 1) h.are
+  firm-trips false e = e ∙ h.are
+
+  module _ (root : ℕ) (roottrips firmtrips : Bool) {ys : List ℕ} (e : ys ≡ cond firmtrips (set xs 0 1) xs) where
+    pub trips-on : roottrips ≡ true → {t : ℕ} → t ≡ with_bit (get_or ys 2 0) root
+        → set ys 2 t ≡ locks_numbers (tripped_by (tripping roottrips firmtrips) root (locks_in xs))
+    unfolding tripped_by tripping
+    trips-on on {t} et =
+        let l = locks_in xs in
+        let y = firm-trips firmtrips e in
+        let word : t ≡ with_bit l.tripped root = et ∙ (λ i. with_bit (get_or (y i) 2 0) root) in
+        (λ i. set (y i) 2 (word i))
+        ∙ sym (λ i. flag_number (firmtrips || l.firm_tripped) ∷ flag_number l.firm_by_user ∷ cond (on i) (with_bit l.tripped root) l.tripped ∷ l.by_user ∷ [])
+
+    pub trips-off : roottrips ≡ false → ys ≡ locks_numbers (tripped_by (tripping roottrips firmtrips) root (locks_in xs))
+    unfolding tripped_by tripping
+    trips-off off =
+        let l = locks_in xs in
+        firm-trips firmtrips e
+        ∙ sym (λ i. flag_number (firmtrips || l.firm_tripped) ∷ flag_number l.firm_by_user ∷ cond (off i) (with_bit l.tripped root) l.tripped ∷ l.by_user ∷ [])
 
 -- two tests stand for the levels that trip
 pub trips-told : (levels : Level → Bool) (root : ℕ) (l : Locks) {roottrips firmtrips : Bool} → roottrips ≡ levels (Root root) → firmtrips ≡ levels Firm

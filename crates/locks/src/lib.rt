@@ -60,16 +60,14 @@ pub fn lift(locks: &mut [u64], root: u64, effect: Effect)
     requires { AreLocks locks.old × (root < 64) }
     ensures { locks.new ≡ locks_numbers (lifted (lifting effect root) root (locks_in locks.old)) }
 {
-    let firm = numbers::pick(effect.liftfirm, 0, locks[FIRM_TRIPPED]);
-    let user = numbers::pick(effect.liftfirm, 0, locks[FIRM_BY_USER]);
-    let tripped = locks[TRIPPED];
-    let trips = numbers::pick(effect.liftroot, bits::unmark(tripped, root), tripped);
-    let locked = locks[BY_USER];
-    let users = numbers::pick(effect.liftroot, bits::unmark(locked, root), locked);
-    locks[FIRM_TRIPPED] = firm;
-    locks[FIRM_BY_USER] = user;
-    locks[TRIPPED] = trips;
-    locks[BY_USER] = users;
+    if effect.liftfirm {
+        locks[FIRM_TRIPPED] = 0;
+        locks[FIRM_BY_USER] = 0;
+    }
+    if effect.liftroot {
+        locks[TRIPPED] = bits::unmark(locks[TRIPPED], root);
+        locks[BY_USER] = bits::unmark(locks[BY_USER], root);
+    }
 }
 
 // A root trips, and the firm trips, where the tests say so.
@@ -77,9 +75,10 @@ pub fn trip(locks: &mut [u64], root: u64, roottrips: bool, firmtrips: bool)
     requires { AreLocks locks.old × (root < 64) }
     ensures { locks.new ≡ locks_numbers (tripped_by (tripping roottrips firmtrips) root (locks_in locks.old)) }
 {
-    let firm = numbers::pick(firmtrips, 1, locks[FIRM_TRIPPED]);
-    let tripped = locks[TRIPPED];
-    let trips = numbers::pick(roottrips, bits::mark(tripped, root), tripped);
-    locks[FIRM_TRIPPED] = firm;
-    locks[TRIPPED] = trips;
+    if firmtrips {
+        locks[FIRM_TRIPPED] = 1;
+    }
+    if roottrips {
+        locks[TRIPPED] = bits::mark(locks[TRIPPED], root);
+    }
 }
