@@ -19,10 +19,6 @@ pub(crate) trait Form<const N: usize>: Copy {
     // The widths of the fields.
     const WIDTHS: [u64; N];
 
-    // The values of an event's fields.
-    fn values(self) -> [u64; N]
-        ensures { result ≡ form.values self };
-
     // The event that the values of the fields stand for, by their kind.
     fn of_values(v: &[u64; N]) -> Self
         ensures { result ≡ form.event v.now };

@@ -38,6 +38,7 @@ pub enum Event {
     },
 }
 
+// Two enums, as specs/Event and specs/Event16 promise which kinds each form holds.
 // An event of a 16-byte record: its time is in microseconds, resets go up to 6, and orders may be sent away.
 #[derive(Clone, Copy)]
 pub enum Event16 {
@@ -95,24 +96,10 @@ impl Form<9> for Event {
     // Kind, time, root, unit, premium, contracts, reset, level, spare.
     const WIDTHS: [u64; 9] = [2, 27, 6, 2, 27, 20, 2, 1, 9];
 
-    #[tactic(auto, unfolding(crate::specs::Event::values_of))]
-    fn values(self) -> [u64; 9] {
-        match self {
-            Event::Order { time, root, reset } => [0, time, root, 0, 0, 0, reset, 0, 0],
-            Event::Offer {
-                time,
-                root,
-                unit,
-                premium,
-                contracts,
-            } => [1, time, root, unit, premium, contracts, 0, 0, 0],
-            Event::Lockout { time, level, root } => [2, time, root, 0, 0, 0, 0, level, 0],
-        }
-    }
-
     #[tactic(auto, unfolding(crate::specs::Event::event_of))]
     fn of_values(v: &[u64; 9]) -> Event {
         let [kind, time, root, unit, premium, contracts, reset, level, _] = *v;
+        // A record holds its kind as a number, as specs/Event `event_of` says.
         match kind {
             0 => Event::Order { time, root, reset },
             1 => Event::Offer {
@@ -132,17 +119,28 @@ impl Form<9> for Event {
 }
 
 // The values of an event's fields.
+#[tactic(auto, unfolding(crate::specs::Event::values_of))]
 pub fn values_of(e: Event) -> [u64; 9]
     ensures { result ≡ values_of e }
 {
-    e.values()
+    match e {
+        Event::Order { time, root, reset } => [0, time, root, 0, 0, 0, reset, 0, 0],
+        Event::Offer {
+            time,
+            root,
+            unit,
+            premium,
+            contracts,
+        } => [1, time, root, unit, premium, contracts, 0, 0, 0],
+        Event::Lockout { time, level, root } => [2, time, root, 0, 0, 0, 0, level, 0],
+    }
 }
 
 // Whether every number of an event is in its range, and a lockout of the firm names root 0.
 pub fn is_valid(e: Event) -> bool
     ensures { result ≡ is_valid e }
 {
-    Event::are_values(&e.values())
+    Event::are_values(&values_of(e))
 }
 
 // The event that the values of the fields stand for: they are just those of a valid event.
@@ -167,6 +165,7 @@ pub fn read(s: &[u8]) -> Result<Event, Refusal>
 pub fn read_numbers(s: &[u8], row: &mut [u64; 9])
     ensures { row.new ≡ event_row (read_of s.now) }
 {
+    // The rows of the two forms have 9 and 13 numbers for C: `mbrumzheg_read_record`, `mbrumzheg_read_record16`.
     *row = match form::fields::<9, Event>(s) {
         Ok(v) => [0, v[0], v[1], v[2], v[3], v[4], v[5], v[6], v[7]],
         Err(refusal) => [refusal.number(), 0, 0, 0, 0, 0, 0, 0, 0],
@@ -187,5 +186,5 @@ pub fn write(e: Event, room: &mut [u8]) -> Result<(), Refusal>
     ensures value { result ≡ wrote_of e (length room.old) }
     ensures room_after { room.new ≡ written form e room.old }
 {
-    write_values(e.values(), room)
+    write_values(values_of(e), room)
 }

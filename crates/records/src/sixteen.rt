@@ -20,38 +20,6 @@ impl Form<11> for Event16 {
     // Kind, time, root, unit, premium, contracts, reset, level, identity, reports, spare.
     const WIDTHS: [u64; 11] = [4, 37, 6, 2, 27, 20, 4, 1, 16, 5, 6];
 
-    #[tactic(auto, unfolding(crate::specs::Event16::values16_of))]
-    fn values(self) -> [u64; 11] {
-        match self {
-            Event16::Order { time, root, reset } => [0, time, root, 0, 0, 0, reset, 0, 0, 0, 0],
-            Event16::Offer {
-                time,
-                root,
-                unit,
-                premium,
-                contracts,
-            } => [1, time, root, unit, premium, contracts, 0, 0, 0, 0, 0],
-            Event16::Lockout { time, level, root } => [2, time, root, 0, 0, 0, 0, level, 0, 0, 0],
-            Event16::Sending {
-                time,
-                root,
-                unit,
-                premium,
-                contracts,
-                identity,
-                reports,
-            } => [
-                3, time, root, unit, premium, contracts, 0, 0, identity, reports, 0,
-            ],
-            Event16::Report {
-                time,
-                identity,
-                contracts,
-            } => [4, time, 0, 0, 0, contracts, 0, 0, identity, 0, 0],
-            Event16::Closing { time, identity } => [5, time, 0, 0, 0, 0, 0, 0, identity, 0, 0],
-        }
-    }
-
     #[tactic(auto, unfolding(crate::specs::Event16::event16_of, crate::specs::Event16::away_event_of))]
     fn of_values(v: &[u64; 11]) -> Event16 {
         let [
@@ -67,6 +35,7 @@ impl Form<11> for Event16 {
             reports,
             _,
         ] = *v;
+        // A record holds its kind as a number, as specs/Event16 `event16_of` says.
         match kind {
             0 => Event16::Order { time, root, reset },
             1 => Event16::Offer {
@@ -101,10 +70,38 @@ impl Form<11> for Event16 {
 }
 
 // The values of an event's fields.
+#[tactic(auto, unfolding(crate::specs::Event16::values16_of))]
 pub fn values16_of(e: Event16) -> [u64; 11]
     ensures { result ≡ values16_of e }
 {
-    e.values()
+    match e {
+        Event16::Order { time, root, reset } => [0, time, root, 0, 0, 0, reset, 0, 0, 0, 0],
+        Event16::Offer {
+            time,
+            root,
+            unit,
+            premium,
+            contracts,
+        } => [1, time, root, unit, premium, contracts, 0, 0, 0, 0, 0],
+        Event16::Lockout { time, level, root } => [2, time, root, 0, 0, 0, 0, level, 0, 0, 0],
+        Event16::Sending {
+            time,
+            root,
+            unit,
+            premium,
+            contracts,
+            identity,
+            reports,
+        } => [
+            3, time, root, unit, premium, contracts, 0, 0, identity, reports, 0,
+        ],
+        Event16::Report {
+            time,
+            identity,
+            contracts,
+        } => [4, time, 0, 0, 0, contracts, 0, 0, identity, 0, 0],
+        Event16::Closing { time, identity } => [5, time, 0, 0, 0, 0, 0, 0, identity, 0, 0],
+    }
 }
 
 // The event that the values of the fields stand for: they are just those of a valid event.
@@ -151,5 +148,5 @@ pub fn write16(e: Event16, room: &mut [u8]) -> Result<(), Refusal>
     ensures value { result ≡ wrote16_of e (length room.old) }
     ensures room_after { room.new ≡ written form16 e room.old }
 {
-    write16_values(e.values(), room)
+    write16_values(values16_of(e), room)
 }

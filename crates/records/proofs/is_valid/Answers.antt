@@ -7,4 +7,4 @@ use Rattle.records.proofs.Round.{stands_of}
 use Rattle.records.proofs.is_valid.Goals as goal
 
 pub returns : goal.returns
-returns c = c.are_values.ensures ∙ ap (stands form) c.values.ensures ∙ stands_of form lawful _
+returns c = c.are_values.ensures ∙ ap (stands form) c.values_of.ensures ∙ stands_of form lawful _

@@ -11,4 +11,4 @@ use Rattle.records.proofs.write.Goals as goal
 
 pub returns : goal.returns
 returns c =
-    let a = c.args in record { value = c.write_values.ensures.value ∙ ap (λ (v : List ℕ). wrote_values form v (length a.room.now)) c.values.ensures ∙ wrote-values form lawful a.e (length a.room.now); room_after = c.write_values.ensures.room_after ∙ ap (λ (v : List ℕ). written_values form v a.room.now) c.values.ensures ∙ written-values form lawful a.e a.room.now }
+    let a = c.args in record { value = c.write_values.ensures.value ∙ ap (λ (v : List ℕ). wrote_values form v (length a.room.now)) c.values_of.ensures ∙ wrote-values form lawful a.e (length a.room.now); room_after = c.write_values.ensures.room_after ∙ ap (λ (v : List ℕ). written_values form v a.room.now) c.values_of.ensures ∙ written-values form lawful a.e a.room.now }

@@ -11,4 +11,4 @@ use Rattle.records.proofs.sixteen.write16.Goals as goal
 
 pub returns : goal.returns
 returns c =
-    let a = c.args in record { value = c.write16_values.ensures.value ∙ ap (λ (v : List ℕ). wrote_values form16 v (length a.room.now)) c.values.ensures ∙ wrote-values form16 lawful16 a.e (length a.room.now); room_after = c.write16_values.ensures.room_after ∙ ap (λ (v : List ℕ). written_values form16 v a.room.now) c.values.ensures ∙ written-values form16 lawful16 a.e a.room.now }
+    let a = c.args in record { value = c.write16_values.ensures.value ∙ ap (λ (v : List ℕ). wrote_values form16 v (length a.room.now)) c.values16_of.ensures ∙ wrote-values form16 lawful16 a.e (length a.room.now); room_after = c.write16_values.ensures.room_after ∙ ap (λ (v : List ℕ). written_values form16 v a.room.now) c.values16_of.ensures ∙ written-values form16 lawful16 a.e a.room.now }
