@@ -10,8 +10,8 @@ use Rattle.laws.proofs.Tests.{and_r}
 use Rattle.measures.specs.Ranges.{◌to◌, is_in}
 use Rattle.machine.specs.State.{cells_of}
 use Rattle.machine.specs.Offers.{longest}
-use Rattle.given.specs.declared.Tested.{Tested}
-use Rattle.given.specs.declared.Tested.TheVariants.{Fail}
+use Rattle.std.specs.Prelude.{Option}
+use Rattle.std.specs.declared.option.Option.TheVariants.{None}
 use Rattle.given.specs.Parts.{names_hold, places_hold, roots_hold, places_of, rules_of, rules_hold, totals_hold}
 use Rattle.given.specs.Inner.Tested.{tested_of}
 
@@ -26,16 +26,16 @@ module _ (xs : List ℕ) where
 
 module _ (n : ℕ) (xs amounts : List ℕ) (inside : Bool) (is : inside ≡ is_in (1 to 256) (get_or xs 0 0)) where
   -- what is to be answered, by what the places and totals say
-  abbrev answer : Bool → Tested
+  abbrev answer : Bool → Option ℕ
   answer b = tested_of (b && totals_hold (cells_of (rules_of xs)) amounts) (longest (rules_of xs))
 
-  pub rules-out : inside ≡ false → Fail ≡ answer (rules_hold n xs)
+  pub rules-out : inside ≡ false → None ≡ answer (rules_hold n xs)
   unfolding rules_hold
   rules-out h = ap (λ (a : Bool). answer (a && places_hold n (get_or xs 0 0) (places_of xs))) (sym (sym is ∙ h))
 
   pub rules-few : inside ≡ true → get_or xs 0 0 ≤ 256
   rules-few h = leb-true _ _ (and_r (leb 1 (get_or xs 0 0)) _ (sym is ∙ h))
 
-  pub rules-in : inside ≡ true → (t : Tested) → t ≡ answer (places_hold n (get_or xs 0 0) (places_of xs)) → t ≡ answer (rules_hold n xs)
+  pub rules-in : inside ≡ true → (t : Option ℕ) → t ≡ answer (places_hold n (get_or xs 0 0) (places_of xs)) → t ≡ answer (rules_hold n xs)
   unfolding rules_hold
   rules-in h t e = e ∙ ap (λ (a : Bool). answer (a && places_hold n (get_or xs 0 0) (places_of xs))) (sym (sym is ∙ h))

@@ -8,30 +8,32 @@ use native.Mathlib.Numerals.{add-one}
 use lib.ListN.{length, get_or, drop, set, replicate, length-set}
 use lib.Seq.{get_or-set_same, get_or-set_other}
 use Rattle.laws.proofs.Lists.{from}
-use Rattle.laws.proofs.Marks.{unmarked}
+use borrow.Author.Tests.{ne_eqb}
 use Rattle.tables.specs.Inner.Tables.{all_zero}
 use Rattle.given.specs.Names.{is_name_number}
 use Rattle.given.specs.Given.{is_fresh, are_roots}
 use Rattle.given.specs.Parts.{names_hold}
 use Rattle.given.proofs.Places.{names_from, roots-start}
 
-pub record Marked (marks names : List ℕ) : Type 0 where
+pub record Marked (marks : List Bool) (names : List ℕ) : Type 0 where
   pub long : length marks ≡ 256
-  pub new : (name : ℕ) → get_or marks (name % 229) 0 ≡ 0 → is_fresh name names ≡ true
+  pub new : (name : ℕ) → get_or marks (name % 229) false ≡ false → is_fresh name names ≡ true
 
-pub marked_start : (n : ℕ) (xs : List ℕ) → Marked (replicate 256 0) (names_from n xs n)
+pub marked_start : (n : ℕ) (xs : List ℕ) → Marked (replicate 256 false) (names_from n xs n)
 unfolding is_fresh
 marked_start n xs = let z : n - n ≡ 0 = omega arith in rw z (record { long = refl; new = λ name h. refl })
 
-marked_more : {marks names : List ℕ} → Marked marks names → (y : ℕ) → Marked (set marks (y % 229) 1) (y ∷ names)
+marked_more : {marks : List Bool} {names : List ℕ} → Marked marks names → (y : ℕ) → Marked (set marks (y % 229) true) (y ∷ names)
 unfolding is_fresh
 marked_more {marks} {names} m y = record {
-  long = length-set marks (y % 229) 1 ∙ m.long;
+  long = length-set marks (y % 229) true ∙ m.long;
   new = λ name h.
-      let u =
-      unmarked 229 y (λ r. get_or marks r 0) (λ r. get_or (set marks (y % 229) 1) r 0) (get_or-set_same marks (y % 229) 1 0 (omega (arith, m.long)))
-      (λ r apart. get_or-set_other marks (y % 229) r 1 0 apart) name h in
-      rw u.0 (m.new name u.1);
+      let here = get_or-set_same marks (y % 229) true false (omega (arith, m.long)) in
+      let apart : name % 229 ≡ y % 229 → ⊥ =
+      λ e. let both : true ≡ false = sym here ∙ (ap (λ (r : ℕ). get_or (set marks (y % 229) true) r false) (sym e) ∙ h) in cc
+      in
+      let before : get_or marks (name % 229) false ≡ false = sym (get_or-set_other marks (y % 229) (name % 229) true false apart) ∙ h in
+      rw (ne_eqb y name (λ e. apart (ap (λ (k : ℕ). k % 229) (sym e)))) (m.new name before);
 }
 
 module _ (n : ℕ) (xs : List ℕ) (within : n ≤ length xs) where
@@ -39,7 +41,7 @@ module _ (n : ℕ) (xs : List ℕ) (within : n ≤ length xs) where
     names-back : names_from n xs j ≡ get_or xs j 0 ∷ names_from n xs i
     names-back = let left : n - j ≡ suc (n - i) = omega arith in rw (left, from xs j (omega arith), e)
 
-    pub marked-back : {marks : List ℕ} → Marked marks (names_from n xs i) → Marked (set marks (get_or xs j 0 % 229) 1) (names_from n xs j)
+    pub marked-back : {marks : List Bool} → Marked marks (names_from n xs i) → Marked (set marks (get_or xs j 0 % 229) true) (names_from n xs j)
     marked-back m = rw names-back (marked_more m (get_or xs j 0))
 
     roots-back : are_roots (names_from n xs j) ≡ (is_name_number 1 6 (get_or xs j 0) && is_fresh (get_or xs j 0) (names_from n xs i) && are_roots (names_from n xs i))

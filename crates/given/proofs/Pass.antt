@@ -20,8 +20,7 @@ use Rattle.packing.proofs.RuleTests.{window-told}
 use Rattle.admission.specs.Inner.Counting.{no_rules, Follows}
 use Rattle.std.specs.declared.option.Option.TheVariants.{None, Some}
 use Rattle.admission.specs.declared.Tally.{Tally}
-use Rattle.given.specs.declared.Tested.{Tested}
-use Rattle.given.specs.declared.Tested.TheVariants.{Hold, Fail}
+use Rattle.std.specs.Prelude.{Option}
 use Rattle.given.specs.Parts.{places_hold, own_hold, totals_hold}
 use Rattle.given.specs.Inner.Tested.{tested_of}
 use Rattle.given.proofs.Places.{rules_from, span-start, span-on, span-end}
@@ -49,22 +48,22 @@ pub passed_start : (n k : ℕ) (xs amounts : List ℕ) → n ≤ 64 → k ≤ 25
 passed_start n k xs amounts h l = record { gone = gone-start n k xs h l; paid = paid-start k xs amounts; span = span-start k xs }
 
 -- what is to be answered
-abbrev pub Answers : ℕ → ℕ → List ℕ → List ℕ → Tested → Type 0
+abbrev pub Answers : ℕ → ℕ → List ℕ → List ℕ → Option ℕ → Type 0
 Answers n k xs amounts t =
     t ≡ tested_of (places_hold n k xs && totals_hold (cells_of (places 2 rule_at k xs)) amounts) (longest (places 2 rule_at k xs))
 
-fails : (n k : ℕ) (xs amounts : List ℕ) → false ≡ places_hold n k xs → Answers n k xs amounts Fail
+fails : (n k : ℕ) (xs amounts : List ℕ) → false ≡ places_hold n k xs → Answers n k xs amounts None
 fails n k xs amounts e =
     ap (λ (b : Bool). tested_of (b && totals_hold (cells_of (places 2 rule_at k xs)) amounts) (longest (places 2 rule_at k xs))) e
 
 module _ {n k : ℕ} {xs amounts : List ℕ} {i : ℕ} {tally : Tally} {counts : List ℕ} {place gaps most : ℕ}
     (passed : Passed n k xs amounts i tally counts place gaps most) where
   module _ (more : i < k) where
-    pub passed-bad : is_rule_place 64 (drop (i * 2) xs) ≡ false → Answers n k xs amounts Fail
+    pub passed-bad : is_rule_place 64 (drop (i * 2) xs) ≡ false → Answers n k xs amounts None
     passed-bad e = fails n k xs amounts (gone-bad passed.gone more e)
 
     module _ (ok : is_rule_place 64 (drop (i * 2) xs) ≡ true) {rule : Rule} (is : rule ≡ rule_at (drop (i * 2) xs)) where
-      pub passed-stop : (after : List ℕ) → Follows (places 2 rule_at i xs) tally rule None counts after → Answers n k xs amounts Fail
+      pub passed-stop : (after : List ℕ) → Follows (places 2 rule_at i xs) tally rule None counts after → Answers n k xs amounts None
       passed-stop after f = fails n k xs amounts (gone-stop passed.gone more ok is after f)
 
       pub passed-next : {next : Tally} (after : List ℕ) → Follows (places 2 rule_at i xs) tally rule (Some next) counts after
@@ -88,10 +87,10 @@ module _ {n k : ℕ} {xs amounts : List ℕ} {i : ℕ} {tally : Tally} {counts :
     passed-end t e = ap₂ tested_of (sym e ∙ decides) (sym (passed.span ∙ span-end k xs i most end))
 
 -- what an answer tells
-pub told-hold : (b : Bool) (l : ℕ) {w : ℕ} → Hold w ≡ tested_of b l → (b ≡ true) × (w ≡ l)
+pub told-hold : (b : Bool) (l : ℕ) {w : ℕ} → Some w ≡ tested_of b l → (b ≡ true) × (w ≡ l)
 told-hold true l e = (refl, cc)
 told-hold false l e = let z : ◌≡◌ {A = ℕ} 0 1 = cc in absurd (omega arith)
 
-pub told-fail : (b : Bool) (l : ℕ) → Fail ≡ tested_of b l → b ≡ false
+pub told-fail : (b : Bool) (l : ℕ) → None ≡ tested_of b l → b ≡ false
 told-fail true l e = let z : ◌≡◌ {A = ℕ} 0 1 = cc in absurd (omega arith)
 told-fail false l e = refl

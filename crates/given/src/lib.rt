@@ -24,13 +24,6 @@ pub const RULES_SIZE: usize = 1 + 2 * 256;
 // How many the totals take: one for each of four units of 256 rules.
 pub const TOTALS_SIZE: usize = 4 * 256;
 
-// What the test of rules and totals tells: they hold, and this is the rules' longest window, 0 if none is a rate rule; or they do not.
-#[derive(Clone, Copy)]
-pub enum Tested {
-    Hold(u64),
-    Fail,
-}
-
 // The rule at place i of the rules.
 pub fn rule_at(rules: &[u64], i: usize) -> Rule
     requires { (length rules.now ≡ 512) × (i < 256) }
@@ -43,8 +36,8 @@ pub fn rule_at(rules: &[u64], i: usize) -> Rule
 }
 
 // Tests in one pass that the first k places hold rules of n roots, in order, none too many, and that their accounts have totals; the other places of both
-// hold 0. That a root is one of the n follows where all have appeared.
-fn test_places(rules: &[u64], totals: &[u64], k: usize, n: u64) -> Tested
+// hold 0. That a root is one of the n follows where all have appeared. The answer is the rules' longest window, 0 if none is a rate rule.
+fn test_places(rules: &[u64], totals: &[u64], k: usize, n: u64) -> Option<u64>
     requires { (length rules.now ≡ 512) × (length totals.now ≡ totals_size) × (k ≤ 256) × (n ≤ 64) }
     ensures { result ≡ tested_of (places_hold n k rules.now && totals_hold (cells_of (places 2 rule_at k rules.now)) totals.now) (longest (places 2 rule_at k rules.now)) }
 {
@@ -57,42 +50,38 @@ fn test_places(rules: &[u64], totals: &[u64], k: usize, n: u64) -> Tested
     let mut gaps: u64 = 0;
     let mut most: u64 = 0;
     let mut place: usize = 0;
-    let mut i: usize = 0;
-    while i < k {
+    for i in 0..k {
         let at = i * 2;
         let first = rules[at];
         let second = rules[at + 1];
         if !packing::is_rule(first, second, 64) {
-            return Tested::Fail;
+            return None;
         }
         let rule = packing::rule_of(first, second);
-        match admission::admit_next(rule, tally, &mut counts) {
-            None => return Tested::Fail,
-            Some(next) => tally = next,
-        }
-        gaps = gaps | totals::own_gaps(rule, totals, place);
+        tally = admission::admit_next(rule, tally, &mut counts)?;
+        gaps |= totals::own_gaps(rule, totals, place);
         place += rule.accounts();
-        most = numbers::greatest(packing::window_of(first), most);
-        i += 1;
+        most = packing::window_of(first).max(most);
     }
     if (tally.seen == n)
         & tables::is_zero(&rules[k * 2..])
         & (gaps < packing::CLEAR)
         & tables::is_zero(&totals[place..])
     {
-        return Tested::Hold(most);
+        return Some(most);
     }
-    Tested::Fail
+    None
 }
 
-// Tests that the rules' table holds as many rules of n roots as it says, at least one, in order, none too many, and that their accounts have totals.
-pub fn test_rules(rules: &[u64], totals: &[u64], n: u64) -> Tested
+// Tests that the rules' table holds as many rules of n roots as it says, at least one, in order, none too many, and that their accounts have totals. The
+// answer is their longest window, 0 if none is a rate rule.
+pub fn test_rules(rules: &[u64], totals: &[u64], n: u64) -> Option<u64>
     requires { (length rules.now ≡ 513) × (length totals.now ≡ totals_size) × (n ≤ 64) }
     ensures { result ≡ tested_of (rules_hold n rules.now && totals_hold (cells_of (rules_of rules.now)) totals.now) (longest (rules_of rules.now)) }
 {
     let k = rules[0];
     if !measures::is_in(k, 1, 256) {
-        return Tested::Fail;
+        return None;
     }
     test_places(&rules[1..RULES_SIZE], totals, k as usize, n)
 }

@@ -1,5 +1,5 @@
 // The names of a profile's roots: which numbers hold one, and that no two are the same.
-ghost use Rattle.std.specs.Prelude.{◌≡◌, ◌≤◌, ◌<◌, true, length};
+ghost use Rattle.std.specs.Prelude.{◌≡◌, ◌≤◌, ◌<◌, true, false, length};
 ghost use Rattle.text.specs.Text.{all, is_name_byte};
 ghost use Rattle.text.specs.Digits.{name_bytes};
 ghost use Rattle.given.specs.Names.{is_name_number};
@@ -41,23 +41,18 @@ fn is_fresh(name: u64, names: &[u64]) -> bool
     ensures { result ≡ is_fresh name names.now }
 {
     let mut fresh = true;
-    let mut i: usize = 0;
-    while i < names.len() {
-        fresh = fresh & (names[i] != name);
-        i += 1;
+    for other in names {
+        fresh &= *other != name;
     }
     fresh
 }
 
-// Whether a name does not stand among these, none of which is it if the mark is 0.
-fn is_new(name: u64, names: &[u64], mark: u8) -> bool
-    requires { mark ≡ 0 → is_fresh name names.now ≡ true }
+// Whether a name does not stand among these, none of which is it if it is not marked.
+fn is_new(name: u64, names: &[u64], marked: bool) -> bool
+    requires { marked ≡ false → is_fresh name names.now ≡ true }
     ensures { result ≡ is_fresh name names.now }
 {
-    if mark == 0 {
-        return true;
-    }
-    is_fresh(name, names)
+    !marked || is_fresh(name, names)
 }
 
 // Whether the first n places hold the names of roots, no two the same, and the others 0. From the last name on; the names that were looked at are marked by
@@ -66,17 +61,14 @@ fn names_hold(names: &[u64], n: usize) -> bool
     requires { (length names.now ≡ 64) × (n ≤ 64) }
     ensures { result ≡ names_hold n names.now }
 {
-    let mut marks = [0u8; 256];
-    let mut i: usize = n;
-    while 0 < i {
-        let next = i;
-        i -= 1;
+    let mut marks = [false; 256];
+    for i in (0..n).rev() {
         let name = names[i];
         let slot = (name % 229) as usize;
-        if !(is_name_number(name, 1, 6) & is_new(name, &names[next..n], marks[slot])) {
+        if !(is_name_number(name, 1, 6) & is_new(name, &names[i + 1..n], marks[slot])) {
             return false;
         }
-        marks[slot] = 1;
+        marks[slot] = true;
     }
     tables::is_zero(&names[n..])
 }

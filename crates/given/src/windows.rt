@@ -24,11 +24,8 @@ fn longest_of(rules: &[u64], k: usize) -> u64
     ensures { result ≡ longest (places 2 rule_at k rules.now) }
 {
     let mut most: u64 = 0;
-    let mut i: usize = 0;
-    while i < k {
-        let rule = crate::rule_at(rules, i);
-        most = numbers::greatest(window(rule), most);
-        i += 1;
+    for i in 0..k {
+        most = window(crate::rule_at(rules, i)).max(most);
     }
     most
 }

@@ -16,7 +16,6 @@ ghost use Rattle.machine.specs.Refusals.{used};
 pub mod covering;
 mod tests;
 
-use given::Tested;
 use rules::{Amount, Limit, Rule};
 
 // The map: the mark of armed memory; the firm's part, which is its clock, its name, the tables of its roots and rules, the totals of the rules, the
@@ -110,7 +109,7 @@ pub fn is_sound(m: &[u64]) -> bool
     if !tests::is_front(m) {
         return false;
     }
-    let Tested::Hold(longest) = given::test_rules(&m[RULES..TOTALS], &m[TOTALS..LOCKS], m[ROOTS])
+    let Some(longest) = given::test_rules(&m[RULES..TOTALS], &m[TOTALS..LOCKS], m[ROOTS])
     else {
         return false;
     };

@@ -11,40 +11,20 @@ ghost use Rattle.writing.specs.Inner.Parts.{names_of, KnownScope, RulesPlaced, L
 
 use rules::{Kind, Limit, Rule, Scope};
 
-// How many bytes the name of a type of limit has.
-fn type_size(kind: Kind, limit: Limit) -> usize
-    ensures { result ≡ length (type_name kind limit) }
+// The name of a type of limit, and a comma.
+fn type_words(kind: Kind, limit: Limit) -> &'static [u8]
+    ensures { result.now ≡ type_name kind limit ++ (44 ∷ []) }
 {
     match kind {
         Kind::Rate(_) => match limit {
-            Limit::Notional(_) => 9,
-            Limit::Volume(_) => 8,
-            Limit::Count(_) => 10,
+            Limit::Notional(_) => b"rate_ntnl,",
+            Limit::Volume(_) => b"rate_vol,",
+            Limit::Count(_) => b"rate_count,",
         },
         Kind::Absolute => match limit {
-            Limit::Notional(_) => 8,
-            Limit::Volume(_) => 7,
-            Limit::Count(_) => 9,
-        },
-    }
-}
-
-// Writes the name of a type of limit and a comma from a place on, and answers the place after it.
-fn put_type(kind: Kind, limit: Limit, room: &mut [u8], at: usize) -> usize
-    requires { at + length (type_name kind limit) + 1 ≤ length room.old }
-    ensures value { result ≡ at + length (type_name kind limit ++ (44 ∷ [])) }
-    ensures room_after { room.new ≡ sets room.old at (type_name kind limit ++ (44 ∷ [])) }
-{
-    match kind {
-        Kind::Rate(_) => match limit {
-            Limit::Notional(_) => text::put_words(b"rate_ntnl,", room, at),
-            Limit::Volume(_) => text::put_words(b"rate_vol,", room, at),
-            Limit::Count(_) => text::put_words(b"rate_count,", room, at),
-        },
-        Kind::Absolute => match limit {
-            Limit::Notional(_) => text::put_words(b"abs_ntnl,", room, at),
-            Limit::Volume(_) => text::put_words(b"abs_vol,", room, at),
-            Limit::Count(_) => text::put_words(b"abs_count,", room, at),
+            Limit::Notional(_) => b"abs_ntnl,",
+            Limit::Volume(_) => b"abs_vol,",
+            Limit::Count(_) => b"abs_count,",
         },
     }
 }
@@ -165,11 +145,11 @@ fn line_size(firm: u64, roots: &[u64], rule: Rule) -> usize
     let limit = rule.limit;
     let name = name_in(roots, scope);
     text::name_size(firm)
-        + type_size(kind, limit)
+        + type_words(kind, limit).len()
         + text::name_size(name)
         + text::decimal_size(packing::limit_number(limit))
         + end_size(kind, scope)
-        + 4
+        + 3
 }
 
 // Writes a rule's line with its LF from a place on, and answers the place after it.
@@ -184,7 +164,7 @@ fn put_line(firm: u64, roots: &[u64], rule: Rule, room: &mut [u8], at: usize) ->
     let limit = rule.limit;
     let name = name_in(roots, scope);
     let to_type = put_name(firm, room, at);
-    let to_root = put_type(kind, limit, room, to_type);
+    let to_root = text::put_words(type_words(kind, limit), room, to_type);
     let to_limit = put_name(name, room, to_root);
     let to_end = text::put_decimal(packing::limit_number(limit), room, to_limit);
     let end = put_end(kind, scope, room, to_end);
@@ -198,10 +178,8 @@ fn lines_size(firm: u64, roots: &[u64], rules: &[u64], k: usize) -> usize
     ensures { result ≡ length (lines_text firm (names_of roots.now) (places 2 rule_at k rules.now)) }
 {
     let mut size: usize = 0;
-    let mut i: usize = 0;
-    while i < k {
+    for i in 0..k {
         size += line_size(firm, roots, given::rule_at(rules, i));
-        i += 1;
     }
     size
 }
@@ -214,10 +192,8 @@ fn put_lines(firm: u64, roots: &[u64], rules: &[u64], k: usize, room: &mut [u8])
     ensures room_after { room.new ≡ sets room.old 0 (lines_text firm (names_of roots.now) (places 2 rule_at k rules.now)) }
 {
     let mut to: usize = 0;
-    let mut i: usize = 0;
-    while i < k {
+    for i in 0..k {
         to = put_line(firm, roots, given::rule_at(rules, i), room, to);
-        i += 1;
     }
     to
 }

@@ -48,13 +48,13 @@ admit_next-requires c =
     let gone = c.loop-i.invariant.gone in
     ((_, gone.held), gone-room gone c.loop-i-test.true, (64, rw (read) (place-scope 64 _ (passes))))
 
-pub returns-in-None : goal.returns-in-None
-returns-in-None c =
-    let k = (goal.at.returns-in-None c).After-is_rule in
+pub returns-in_err-tally : goal.returns-in_err-tally
+returns-in_err-tally c =
+    let k = (goal.at.returns-in_err-tally c).After-is_rule in
     let passes = tested k ∙ c.if-not-is_rule.false in
     let read = c.rule_of-rule.ensures ∙ rule-here (numbers k) (at k) (there k) in
     let passed = c.loop-i.invariant in
-    passed-stop passed c.loop-i-test.true (passes) (read) _ (rw c.in-None.is at (c.admit_next.ensures _ passed.gone.held))
+    rw c.from_residual.ensures (passed-stop passed c.loop-i-test.true passes read _ (c.in_err-tally.ensures _ passed.gone.held))
 
 pub own_gaps-gaps-requires : goal.own_gaps-gaps-requires
 own_gaps-gaps-requires c =
@@ -71,8 +71,8 @@ loop-i-preserved c =
     let read = c.rule_of-rule.ensures ∙ rule-here (numbers k) (at k) (there k) in
     let passed = c.loop-i.invariant in
     let ok = sym c.is_rule.ensures ∙ c.if-not-is_rule.false in
-    passed-next passed c.loop-i-test.true (passes) (read) _ (rw c.in-Some.is at (c.admit_next.ensures _ passed.gone.held))
-    _ c.own_gaps-gaps.ensures _ c.accounts-place.ensures _ (window-here _ _ ok _ c.rule_of-rule.ensures c.window_of.ensures) _ c.greatest-most.ensures
+    passed-next passed c.loop-i-test.true (passes) (read) _ (c.in_ok-tally.ensures _ passed.gone.held)
+    _ c.own_gaps-gaps.ensures _ c.accounts-place.ensures _ (window-here _ _ ok _ c.rule_of-rule.ensures c.window_of.ensures) _ c.max-most.ensures
 
 pub slice_bounds-is_zero-count-2 : goal.slice_bounds-is_zero-count-2
 slice_bounds-is_zero-count-2 c =

@@ -19,7 +19,7 @@ use Rattle.state.proofs.Laid.{laid-clock-is}
 use Rattle.state.proofs.Uses.{most-below}
 use Rattle.state.proofs.Said.{parted-laid, parted-ordered}
 use Rattle.state.proofs.Sound.{sound-short, sound-front, roots-fit, sound-rules, rates-known, sound-parts, sound-parted, sound-rest}
-use Rattle.state.proofs.is_sound.Goals.{Else-not-are_parts, Else-not-is_front, In-Hold}
+use Rattle.state.proofs.is_sound.Goals.{Else-not-are_parts, Else-not-is_front, In-Some}
 use Rattle.state.proofs.is_sound.Goals as goal
 
 -- the clock is read from its place
@@ -35,8 +35,8 @@ front : (c : Else-not-is_front) → front_holds c.args.m.now ≡ true
 front c = sym c.is_front.ensures ∙ c.if-not-is_front.false
 
 -- the rules and totals passed
-found : (c : In-Hold) → (rules_paid c.args.m.now ≡ true) × (c.in-Hold.longest ≡ longest (rules_of (rules_part c.args.m.now)))
-found c = told-hold _ _ (sym c.in-Hold.is ∙ c.test_rules.ensures)
+found : (c : In-Some) → (rules_paid c.args.m.now ≡ true) × (c.in-Some.longest ≡ longest (rules_of (rules_part c.args.m.now)))
+found c = told-hold _ _ (sym c.in-Some.is ∙ c.test_rules.ensures)
 
 -- the other parts did
 parts : (c : Else-not-are_parts) → parts_hold c.args.m.now ≡ true
@@ -66,14 +66,14 @@ are_parts-requires c =
 pub returns-then-not-are_parts : goal.returns-then-not-are_parts
 returns-then-not-are_parts c =
     let at = goal.at.returns-then-not-are_parts c in
-    sound-parts c.args.m.now c.if-m-lt-SIZE.false (front at.Else-not-is_front) (found at.In-Hold).0 (sym c.are_parts.ensures ∙ c.if-not-are_parts.true)
+    sound-parts c.args.m.now c.if-m-lt-SIZE.false (front at.Else-not-is_front) (found at.In-Some).0 (sym c.are_parts.ensures ∙ c.if-not-are_parts.true)
 
 pub uses_less-requires : goal.uses_less-requires
 uses_less-requires c =
     let at = goal.at.uses_less-requires c in
     let m = c.args.m.now in
     let long = c.if-m-lt-SIZE.false in
-    let parted = sound-parted m long (front at.Else-not-is_front) (found at.In-Hold).0 (parts at.Else-not-are_parts) in
+    let parted = sound-parted m long (front at.Else-not-is_front) (found at.In-Some).0 (parts at.Else-not-are_parts) in
     let laid = parted-laid m long parted in
     (laid, clocked m laid (parted-ordered m long parted))
 
@@ -83,6 +83,6 @@ returns c =
     let m = c.args.m.now in
     let long = c.if-m-lt-SIZE.false in
     let fronted = front at.Else-not-is_front in
-    let paid = (found at.In-Hold).0 in
+    let paid = (found at.In-Some).0 in
     let parted = parts at.Else-not-are_parts in
     c.uses_less.ensures ∙ used-clocked m (parted-laid m long (sound-parted m long fronted paid parted)) ∙ sound-rest m long fronted paid parted

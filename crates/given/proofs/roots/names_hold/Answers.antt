@@ -1,5 +1,5 @@
 -- `given::names_hold` meets its contract: the names from place i on are roots, and marked. Assumes nothing.
-use Prim.Native.Nat.{◌-◌, ◌≤◌}
+use Prim.Native.Nat.{◌+◌, ◌-◌, ◌≤◌}
 use mathlib.Core.Bool.{Bool, ◌&&◌}
 use mathlib.Core.Path.{◌≡◌, sym, ap, ◌∙◌}
 use lib.ListN.{length, drop}
@@ -13,24 +13,26 @@ pub loop-i-init : goal.loop-i-init
 loop-i-init c = let a = c.args in (omega arith, roots-end a.n a.names.now a.n (omega arith), marked_start a.n a.names.now)
 
 pub is_new-requires : goal.is_new-requires
-is_new-requires c = c.loop-i.invariant.2.new _
+is_new-requires c = let here : c.loop-i.i - 1 + 1 ≡ c.loop-i.i = omega arith in rw here (c.loop-i.invariant.2.new _)
 
 pub returns-then-not-is_name_number-is_new : goal.returns-then-not-is_name_number-is_new
 returns-then-not-is_name_number-is_new c =
     let l = c.loop-i in
     let a = c.args in
+    let here : l.i - 1 + 1 ≡ l.i = omega arith in
     late a.n a.names.now (omega (arith, c.requires)) (l.i - 1) (omega arith)
     (back_on a.n a.names.now (omega (arith, c.requires)) (l.i - 1) l.i (omega arith) (omega arith) l.invariant.1
-    c.is_name_number.ensures c.is_new.ensures (c.if-not-is_name_number-is_new.true))
+    c.is_name_number.ensures (rw here at c.is_new.ensures) (c.if-not-is_name_number-is_new.true))
 
 pub loop-i-preserved : goal.loop-i-preserved
 loop-i-preserved c =
     let l = c.loop-i in
     let a = c.args in
+    let here : l.i - 1 + 1 ≡ l.i = omega arith in
     let within : a.n ≤ length a.names.now = omega (arith, c.requires) in (
       omega arith,
       back_on a.n a.names.now within (l.i - 1) l.i (omega arith) (omega arith) l.invariant.1
-          c.is_name_number.ensures c.is_new.ensures (c.if-not-is_name_number-is_new.false),
+          c.is_name_number.ensures (rw here at c.is_new.ensures) (c.if-not-is_name_number-is_new.false),
       marked-back a.n a.names.now within (l.i - 1) l.i (omega arith) (omega arith) l.invariant.2,
     )
 

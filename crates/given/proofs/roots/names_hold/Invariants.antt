@@ -9,6 +9,3 @@ use Rattle.given.proofs.roots.names_hold.Given as goal
 
 abbrev pub invariant-loop-i : goal.invariant-loop-i
 invariant-loop-i l = (l.i ≤ l.n) × (are_roots (names_from l.n l.names l.i) ≡ true) × Marked l.marks (names_from l.n l.names l.i)
-
-abbrev pub decreases-loop-i : goal.decreases-loop-i
-decreases-loop-i l = l.i

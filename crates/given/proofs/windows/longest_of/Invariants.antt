@@ -1,5 +1,5 @@
 -- `given::longest_of` meets its contract: the greater of what was found and of the windows from rule i on is the longest. Assumes nothing.
-use Prim.Native.Nat.{◌-◌, ◌≤◌, max}
+use Prim.Native.Nat.{max}
 use mathlib.Core.Path.{◌≡◌}
 use Rattle.tables.specs.Inner.Tables.{places}
 use Rattle.packing.specs.RulePlace.{rule_at}
@@ -8,7 +8,4 @@ use Rattle.given.proofs.Places.{rules_from}
 use Rattle.given.proofs.windows.longest_of.Given as goal
 
 abbrev pub invariant-loop-i : goal.invariant-loop-i
-invariant-loop-i l = (l.i ≤ l.k) × (longest (places 2 rule_at l.k l.rules) ≡ max l.most (longest (rules_from l.k l.rules l.i)))
-
-abbrev pub decreases-loop-i : goal.decreases-loop-i
-decreases-loop-i l = l.k - l.i
+invariant-loop-i l = longest (places 2 rule_at l.k l.rules) ≡ max l.most (longest (rules_from l.k l.rules l.i))

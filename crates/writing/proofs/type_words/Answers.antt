@@ -1,6 +1,6 @@
--- `output::type_size` meets its contract: a kind and a limit by their cases. Assumes nothing.
+-- `writing::type_words` meets its contract: a kind and a limit by their cases. Assumes nothing.
 use Rattle.writing.specs.Writing.{type_name}
-use Rattle.writing.proofs.type_size.Goals as goal
+use Rattle.writing.proofs.type_words.Goals as goal
 
 pub returns-in-Notional : goal.returns-in-Notional
 unfolding type_name
