@@ -20,7 +20,8 @@ use Rattle.state.proofs.Exactly.{made-parts, decode-made}
 use Rattle.firms.specs.Seats.{taken, Seats, facing, room_beside}
 use Rattle.seats.specs.Memory.{state_size, seat_part, encode_seats, decode_seats, SoundMemory, is_sound_memory, firm_refusal, firm_of, firm_answer, firm_memory, use_in, use_answer}
 use Rattle.seats.specs.declared.Using.{Using}
-use Rattle.seats.specs.declared.Using.TheVariants.{Places, Refused as NotUsed}
+use Rattle.std.specs.declared.result.Result.TheVariants.{Ok, Err}
+use Rattle.std.specs.Prelude.{Result}
 use Rattle.seats.proofs.Laws.{Tests}
 use Rattle.seats.proofs.Exactly.{all-again, exactly}
 use Rattle.seats.proofs.Calls.{Ready, ready-is, refused-is, unarmed-is, own-sound, own-taken, firm-answer}
@@ -159,16 +160,16 @@ module _ (xs : List ℕ) (firm : ℕ) where
         (on-held (ready-is xs firm e) (λ places s. (12 when BadTime s time else none) n))))
 
     -- the answer by that number
-    use_by : ℕ → Using
-    use_by zero = Places (used own_state time) places_left
-    use_by (suc n) = NotUsed (suc n)
+    use_by : ℕ → Result Using ℕ
+    use_by zero = Ok (record { used = used own_state time; places = places_left })
+    use_by (suc n) = Err (suc n)
 
     use-number : use_answer xs firm time ≡ use_by use_number
     unfolding use_answer use_in or_else use_by
     use-number = go (firm_refusal xs firm) (bad_time own_state.part time)
       where
         go : (n : ℕ) (b : Bool)
-            → cond (eqb n 0) (cond b (NotUsed 12) (Places (used own_state time) places_left)) (NotUsed n) ≡ use_by (or_else n (cond b 12 0))
+            → cond (eqb n 0) (cond b (Err 12) (Ok (record { used = used own_state time; places = places_left }))) (Err n) ≡ use_by (or_else n (cond b 12 0))
         go zero true = refl
         go zero false = refl
         go (suc n) b = rw (ne_eqb (suc n) 0 (λ z. omega arith))
@@ -188,9 +189,9 @@ module _ (xs : List ℕ) (firm : ℕ) where
       refused = λ n. Iff.trans (λ e. to n use_number (sym use-number ∙ e), λ e. use-number ∙ ap use_by e) (use-gives (suc n));
       told =
           λ h. let z = (use-gives 0).1 h in
-          (on-held (ready-is xs firm (use-free z)) (λ places s. use_answer xs firm time ≡ Places (used s time) places)).0 (use-number ∙ ap use_by z);
+          (on-held (ready-is xs firm (use-free z)) (λ places s. use_answer xs firm time ≡ Ok (record { used = used s time; places = places }))).0 (use-number ∙ ap use_by z);
     }
       where
-        to : (n k : ℕ) → use_by k ≡ NotUsed (suc n) → k ≡ suc n
+        to : (n k : ℕ) → use_by k ≡ Err (suc n) → k ≡ suc n
         to n zero e = cc
         to n (suc k) e = cc

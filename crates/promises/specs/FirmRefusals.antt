@@ -13,7 +13,7 @@ use Rattle.state.specs.Sound.{Given}
 use Rattle.firms.specs.Seats.{taken, Seats, facing, room_beside}
 use Rattle.firms.specs.Sound.{SoundSeats}
 use Rattle.seats.specs.Memory.{state_size, encode_seats, SoundMemory, firm_of, firm_answer, firm_memory, arm_answer, arm_memory, use_answer, clear_firm_answer, clear_firm_memory, clear_all_answer, clear_all_memory}
-use Rattle.seats.specs.declared.Using.TheVariants.{Places, Refused as NotUsed}
+use Rattle.std.specs.declared.result.Result.TheVariants.{Ok, Err}
 use Rattle.capi.specs.Rows.{arm_row, clear_row}
 use Rattle.promises.specs.Refusals.{refusal_row, ◌when◌else◌, none, BadTime, refusals_of, Unsized, profile_of, Faultless, first_line, start_in, FirstFault, accepted_row}
 
@@ -65,8 +65,8 @@ use_refusals xs firm time = memory_then xs firm (λ n. HoldingFirm xs firm (λ p
 
 -- it is refused with a number exactly if these give it, and else tells the firm's use at that time and the places that the log has for it
 pub record UseRefusals (xs : List ℕ) (firm time : ℕ) : Type 0 where
-  pub refused : (n : ℕ) → (use_answer xs firm time ≡ NotUsed (suc n)) ↔ use_refusals xs firm time (suc n)
-  pub told : use_refusals xs firm time 0 → HoldingFirm xs firm (λ places s. use_answer xs firm time ≡ Places (used s time) places)
+  pub refused : (n : ℕ) → (use_answer xs firm time ≡ Err (suc n)) ↔ use_refusals xs firm time (suc n)
+  pub told : use_refusals xs firm time 0 → HoldingFirm xs firm (λ places s. use_answer xs firm time ≡ Ok (record { used = used s time; places = places }))
 
 -- ---- arming a firm
 

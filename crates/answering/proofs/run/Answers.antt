@@ -4,7 +4,7 @@ use Rattle.std.proofs.lemmas.List.Edits.{sets}
 use Rattle.std.specs.Iterator.Adapters.{take_source, take_count}
 use Rattle.std.specs.Slice.Iter.{chunks_rest, chunks_size}
 use Rattle.records.specs.Event16.{bytes16}
-use Rattle.machine.specs.declared.Answer.{Answer}
+use Rattle.machine.specs.Answer.{Answer}
 use Rattle.answering.specs.Lines.{record_line}
 use Rattle.answering.specs.Run.{record_count}
 use Rattle.answering.proofs.Runs.{running_none, running-on, running-end, no_more, ran, fitting-records, fitting-room, fitting-places}
