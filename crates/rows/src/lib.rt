@@ -22,12 +22,14 @@ pub fn put_answer(answer: Result<Accepted, Refusal>, row: &mut [u64; 5])
 {
     *row = match answer {
         Err(refusal) => [refusal.number(), 0, 0, 0, 0],
-        Ok(Accepted::Judged {
-            verdict,
-            grant,
-            roottrip,
-            firmtrip,
-        }) => {
+        Ok(
+            Accepted::Judged {
+                verdict,
+                grant,
+                roottrip,
+                firmtrip,
+            },
+        ) => {
             let root = u64::from(roottrip);
             let firm = u64::from(firmtrip);
             [0, verdict, grant, root, firm]

@@ -155,7 +155,14 @@ pub fn arm(m: &mut [u64], firm: u64, text: &[u8]) -> Result<Armed, Fault>
     let names = scan.roots;
     let table = scan.rules;
     arming::clean(&mut m[other..close]);
-    state::write_armed(&mut m[at..end], armed.firm, armed.roots, armed.rules, &names, &table);
+    state::write_armed(
+        &mut m[at..end],
+        armed.firm,
+        armed.roots,
+        armed.rules,
+        &names,
+        &table,
+    );
     Ok(armed)
 }
 
@@ -170,7 +177,13 @@ pub fn status(m: &[u64], firm: u64) -> Result<Accepted, Refusal>
 }
 
 // A lockout of a root of a firm, or of the firm.
-pub fn lockout(m: &mut [u64], firm: u64, time: u64, level: u64, root: u64) -> Result<Accepted, Refusal>
+pub fn lockout(
+    m: &mut [u64],
+    firm: u64,
+    time: u64,
+    level: u64,
+    root: u64,
+) -> Result<Accepted, Refusal>
     ensures value { answer_told result ≡ firm_answer m.old firm (Call.lockout time level root) }
     ensures m_after { m.new ≡ firm_memory m.old firm (Call.lockout time level root) }
 {
@@ -199,7 +212,13 @@ pub fn offer(m: &mut [u64], firm: u64, o: Offer) -> Result<Accepted, Refusal>
 }
 
 // An order of a firm to be sent away.
-pub fn send(m: &mut [u64], firm: u64, o: Offer, identity: u64, reports: u64) -> Result<Accepted, Refusal>
+pub fn send(
+    m: &mut [u64],
+    firm: u64,
+    o: Offer,
+    identity: u64,
+    reports: u64,
+) -> Result<Accepted, Refusal>
     ensures value { answer_told result ≡ firm_answer m.old firm (Call.send o identity reports) }
     ensures m_after { m.new ≡ firm_memory m.old firm (Call.send o identity reports) }
 {
@@ -213,7 +232,13 @@ pub fn send(m: &mut [u64], firm: u64, o: Offer, identity: u64, reports: u64) -> 
 }
 
 // A fill of a firm that came back; its entry joins the log where it has a rate rule, and then the other's old ones leave too.
-pub fn report(m: &mut [u64], firm: u64, time: u64, identity: u64, contracts: u64) -> Result<Accepted, Refusal>
+pub fn report(
+    m: &mut [u64],
+    firm: u64,
+    time: u64,
+    identity: u64,
+    contracts: u64,
+) -> Result<Accepted, Refusal>
     ensures value { answer_told result ≡ firm_answer m.old firm (Call.report time identity contracts) }
     ensures m_after { m.new ≡ firm_memory m.old firm (Call.report time identity contracts) }
 {
@@ -230,7 +255,13 @@ pub fn report(m: &mut [u64], firm: u64, time: u64, identity: u64, contracts: u64
 }
 
 // An order of a firm: the reset comes first, then the verdict.
-pub fn order(m: &mut [u64], firm: u64, time: u64, root: u64, reset: u64) -> Result<Accepted, Refusal>
+pub fn order(
+    m: &mut [u64],
+    firm: u64,
+    time: u64,
+    root: u64,
+    reset: u64,
+) -> Result<Accepted, Refusal>
     ensures value { answer_told result ≡ firm_answer m.old firm (Call.order time root reset) }
     ensures m_after { m.new ≡ firm_memory m.old firm (Call.order time root reset) }
 {

@@ -27,7 +27,13 @@ fn lacks(s: &[u64], time: u64, places: u64, room: u64) -> bool
 }
 
 // An order to be sent away: 15 by the room comes last, and only at verdict 0.
-pub fn own_send(s: &mut [u64], o: Offer, identity: u64, reports: u64, room: u64) -> Result<Accepted, Refusal>
+pub fn own_send(
+    s: &mut [u64],
+    o: Offer,
+    identity: u64,
+    reports: u64,
+    room: u64,
+) -> Result<Accepted, Refusal>
     requires { (is_sound s.old ≡ true) × (room ≤ 512) }
     ensures { Done room (Call.send o identity reports) s.old s.new (quiet (answer_told result)) }
 {
@@ -40,7 +46,12 @@ pub fn own_send(s: &mut [u64], o: Offer, identity: u64, reports: u64, room: u64)
 }
 
 // A fill that came back, whatever the room.
-pub fn own_report(s: &mut [u64], time: u64, identity: u64, contracts: u64) -> Result<Called, Refusal>
+pub fn own_report(
+    s: &mut [u64],
+    time: u64,
+    identity: u64,
+    contracts: u64,
+) -> Result<Called, Refusal>
     requires { is_sound s.old ≡ true }
     ensures { (room : ℕ) → Done room (Call.report time identity contracts) s.old s.new (called_told result) }
 {

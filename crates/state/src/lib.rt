@@ -109,8 +109,7 @@ pub fn is_sound(m: &[u64]) -> bool
     if !tests::is_front(m) {
         return false;
     }
-    let Some(longest) = given::test_rules(&m[RULES..TOTALS], &m[TOTALS..LOCKS], m[ROOTS])
-    else {
+    let Some(longest) = given::test_rules(&m[RULES..TOTALS], &m[TOTALS..LOCKS], m[ROOTS]) else {
         return false;
     };
     if !tests::are_parts(m, longest) {

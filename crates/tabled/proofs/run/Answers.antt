@@ -18,11 +18,10 @@ loop-record-preserved c =
     let before = c.loop-record.invariant in
     let steps = c.in-Some.ensures.steps in
     let left = chunks_rest c.loop-record.record-iterator in
-    let cuts : length c.in-Some.record.now ≡ min bytes16 (length left) = steps.1.1 ∙ ap (λ (n : ℕ). min n (length left)) before.0 in
-    (
+    let cuts : length c.in-Some.record.now ≡ min bytes16 (length left) = steps.1.1 ∙ ap (λ (n : ℕ). min n (length left)) before.0 in (
       steps.0 ∙ before.0,
       taking-on before.1 c.in-Some.record.now _ steps.1.0 cuts steps.1.2 c.take_record.new.m c.take_record.new.a c.take_record.auto.m c.take_record.auto.a
-      c.take_record.ensures.m_after c.take_record.ensures.a_after,
+          c.take_record.ensures.m_after c.take_record.ensures.a_after,
     )
 
 pub returns : goal.returns
