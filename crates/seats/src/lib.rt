@@ -84,7 +84,7 @@ pub fn refusal(m: &[u64], firm: u64) -> Result<(), Refusal>
         return Err(Refusal::NoRoom);
     }
     if 1 < firm {
-        return Err(Refusal::Unknown);
+        return Err(Refusal::Unknown); // the firms are 0 and 1
     }
     let at = firm as usize * state::SIZE;
     if m[at] == 0 {
