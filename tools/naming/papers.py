@@ -4,7 +4,7 @@ import re
 
 from sources import Sources
 
-HISTORY = {"LANDINGS.md", "CHANGELOG.md", "PORT.md"}
+HISTORY = {"LANDINGS.md", "CHANGELOG.md", "PORT.md", "DESIGN-PASS.md"}
 FOLDERS = r"crates|docs|tools|native|desk|rust|python|second|c|include|packaging|sample-data|\.ci"
 PATH = re.compile(rf"(?<![\w/.:<-])((?:{FOLDERS})/[\w.*/-]*)")
 # a word that stands for any name, as in crates/CRATE/specs/X.antt
