@@ -82,7 +82,12 @@ def name_of(crate, file, text, head):
     """A function as the check names it, by the place of its head in its file."""
     place = [crate] + ([] if file in ("src/lib.rt", "src/main.rt") else [Path(file).stem])
     if head[1]:
-        place.append(re.findall(r"^impl(?:<[^>]*>)? (\w+)", text[: head.start()], re.M)[-1])
+        # an impl of a trait goes by its type and the trait, as in `LettersDigits`, with what the trait is given, as in `EventFromEvent16`
+        named, given, of = re.findall(r"^impl(?:<[^>]*>)? (\w+)(?:<([^{}]*?)>)?(?: for (\w+))?", text[: head.start()], re.M)[-1]
+        # and one whose type another file declares, by the crate alone
+        if not re.search(rf"\b(?:struct|enum) {of or named}\b", text):
+            place = [crate]
+        place.append(of + named + "".join(re.findall(r"\w+", given)) if of else named)
     return "::".join(place + [head[2]])
 
 
