@@ -15,7 +15,7 @@ unfoldable pub left : ℕ → List ℕ → List ℕ → ℕ
 left acc us vs = acc * 2 ^ total us + packed us vs
 
 -- a field goes in below: the number is the same
-shift_in : (acc u v : ℕ) (us vs : List ℕ) → left acc (u ∷ us) (v ∷ vs) ≡ left (acc * 2 ^ u + v) us vs
+pub shift_in : (acc u v : ℕ) (us vs : List ℕ) → left acc (u ∷ us) (v ∷ vs) ≡ left (acc * 2 ^ u + v) us vs
 unfolding left total packed
 shift_in acc u v us vs = rw (pow-add 2 u (total us)) (omega arith)
 
