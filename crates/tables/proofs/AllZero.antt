@@ -1,5 +1,5 @@
 -- Zeros: lists of them, numbers joined bit by bit, and the test that every number is 0. Assumes nothing.
-use Prim.Native.Nat.{ℕ, ◌+◌, ◌<◌}
+use Prim.Native.Nat.{ℕ, ◌+◌, ◌≤◌, ◌<◌}
 use mathlib.Core.Path.{◌≡◌, refl, sym, ap, ap₂, ◌∙◌}
 use mathlib.Core.Bool.{Bool, true, false, ◌&&◌, and-true, and_assoc}
 use mathlib.Core.List.{List, [], ◌∷◌, ◌++◌, append-nil}
@@ -7,7 +7,7 @@ use native.Mathlib.Omega.{arith}
 use lib.Dec.{eqb}
 use Rattle.std.specs.List.{fold}
 use lib.Bits.{bit_or}
-use lib.ListN.{length, get_or, drop, replicate-append-replicate}
+use lib.ListN.{length, get_or, take, drop, take-append-drop, replicate-append-replicate}
 use Rattle.laws.proofs.Tests.{or-zero}
 use Rattle.laws.proofs.Lists.{from, ended}
 use Rattle.tables.specs.Inner.Tables.{zeros, all_zero}
@@ -17,11 +17,23 @@ pub zeros-add : (n m : ℕ) → zeros n ++ zeros m ≡ zeros (n + m)
 unfolding zeros
 zeros-add n m = replicate-append-replicate n m 0
 
+module _ (s : List ℕ) (any i : ℕ) where
+  pub zero-on : i < length s → (eqb any 0 && all_zero (drop i s)) ≡ (eqb (bit_or any (get_or s i 0)) 0 && all_zero (drop (i + 1) s))
+  unfolding all_zero
+  zero-on h = rw (from s i h, or-zero any (get_or s i 0)) (sym (and_assoc (eqb any 0) (eqb (get_or s i 0) 0) (all_zero (drop (i + 1) s))))
+
+  pub zero-end : length s ≤ i → (eqb any 0 && all_zero (drop i s)) ≡ eqb any 0
+  unfolding all_zero
+  zero-end h = rw (ended s i h) (and-true (eqb any 0))
+
 -- two lists are all 0 exactly if one after the other is
 all_append : (a b : List ℕ) → all_zero (a ++ b) ≡ (all_zero a && all_zero b)
 unfolding all_zero
 all_append [] b = refl
 all_append (x ∷ a) b = ap (λ (t : Bool). eqb x 0 && t) (all_append a b) ∙ sym (and_assoc (eqb x 0) (all_zero a) (all_zero b))
+
+pub zero-parts : (n : ℕ) (s : List ℕ) → (all_zero (take n s) && all_zero (drop n s)) ≡ all_zero s
+zero-parts n s = sym (all_append (take n s) (drop n s)) ∙ ap all_zero (take-append-drop n s)
 
 -- numbers joined one after the other
 pub fold-zero : (xs : List ℕ) (any : ℕ) → eqb (fold bit_or any xs) 0 ≡ (eqb any 0 && all_zero xs)
