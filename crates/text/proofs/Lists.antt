@@ -47,6 +47,12 @@ index-past b (x ∷ s) t e = go (eqb x b) (index-past b s t) e
     go true more e = absurd (omega arith)
     go false more e = omega (arith, more (omega arith))
 
+-- some bytes from a place on that are joined by | into one test are none of them b where the test fails, so the index of b lies past them
+pub index-behind : (b : ℕ) (s : List ℕ) (at i : ℕ) {n : ℕ} (near : Bool) → (near ≡ false → n ≡ at + i + index_of b (drop (at + i) s)) → at + i < length s
+    → (near || eqb (get_or s (at + i) 0) b) ≡ false → n ≡ at + (i + 1) + index_of b (drop (at + (i + 1)) s)
+index-behind b s at i true far h e = absurd (false≢true (sym e))
+index-behind b s at i false far h e = far refl ∙ index_on b s (at + i) h (eqb-false (get_or s (at + i) 0) b e) ∙ rw (add_assoc at i 1)
+
 -- the first bytes, and those behind them, where none of the first is b
 pub index-on : (b : ℕ) (rest first more : List ℕ) (n : ℕ) → first ≡ take n rest → more ≡ drop n rest → index_of b first ≡ length first
     → (length more ≤ length rest) × (index_of b rest ≡ length rest - length more + index_of b more)

@@ -89,7 +89,7 @@ front-part p (suc m) (x ∷ xs) h = go (p x) refl (front-part p m xs) h
     go false t part h = rw (t, and-false)
 
 module _ (p : ℕ → Bool) (least most base naught : ℕ) (s : List ℕ) where
-  read_short : length s < least → None ≡ read_as p least most base naught s
+  pub read_short : length s < least → None ≡ read_as p least most base naught s
   unfolding made read_as
   read_short h = rw (lt-leb least (length s) h)
 
@@ -105,6 +105,18 @@ module _ (p : ℕ → Bool) (least most base naught : ℕ) (s : List ℕ) where
       let tested : all p s ≡ true = rw e (front-all p (take most t)) in
       rw (le-leb least (length s) h, le-leb (length s) most few, tested)
 
+-- a run over a whole field: it stops before its end, or it has read it
+module _ (p : ℕ → Bool) (least most base naught : ℕ) (s : List ℕ) {value end : ℕ} (is : (value, end) ≡ run_read p base naught (take most s)) where
+  pub field-stops : end < length s → None ≡ read_as p least most base naught s
+  unfolding run_read
+  field-stops h = read-over p least most base naught s (front-part p most s (omega (arith, ap (λ (r : ℕ × ℕ). r.1) is)))
+
+  pub field-read : least ≤ length s → length s ≤ end → Some value ≡ read_as p least most base naught s
+  unfolding run_read
+  field-read h k =
+      let full = front-full p most s (omega (arith, ap (λ (r : ℕ × ℕ). r.1) is)) in
+      ap Some (ap (λ (r : ℕ × ℕ). r.0) is ∙ ap (numeral base naught) full) ∙ read-front p least most base naught s s (sym full) h
+
 -- a run over the first bytes of what is left of a line, and its first field
 module _ (p : ℕ → Bool) (tame : p 44 ≡ false) (least most base naught : ℕ) (s : List ℕ) {value end : ℕ} (is : (value, end) ≡ run_read p base naught (take most s)) where
   abbrev lead : List ℕ
@@ -117,6 +129,9 @@ module _ (p : ℕ → Bool) (tame : p 44 ≡ false) (least most base naught : �
   run_value : value ≡ numeral base naught lead
   unfolding run_read
   run_value = ap (λ (r : ℕ × ℕ). r.0) is
+
+  pub run-le : end ≤ most
+  run-le = omega (arith, run_end, front-le p (take most s), length-take most s)
 
   pub run-within : end ≤ length s
   run-within = omega (arith, run_end, front-le p (take most s), length-take most s)
