@@ -8,8 +8,14 @@ use native.Mathlib.Omega.{arith}
 use Rattle.text.specs.Text.{lines, index_of}
 use Rattle.text.proofs.Lists.{index-le, within, first-line, line-here as next-lines}
 use Rattle.reader.specs.Lines.{line_from}
+use Rattle.laws.proofs.Lists.{ended}
+use Rattle.text.specs.Text.{pieces}
 
 module _ (s : List ℕ) (at : ℕ) where
+  pub line-past : length s < at → line_from s at ≡ []
+  unfolding line_from pieces
+  line-past h = rw (ended s at (omega arith))
+
   pub line-here : (e : ℕ) → e ≡ at + index_of 10 (drop at s) → line_from s at ≡ take (e - at) (drop at s)
   unfolding line_from
   line-here e ends = first-line s at e ends
