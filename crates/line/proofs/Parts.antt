@@ -28,6 +28,26 @@ use Rattle.line.specs.Inner.Parts.{limit_read, chosen, side_number, month_number
 use Rattle.line.specs.declared.LimitType.{LimitType}
 use Rattle.line.specs.declared.fields.Said.{Said}
 
+-- a field that is told by its bytes ends behind them
+pub told-end : (f word : List ℕ) (at : ℕ) {n : ℕ} → same f word ≡ true → n ≡ length word + 1 → at + n ≡ at + length f + 1
+told-end f word at e n = omega (arith, ap length (same-eq f word e))
+
+-- an empty field is told by its length too, and one letter alone by its number
+pub empty-test : (f : List ℕ) → eqb (length f) 0 ≡ same f []
+unfolding same
+empty-test [] = refl
+empty-test (x ∷ xs) = ne_eqb (suc (length xs)) 0 (λ e. omega arith)
+
+pub letter-one : (a b : ℕ) (f : List ℕ) → eqb (letter_of a b f) 1 ≡ same f (a ∷ [])
+unfolding same letter_of
+letter-one a b [] = refl
+letter-one a b (x ∷ xs) = go (same (x ∷ xs) (a ∷ [])) (same (x ∷ xs) (b ∷ []))
+  where
+    go : (one two : Bool) → eqb (cond one 1 (cond two 2 3)) 1 ≡ one
+    go true two = refl
+    go false true = refl
+    go false false = refl
+
 -- a number that passes a range's test lies in the range
 pub test_in : (r : Range) (n : ℕ) → is_in r n ≡ true → In r n
 test_in r n e = (search tests, search tests)
