@@ -1,7 +1,7 @@
 -- Rows of an account: their figures are at most 10^18, and an event that is priced adds at most 10^14 to one. Assumes nothing.
 use Prim.Native.Nat.{ℕ, ◌+◌, ◌≤◌, ◌<◌}
-use mathlib.Core.Path.{◌≡◌, subst}
-use mathlib.Core.Bool.{Bool, true, false, not}
+use mathlib.Core.Path.{◌≡◌, refl, subst}
+use mathlib.Core.Bool.{Bool, true, false, not, ◌&&◌}
 use mathlib.Core.List.{List}
 use native.Mathlib.Omega.{arith}
 use native.Mathlib.Nat.{mul-le-mul}
@@ -117,6 +117,29 @@ added-most level (Reported root roottrip firmtrip) p = record {
   trips = omega (arith, trip-most level roottrip firmtrip);
   away = omega arith;
 }
+
+-- eight tests, from the first or from the last
+eight-tests : (a b c d e f g h : Bool)
+    → (a && b && c && d && e && f && g && h) ≡ (a && (b && (c && (d && (e && (f && (g && (h && true))))))))
+eight-tests false b c d e f g h = refl
+eight-tests true false c d e f g h = refl
+eight-tests true true false d e f g h = refl
+eight-tests true true true false e f g h = refl
+eight-tests true true true true false f g h = refl
+eight-tests true true true true true false g h = refl
+eight-tests true true true true true true false h = refl
+eight-tests true true true true true true true true = refl
+eight-tests true true true true true true true false = refl
+
+-- the eight tests of a row
+pub row-tests : (f : Figures)
+    → (leb f.accepted most && leb f.rejected most && leb f.fills.0 most && leb f.contracts.0 most && leb f.notional.0 most
+    && leb f.cuts most && leb f.trips most && leb f.away most)
+    ≡ every (λ n. leb n most) (row_numbers f)
+unfolding every row_numbers
+row-tests f =
+    eight-tests (leb f.accepted most) (leb f.rejected most) (leb f.fills.0 most) (leb f.contracts.0 most) (leb f.notional.0 most)
+    (leb f.cuts most) (leb f.trips most) (leb f.away most)
 
 -- a row and what is added to it, with room for both
 pub sum-within : {j k : ℕ} {a b : Figures} → AtMost j a → AtMost k b → j + k ≤ most → every (λ n. leb n most) (row_numbers (plus a b)) ≡ true
