@@ -16,7 +16,7 @@ use Rattle.machine.specs.Entries.{is_entry, are_ordered, is_flagged}
 use Rattle.machine.specs.declared.Entry.{Entry}
 use Rattle.packing.specs.EntryPlace.{entry_at, entry_numbers, is_entry_place, log_table}
 use Rattle.packing.proofs.Parts.{two}
-use Rattle.tables.proofs.Tables.{Codec, is-table, valid-places, length-table, place-table, places-table, rest-table}
+use Rattle.tables.proofs.Tables.{Codec, is-table, valid-places, length-table, length-places, place-table, places-table, rest-table}
 use Rattle.tables.proofs.Passing.{pass-each, each-pass}
 use Rattle.packing.proofs.EntryPlace.{entry-codec, entry-wider}
 use Rattle.daylog.specs.Inner.Log.{is_log_place, entries_hold, log_holds, HeldLog, HeldIn, entries_of, places_in, entries_in, log_numbers}
@@ -117,6 +117,10 @@ pub set-table : (xs ys : List ℕ) (n : ℕ) (es : List Entry) → length xs ≡
     → set (take 1 xs ++ (ys ++ drop 1024 (drop 1 xs))) 0 n ≡ log_numbers es
 set-table [] ys n es l k e = absurd (omega arith)
 set-table (x ∷ xs) ys n es l k e = (λ i. k i ∷ (e i ++ nothing-after xs (omega arith) i)) ∙ ap (λ (q : List ℕ). length es ∷ q) (append-nil (log_table es))
+
+-- as many entries as the table says
+pub entries-many : (xs : List ℕ) → length (entries_in xs) ≡ get_or xs 0 0
+entries-many xs = length-places codec (get_or xs 0 0) (places_in xs)
 
 -- the test of a table, by its count
 module _ (n clock : ℕ) (xs : List ℕ) where

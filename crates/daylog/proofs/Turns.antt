@@ -13,6 +13,7 @@ use Rattle.laws.proofs.Every.{every_first, every_drop, every_append, every-join}
 use Rattle.machine.specs.Entries.{is_entry}
 use Rattle.machine.specs.declared.Entry.{Entry}
 use Rattle.packing.specs.EntryPlace.{entry_at, entry_numbers, is_entry_place, log_table}
+use Rattle.shapes.proofs.Tables.{length-zeros}
 use Rattle.tables.proofs.Tables.{length-flat, length-places, length-table, place-table, read_table, put-at, put_next}
 use Rattle.tables.proofs.AllZero.{zeros-add}
 use Rattle.daylog.specs.Inner.Log.{HeldLog, entries_of, last_of, joined_entries, Left}
@@ -165,3 +166,13 @@ joined-log es {r} kept room e is =
           is ∙ ap (λ (l : List ℕ). sets l (r * 2) (entry_numbers e)) kept.log
           ∙ ap (λ (n : ℕ). sets (log_table rs) (n * 2) (entry_numbers e)) (sym many) ∙ put_next codec 512 rs e (omega (arith, many));
     }
+
+-- numbers set to 0, one after the other
+pub zeros-more : (s : List ℕ) (i : ℕ) → i < length s → set (zeros i ++ drop i s) i 0 ≡ zeros (i + 1) ++ drop (i + 1) s
+unfolding zeros
+zeros-more s i h = more 0 (zeros i) s i (length-zeros i) 0 h ∙ ap (λ (l : List ℕ). l ++ drop (i + 1) s) (zeros-add i 1)
+
+pub zeros-done : (s : List ℕ) (i : ℕ) → length s ≡ i → zeros i ++ drop i s ≡ zeros (length s)
+zeros-done s i h =
+    let end : length s ≤ i = omega arith in
+    rw (drop_of_length-le s end, append-nil (zeros i), h)
