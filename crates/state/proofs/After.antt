@@ -22,6 +22,9 @@ pub record Holds (s : State) (xs ys : List ℕ) : Type 0 where
   pub fits : Fits s
   pub is : ys ≡ stored s xs
 
+pub holds-laid : {xs : List ℕ} → Laid xs → Holds (decode xs) xs xs
+holds-laid h = record { fits = h.fits; is = h.is }
+
 module _ {s : State} {xs ys : List ℕ} (h : Holds s xs ys) where
   pub held-state : decode ys ≡ s
   held-state = ap decode h.is ∙ decode-stored s h.fits xs

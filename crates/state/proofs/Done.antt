@@ -123,6 +123,10 @@ module _ {f : Account → Account} (k : Fair f) {xs : List ℕ} (h : Laid xs) wh
   doing-none = record { within = omega arith; holds = record { fits = fits-done k h.fits 0; is = h.is } }
 
   module _ {i : ℕ} {ys : List ℕ} (d : Doing f xs i ys) where
+    pub doing-length : length (decode ys).part.accounts ≡ length (decode xs).part.accounts
+    doing-length =
+        ap (λ (s : State). length s.part.accounts) (held-state d.holds) ∙ done-length f i (decode xs).part.accounts
+
     -- the rules are those that they were, and so is each account to come
     pub doing-rules : rules_in (decode ys) ≡ rules_in (decode xs)
     unfolding rules_in

@@ -4,7 +4,7 @@ use native.Mathlib.Nat.{mul-one}
 use native.Mathlib.Omega.{arith}
 use mathlib.Core.Path.{◌≡◌, refl, sym, ap, ◌∙◌}
 use mathlib.Core.Bool.{true}
-use mathlib.Core.List.{List, ◌∷◌, ◌++◌}
+use mathlib.Core.List.{List, [], ◌∷◌, ◌++◌}
 use lib.ListN.{length, get_or, take, drop, set, get_or-map}
 use lib.Seq.{get_or-take, get_or-drop}
 use Rattle.shapes.specs.Shape.{Exact, cell, both, named, word, flag, rows, table}
@@ -62,6 +62,10 @@ module _ (s : State) (f : Fits s) (xs : List ℕ) where
   log-fits = log-exact (length s.part.profile.roots) f.roots
 
   -- what stands in the parts
+  pub stored-clock : take 1 (drop 1 (stored s xs)) ≡ s.part.clock ∷ []
+  unfolding stored number cell
+  stored-clock = part_of clock-of s f number-exact (drop size xs)
+
   pub stored-locks : take 4 (drop locks_at (stored s xs)) ≡ locks_numbers s.part.locks
   unfolding stored
   stored-locks = part_of locks-of s f locks-exact (drop size xs) ∙ locks-written s.part.locks
