@@ -3,6 +3,8 @@ use Rattle.std.specs.Prelude.{ℕ, ◌≡◌, List, cond, drop, Option, is_some}
 use mathlib.Core.Path.{refl, sym, ap, ◌∙◌}
 use Rattle.determined.specs.Determines.{DeterminesSeen, Determines}
 use Rattle.laws.proofs.One.{alike}
+use Rattle.text.proofs.find.Kinds as find-kinds
+use Rattle.text.proofs.find.Reads as find-reads
 use Rattle.text.proofs.find_far.Kinds as find-far-kinds
 use Rattle.text.proofs.find_far.Reads as find-far-reads
 use Rattle.text.proofs.fields.Fields.of.Kinds as fields-of-kinds
@@ -13,10 +15,16 @@ use Rattle.text.proofs.fields.Fields.next_field.Kinds as fields-next-field-kinds
 use Rattle.text.proofs.fields.Fields.next_field.Reads as fields-next-field-reads
 use Rattle.text.proofs.fields.Fields.number.Kinds as fields-number-kinds
 use Rattle.text.proofs.fields.Fields.number.Reads as fields-number-reads
+use Rattle.text.proofs.fields.Fields.name.Kinds as fields-name-kinds
+use Rattle.text.proofs.fields.Fields.name.Reads as fields-name-reads
 use Rattle.text.proofs.fields.Fields.firm.Kinds as fields-firm-kinds
 use Rattle.text.proofs.fields.Fields.firm.Reads as fields-firm-reads
 use Rattle.text.proofs.fields.Fields.root.Kinds as fields-root-kinds
 use Rattle.text.proofs.fields.Fields.root.Reads as fields-root-reads
+use Rattle.text.proofs.is_field.Kinds as is-field-kinds
+use Rattle.text.proofs.is_field.Reads as is-field-reads
+use Rattle.text.proofs.firm_name.Kinds as firm-name-kinds
+use Rattle.text.proofs.firm_name.Reads as firm-name-reads
 use Rattle.text.proofs.root_name.Kinds as root-name-kinds
 use Rattle.text.proofs.root_name.Reads as root-name-reads
 use Rattle.text.proofs.decimal_size.Kinds as decimal-size-kinds
@@ -29,6 +37,9 @@ use Rattle.text.proofs.put_name.Kinds as put-name-kinds
 use Rattle.text.proofs.put_name.Reads as put-name-reads
 use Rattle.text.proofs.put_decimal.Kinds as put-decimal-kinds
 use Rattle.text.proofs.put_decimal.Reads as put-decimal-reads
+
+pub find : Determines 1 find-kinds.ps find-kinds.r find-reads.Asked find-reads.Learnt
+find κs args asked x y u v p q = (alike p q, refl)
 
 pub find-far : Determines 1 find-far-kinds.ps find-far-kinds.r find-far-reads.Asked find-far-reads.Learnt
 find-far κs args asked x y u v p q = (alike p q, refl)
@@ -50,11 +61,20 @@ fields-next-field κs args asked x y u v p q = (alike p.0 q.0, λ i. (alike p.1 
 pub fields-number : Determines 2 fields-number-kinds.ps fields-number-kinds.r fields-number-reads.Asked fields-number-reads.Learnt
 fields-number κs args asked x y u v p q = (alike p.0 q.0, λ i. (left-alike args.0.now (alike p.0 q.0) p.1 q.1 i, v.1))
 
+pub fields-name : Determines 2 fields-name-kinds.ps fields-name-kinds.r fields-name-reads.Asked fields-name-reads.Learnt
+fields-name κs args asked x y u v p q = (alike p.0 q.0, λ i. (left-alike args.0.now (alike p.0 q.0) p.1 q.1 i, v.1))
+
 pub fields-firm : Determines 2 fields-firm-kinds.ps fields-firm-kinds.r fields-firm-reads.Asked fields-firm-reads.Learnt
 fields-firm κs args asked x y u v p q = (alike p.0 q.0, λ i. (left-alike args.0.now (alike p.0 q.0) p.1 q.1 i, v.1))
 
 pub fields-root : Determines 2 fields-root-kinds.ps fields-root-kinds.r fields-root-reads.Asked fields-root-reads.Learnt
 fields-root κs args asked x y u v p q = (alike p.0 q.0, λ i. (left-alike args.0.now (alike p.0 q.0) p.1 q.1 i, v.1))
+
+pub is-field : Determines 2 is-field-kinds.ps is-field-kinds.r is-field-reads.Asked is-field-reads.Learnt
+is-field κs args asked x y u v p q = (alike p q, refl)
+
+pub firm-name : Determines 1 firm-name-kinds.ps firm-name-kinds.r firm-name-reads.Asked firm-name-reads.Learnt
+firm-name κs args asked x y u v p q = (alike p q, refl)
 
 pub root-name : Determines 1 root-name-kinds.ps root-name-kinds.r root-name-reads.Asked root-name-reads.Learnt
 root-name κs args asked x y u v p q = (alike p q, refl)

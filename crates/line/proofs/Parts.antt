@@ -17,7 +17,6 @@ use Rattle.rules.specs.declared.Limit.{Limit}
 use Rattle.rules.specs.declared.Rule.{Rule}
 use Rattle.laws.specs.Lists.{same}
 use Rattle.laws.proofs.Lists.{same-eq}
-use Rattle.std.specs.Cmp.Lexicographic.{pointwise}
 use lib.Seq.{drop-drop}
 use Rattle.text.specs.Text.{fields, field, all, made, is_digit, numeral, field_number}
 use Rattle.text.specs.Inner.Taking.{read_as}
@@ -195,14 +194,6 @@ there-four line e = go (dec_lt 3 (length (fields line)))
 -- a field that reads as nothing is no field that reads as something
 pub none-some : {A : Type 0} {o : Option A} → None ≡ o → is_some o ≡ true → ⊥
 none-some e h = false≢true (ap is_some e ∙ h)
-
--- a word is the same as a field if they are equal byte by byte
-pub same-pointwise : (a b : List ℕ) → pointwise eqb a b ≡ same a b
-unfolding same
-same-pointwise [] [] = refl
-same-pointwise [] (y ∷ b) = refl
-same-pointwise (x ∷ a) [] = refl
-same-pointwise (x ∷ a) (y ∷ b) = ap (λ t. eqb x y && t) (same-pointwise a b)
 
 -- the fields that are left begin with field k, and behind it are those from the next on
 module _ (line : List ℕ) (k : ℕ) {left : List (List ℕ)} (at : left ≡ drop k (fields line)) where

@@ -1,11 +1,10 @@
 // The fields of a line, read one after the other: the four that it must have, and the four that it may have.
 ghost use Rattle.std.specs.Prelude.{◌≡◌, true, cond, [], get_or, drop, is_some, MatchOption};
-ghost use Rattle.laws.specs.Lists.{same};
 ghost use Rattle.line.specs.Line.{malformed, time_of, letter_of};
 ghost use Rattle.line.specs.Inner.Parts.{chosen, Says};
 
 use crate::LimitType;
-use text::Fields;
+use text::{Fields, is_field};
 
 // Calls or puts.
 #[derive(Clone, Copy)]
@@ -34,25 +33,18 @@ pub(crate) struct Said {
     pub(crate) month: Option<Month>,
 }
 
-// Whether a field holds a word.
-pub(crate) fn is(field: &[u8], word: &[u8]) -> bool
-    ensures { result ≡ same field.now word.now }
-{
-    field == word
-}
-
 // What a field says that has one of two letters or none; nothing for anything else.
 #[tactic(auto, unfolding(crate::specs::Line::letter_of))]
 fn letter<T: Copy>(field: &[u8], one: (u8, T), two: (u8, T)) -> Option<Option<T>>
     ensures { result ≡ chosen one.1 two.1 (letter_of one.0 two.0 field.now) }
 {
-    if is(field, b"") {
+    if is_field(field, b"") {
         return Some(None);
     }
-    if is(field, &[one.0]) {
+    if is_field(field, &[one.0]) {
         return Some(Some(one.1));
     }
-    if is(field, &[two.0]) {
+    if is_field(field, &[two.0]) {
         return Some(Some(two.1));
     }
     None
@@ -81,7 +73,7 @@ pub(crate) fn read(line: &[u8]) -> Option<Said>
     let root = fields.root()?;
     let limit = fields.number(1)?;
     let time = time(&mut fields, named.is_absolute())?;
-    let firmwide = is(fields.next_field(), b"T");
+    let firmwide = is_field(fields.next_field(), b"T");
     let call = letter(fields.next_field(), (b'C', Side::Call), (b'P', Side::Put))?;
     let month = letter(
         fields.next_field(),

@@ -4,9 +4,9 @@ ghost use Rattle.line.specs.Line.{type_of, is_absolute, kind_of};
 ghost use Rattle.line.specs.Inner.Parts.{limit_read};
 
 use crate::LimitType;
-use crate::fields::is;
 use measures::{Contracts, Dollars, Executions, Time};
 use rules::{Kind, Limit};
+use text::is_field;
 
 impl LimitType {
     // The type that a field names.
@@ -14,17 +14,17 @@ impl LimitType {
     pub(crate) fn named(field: &[u8]) -> Option<LimitType>
         ensures { result ≡ type_of field.now }
     {
-        if is(field, b"rate_ntnl") {
+        if is_field(field, b"rate_ntnl") {
             Some(LimitType::RateNtnl)
-        } else if is(field, b"rate_vol") {
+        } else if is_field(field, b"rate_vol") {
             Some(LimitType::RateVol)
-        } else if is(field, b"rate_count") {
+        } else if is_field(field, b"rate_count") {
             Some(LimitType::RateCount)
-        } else if is(field, b"abs_ntnl") {
+        } else if is_field(field, b"abs_ntnl") {
             Some(LimitType::AbsNtnl)
-        } else if is(field, b"abs_vol") {
+        } else if is_field(field, b"abs_vol") {
             Some(LimitType::AbsVol)
-        } else if is(field, b"abs_count") {
+        } else if is_field(field, b"abs_count") {
             Some(LimitType::AbsCount)
         } else {
             None

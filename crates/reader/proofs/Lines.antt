@@ -2,9 +2,11 @@
 use Prim.Native.Nat.{ℕ, ◌+◌, ◌-◌, ◌≤◌, ◌<◌}
 use mathlib.Core.Path.{◌≡◌, refl, sym, ap, ◌∙◌}
 use mathlib.Core.List.{List, [], ◌∷◌}
-use lib.ListN.{length, take, drop}
+use lib.ListN.{length, get_or, take, drop}
 use lib.Seq.{length-take-le}
 use native.Mathlib.Omega.{arith}
+use Rattle.std.specs.Prelude.{min}
+use Rattle.std.proofs.lemmas.List.{drop_min}
 use Rattle.text.specs.Text.{lines, index_of}
 use Rattle.text.proofs.Lists.{index-le, within, first-line, line-here as next-lines}
 use Rattle.reader.specs.Lines.{line_from}
@@ -20,12 +22,10 @@ module _ (s : List ℕ) (at : ℕ) where
   unfolding line_from
   line-here e ends = first-line s at e ends
 
-  -- it is what stands before the first LF of what is left
-  pub line_is : {rest : List ℕ} {e : ℕ} → rest ≡ drop at s → e ≡ index_of 10 rest → take e rest ≡ line_from s at
-  line_is {rest} {e} is ends =
-      let n : at + e - at ≡ e = omega arith in
-      let here : at + e ≡ at + index_of 10 (drop at s) = ap (λ (k : ℕ). at + k) (ends ∙ ap (index_of 10) is) in
-      ap (take e) is ∙ rw n at (sym (line-here (at + e) here))
+  -- a place past the end has the line of the end, which is empty
+  pub line_is : {from e : ℕ} → from ≡ min at (length s) → e ≡ from + index_of 10 (drop from s) → take (e - from) (drop from s) ≡ line_from s at
+  unfolding line_from
+  line_is {from} {e} is ends = sym (first-line s from e ends) ∙ ap (λ l. get_or (lines l) 0 []) (ap (λ k. drop k s) is ∙ drop_min at s)
 
   -- it has the bytes before the next LF, so its end is the place of that LF, or the end of the text
   pub line-end : at + length (line_from s at) ≡ at + index_of 10 (drop at s)

@@ -8,7 +8,7 @@ ghost use Rattle.reader.specs.Lines.{line_from};
 pub fn line_from(text: &[u8], at: usize) -> &[u8]
     ensures { result.now ≡ line_from text.now at }
 {
-    let rest = &text[at.min(text.len())..];
-    let end = text::find_far(rest, b'\n');
-    &rest[..end]
+    let at = at.min(text.len());
+    let end = text::find_far(text, at, b'\n');
+    &text[at..end]
 }

@@ -1,6 +1,7 @@
 pub mod Lists
 pub mod Numerals
 pub mod Bytes
+pub mod Ranges
 pub mod Runs
 pub mod Taking
 pub mod InBase

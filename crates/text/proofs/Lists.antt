@@ -1,7 +1,7 @@
 -- Laws of lists of bytes: places, the pieces of a text, and the fields of a line. Assumes nothing.
 use Prim.Native.Nat.{ℕ, zero, suc, ◌+◌, ◌-◌, ◌≤◌, ◌<◌}
 use mathlib.Core.Path.{◌≡◌, refl, sym, ap, ◌∙◌}
-use mathlib.Core.Bool.{Bool, true, false, cond, ◌||◌, false≢true}
+use mathlib.Core.Bool.{Bool, true, false, cond, ◌&&◌, ◌||◌, false≢true}
 use mathlib.Core.List.{List, [], ◌∷◌, ◌++◌}
 use lib.ListN.{length, get_or, take, drop, length-drop, length-append, take-append-drop}
 use lib.Seq.{drop-drop, get_or-drop, length-take-le}
@@ -11,6 +11,10 @@ use native.Mathlib.Decide.{dec_lt}
 use native.Mathlib.Nat.{add_assoc, add-zero, zero-add, suc-add}
 use native.Mathlib.Omega.{arith}
 use native.Mathlib.Numerals.{add-one}
+use Rattle.std.specs.Cmp.Lexicographic.{pointwise}
+use Rattle.std.specs.Prelude.{min}
+use Rattle.std.proofs.lemmas.List.{take_rest, drop_min}
+use Rattle.laws.specs.Lists.{same}
 use Rattle.laws.proofs.Lists.{from, ended}
 use Rattle.text.specs.Text.{onto, pieces, lines, fields, field, index_of}
 
@@ -80,6 +84,18 @@ index-le b (x ∷ xs) = go (eqb x b) (index-le b xs)
 
 pub within : (b : ℕ) (s : List ℕ) (from : ℕ) → from ≤ length s → from + index_of b (drop from s) ≤ length s
 within b s from h = omega (arith, index-le b (drop from s), length-drop from s)
+
+-- the first b from a place on: what is cut off from there tells it, and where the place is past the end nothing is
+pub rest-from : (s : List ℕ) (at : ℕ) → take (length s - min at (length s)) (drop (min at (length s)) s) ≡ drop at s
+rest-from s at = take_rest s (min at (length s)) ∙ drop_min at s
+
+-- a word is the same as a field if they are equal byte by byte
+pub same-pointwise : (a b : List ℕ) → pointwise eqb a b ≡ same a b
+unfolding same
+same-pointwise [] [] = refl
+same-pointwise [] (y ∷ b) = refl
+same-pointwise (x ∷ a) [] = refl
+same-pointwise (x ∷ a) (y ∷ b) = ap (λ t. eqb x y && t) (same-pointwise a b)
 
 -- the pieces of a text, for lines and for fields alike: the first is what stands before the first separator, and after it come the pieces
 -- of the rest, or none where there is no separator

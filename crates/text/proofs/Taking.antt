@@ -6,7 +6,7 @@ use mathlib.Core.List.{List, [], ◌∷◌}
 use lib.ListN.{length, get_or, take, drop, length-take, length-drop}
 use lib.Seq.{take-nil, drop-drop, length-take-le}
 use lib.Dec.{eqb, leb, leb-suc-suc}
-use borrow.Author.Tests.{eqb-true, eqb-false, eq-eqb, ne_eqb, le-leb, lt-leb}
+use borrow.Author.Tests.{eqb-true, eqb-false, eq-eqb, ne_eqb, leb-true, leb-false, le-leb, lt-leb}
 use native.Mathlib.Decide.{dec_lt}
 use native.Mathlib.Omega.{arith}
 use Rattle.text.specs.Text.{all, pieces, fields, made, numeral, index_of}
@@ -167,21 +167,29 @@ module _ (p : ℕ → Bool) (tame : p 44 ≡ false) (least most base naught : �
         (ap Some (run_value ∙ ap (numeral base naught) (sym whole))
         ∙ read-front p least most base naught (until_comma s) s whole (omega (arith, run_end, ap length whole)))
 
--- a run over all bytes: they are read exactly if it has read them
-module _ (p : ℕ → Bool) (most base naught : ℕ) (s : List ℕ) {run : ℕ × ℕ} (is : run ≡ run_read p base naught (take most s)) where
-  pub field-whole : then_some (eqb run.1 (length s)) run.0 ≡ cond (made p 0 most s) (Some (numeral base naught s)) None
+-- a run over all bytes: they are read exactly if it has read them, and they are enough
+module _ (p : ℕ → Bool) (least most base naught : ℕ) (s : List ℕ) {run : ℕ × ℕ} (is : run ≡ run_read p base naught (take most s)) where
+  pub field-whole : then_some (leb least run.1 && eqb run.1 (length s)) run.0 ≡ cond (made p least most s) (Some (numeral base naught s)) None
   unfolding run_read read_as
-  field-whole = go (eqb run.1 (length s)) refl
+  field-whole = go (leb least run.1) (eqb run.1 (length s)) refl refl
     where
       size : run.1 ≡ length (front p (take most s))
       size = ap (λ (r : ℕ × ℕ). r.1) is
 
-      go : (t : Bool) → eqb run.1 (length s) ≡ t → then_some t run.0 ≡ read_as p 0 most base naught s
-      go true e =
-          let full = front-full p most s (omega (arith, size, eqb-true run.1 (length s) e)) in
-          ap Some (ap (λ (r : ℕ × ℕ). r.0) is ∙ ap (numeral base naught) full) ∙ read-front p 0 most base naught s s (sym full) (omega arith)
-      go false e =
-          read-over p 0 most base naught s (front-part p most s (omega (arith, size, eqb-false run.1 (length s) e, front-le p (take most s), length-take most s)))
+      part : eqb run.1 (length s) ≡ false → None ≡ read_as p least most base naught s
+      part e =
+          read-over p least most base naught s (front-part p most s (omega (arith, size, eqb-false run.1 (length s) e, front-le p (take most s), length-take most s)))
+
+      go : (l t : Bool) → leb least run.1 ≡ l → eqb run.1 (length s) ≡ t → then_some (l && t) run.0 ≡ read_as p least most base naught s
+      go true true l e =
+          let all : run.1 ≡ length s = eqb-true run.1 (length s) e in
+          let full = front-full p most s (omega (arith, size)) in
+          ap Some (ap (λ (r : ℕ × ℕ). r.0) is ∙ ap (numeral base naught) full)
+          ∙ read-front p least most base naught s s (sym full) (omega (arith, leb-true least run.1 l))
+      go false true l e =
+          read_short p least most base naught s (omega (arith, eqb-true run.1 (length s) e, leb-false least run.1 l))
+      go true false l e = part e
+      go false false l e = part e
 
 -- where nothing is left, no bytes have the same first field and the same others
 pub rest-first : (left : Option (Bor (List ℕ))) (none : Bor (List ℕ)) → none.now ≡ []

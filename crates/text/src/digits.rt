@@ -3,7 +3,6 @@ ghost use Rattle.std.specs.Prelude.{◌≡◌, ℕ, Bool, ◌+◌, ◌-◌, ◌*
 ghost use Rattle.std.proofs.lemmas.List.Edits.{sets};
 ghost use Rattle.text.specs.Text.{is_digit, is_name_byte};
 ghost use Rattle.text.specs.Inner.Taking.{run_read, last_digits, AreDigits};
-ghost use Rattle.text.specs.Inner.Kinds.{decimal-digits, name-digits};
 
 // Bytes that stand for numbers below a base.
 pub(crate) trait Digits {
@@ -22,8 +21,6 @@ pub(crate) trait Digits {
     // Whether a byte is one of them.
     fn is_digit(byte: u8) -> bool
         ensures { result ≡ is_digit byte };
-
-    ghost are_digits: { AreDigits is_digit BASE NAUGHT };
 }
 
 // The digits of a decimal number.
@@ -38,8 +35,6 @@ impl Digits for Decimal {
     ghost BASE = { 10 };
 
     ghost NAUGHT = { 48 };
-
-    ghost are_digits = { decimal-digits };
 
     const BASE: u64 = 10;
 
@@ -57,8 +52,6 @@ impl Digits for Letters {
 
     ghost NAUGHT = { 0 };
 
-    ghost are_digits = { name-digits };
-
     const BASE: u64 = 256;
 
     const NAUGHT: u8 = 0;
@@ -70,7 +63,8 @@ impl Digits for Letters {
 
 // What the digits in front of some bytes stand for, at most so many, and how many they are.
 pub(crate) fn front<D: Digits>(bytes: &[u8], most: usize) -> (u64, usize)
-    requires { D.BASE ^ most ≤ 2 ^ 64 }
+    requires digits { AreDigits D.is_digit D.BASE D.NAUGHT }
+    requires fits { D.BASE ^ most ≤ 2 ^ 64 }
     ensures { result ≡ run_read D.is_digit D.BASE D.NAUGHT (take most bytes.now) }
 {
     let bytes = &bytes[..most.min(bytes.len())];
@@ -86,6 +80,7 @@ pub(crate) fn front<D: Digits>(bytes: &[u8], most: usize) -> (u64, usize)
 
 // Writes the last digits of a number over a room, the last of them first.
 pub(crate) fn put_last<D: Digits>(n: u64, room: &mut [u8])
+    requires { AreDigits D.is_digit D.BASE D.NAUGHT }
     ensures { room.new ≡ last_digits D.BASE D.NAUGHT (length room.old) n }
 {
     let mut rest = n;

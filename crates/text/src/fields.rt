@@ -1,10 +1,11 @@
-// The fields of a line, read one after the other: the loop that reads a field finds its end, so that each byte is looked at once.
+// The fields of a line, read one after the other. The loop that reads a number or a name finds its end, so that each of its bytes is looked at once.
+// Any other field is cut off at its comma first, and then compared.
 ghost use Rattle.std.specs.Prelude.{◌≡◌, ℕ, List, [], ◌+◌, ◌^◌, ◌≤◌, cond, is_some, is_none, length, get_or, drop, eqb};
 ghost use Rattle.text.specs.Text.{fields, index_of, is_digit, name_of};
-ghost use Rattle.text.specs.Inner.Taking.{fields_in, read_as};
+ghost use Rattle.text.specs.Inner.Taking.{fields_in, read_as, AreDigits};
 
 use crate::digits::{Decimal, Digits, Letters, front};
-use crate::find;
+use crate::index_of;
 use std::marker::Model;
 
 // The fields of a line that are still to be read. One that is absent reads as empty.
@@ -61,14 +62,15 @@ impl<'a> Fields<'a> {
         ensures left { self.new ≡ drop 1 self.old }
     {
         let rest = self.rest();
-        let end = find(rest, b',');
+        let end = index_of(rest, b',');
         self.left = after(rest, end);
         &rest[..end]
     }
 
     // The next field as the number of least to most digits, or nothing, and all fields are left.
     fn numeral<D: Digits>(&mut self, least: usize, most: usize) -> Option<u64>
-        requires { D.BASE ^ most ≤ 2 ^ 64 }
+        requires digits { AreDigits D.is_digit D.BASE D.NAUGHT }
+        requires fits { D.BASE ^ most ≤ 2 ^ 64 }
         ensures value { result ≡ read_as D.is_digit least most D.BASE D.NAUGHT (get_or self.old 0 []) }
         ensures left { self.new ≡ cond (is_some result) (drop 1 self.old) self.old }
     {
@@ -92,12 +94,21 @@ impl<'a> Fields<'a> {
         self.numeral::<Decimal>(least, 12)
     }
 
+    // The next field as the number of a name of least to most bytes.
+    pub fn name(&mut self, least: usize, most: usize) -> Option<u64>
+        requires { most ≤ 8 }
+        ensures value { result ≡ name_of least most (get_or self.old 0 []) }
+        ensures left { self.new ≡ cond (is_some result) (drop 1 self.old) self.old }
+    {
+        self.numeral::<Letters>(least, most)
+    }
+
     // The next field as the number of a firm's name.
     pub fn firm(&mut self) -> Option<u64>
         ensures value { result ≡ name_of 1 4 (get_or self.old 0 []) }
         ensures left { self.new ≡ cond (is_some result) (drop 1 self.old) self.old }
     {
-        self.numeral::<Letters>(1, 4)
+        self.name(1, 4)
     }
 
     // The next field as the number of a root's name, 0 where it is empty.
@@ -105,6 +116,6 @@ impl<'a> Fields<'a> {
         ensures value { result ≡ name_of 0 6 (get_or self.old 0 []) }
         ensures left { self.new ≡ cond (is_some result) (drop 1 self.old) self.old }
     {
-        self.numeral::<Letters>(0, 6)
+        self.name(0, 6)
     }
 }

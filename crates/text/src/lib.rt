@@ -1,8 +1,9 @@
 // The bytes of a profile: lines, fields, names and numbers.
 #![tactic(auto)]
 
-ghost use Rattle.std.specs.Prelude.{◌≡◌, false, ◌+◌, ◌≤◌, length};
+ghost use Rattle.std.specs.Prelude.{◌≡◌, false, ◌+◌, ◌≤◌, length, drop};
 ghost use Rattle.std.proofs.lemmas.List.Edits.{sets};
+ghost use Rattle.laws.specs.Lists.{same};
 ghost use Rattle.text.specs.Digits.{name_bytes, decimal};
 ghost use Rattle.text.specs.Text.{index_of, name_of};
 
@@ -12,11 +13,18 @@ mod fields;
 use digits::{Decimal, Letters, front, put_last};
 pub use fields::Fields;
 
-// The place of the first b, or the end.
-pub(crate) fn find(s: &[u8], b: u8) -> usize
+// How many bytes stand before the first b: all, if there is none.
+pub(crate) fn index_of(s: &[u8], b: u8) -> usize
     ensures { result ≡ index_of b s.now }
 {
     s.iter().position(|x| *x == b).unwrap_or(s.len())
+}
+
+// The place of the first b from a place on, or the end; a place past the end is told as it is.
+pub fn find(s: &[u8], from: usize, b: u8) -> usize
+    ensures { result ≡ from + index_of b (drop from s.now) }
+{
+    from + index_of(&s[from.min(s.len())..], b)
 }
 
 // Whether b stands among eight bytes. The fold has no way out, so that they are compared at once.
@@ -27,25 +35,48 @@ fn is_near(eight: &[u8; 8], b: u8) -> bool
 }
 
 // The same place as `find` tells, for a byte that stands far away: eight bytes at a time, until it is near.
-pub fn find_far(s: &[u8], b: u8) -> usize
-    ensures { result ≡ index_of b s.now }
+pub fn find_far(s: &[u8], from: usize, b: u8) -> usize
+    ensures { result ≡ from + index_of b (drop from s.now) }
 {
-    let mut rest = s;
+    let all = &s[from.min(s.len())..];
+    let mut rest = all;
     while let Some((eight, more)) = rest.split_first_chunk::<8>() {
         if is_near(eight, b) {
             break;
         }
         rest = more;
     }
-    s.len() - rest.len() + find(rest, b)
+    from + (all.len() - rest.len()) + index_of(rest, b)
+}
+
+// Whether a field holds a word and nothing else.
+pub fn is_field(field: &[u8], word: &[u8]) -> bool
+    ensures { result ≡ same field.now word.now }
+{
+    field == word
+}
+
+// The number of a name of least to most bytes.
+fn name(f: &[u8], least: usize, most: usize) -> Option<u64>
+    requires { most ≤ 8 }
+    ensures { result ≡ name_of least most f.now }
+{
+    let (value, count) = front::<Letters>(f, most);
+    ((least <= count) & (count == f.len())).then_some(value)
+}
+
+// The number of a firm's name.
+pub fn firm_name(f: &[u8]) -> Option<u64>
+    ensures { result ≡ name_of 1 4 f.now }
+{
+    name(f, 1, 4)
 }
 
 // The number of a root's name, 0 where the field is empty.
 pub fn root_name(f: &[u8]) -> Option<u64>
     ensures { result ≡ name_of 0 6 f.now }
 {
-    let (value, count) = front::<Letters>(f, 6);
-    (count == f.len()).then_some(value)
+    name(f, 0, 6)
 }
 
 // How many decimal digits a number has.

@@ -1,16 +1,11 @@
--- `text::find` meets its contract: as many bytes stand before the first b as the search passes. Assumes nothing.
-use Rattle.std.proofs.Common.{ℕ, ◌≡◌, List, refl, sym, ◌∙◌, rules, tests}
-use Rattle.std.proofs.lemmas.Iterator.{IsFirst-from_position, YieldsList-from_slice, index_from_first}
+-- `text::find` meets its contract: so many bytes further on the first b stands, and none where the place is past the end. Assumes nothing.
+use Rattle.std.proofs.Common.{◌+◌, ◌-◌, take, drop, length, length-take, ap, arith}
 use Rattle.text.specs.Text.{index_of}
-use Rattle.text.proofs.Lists.{index-hit, index-miss}
+use Rattle.text.proofs.Lists.{index-le, rest-from}
 use Rattle.text.proofs.find.Goals as goal
 
 pub returns : goal.returns
-unfolding index_of
-returns c =
-    let b = c.args.b in
-    c.unwrap_or.ensures
-    ∙ sym (
-    index_from_first (index_of b) (λ x. x ≡ b) (λ x. x ≡ b → ⊥) refl (index-hit b) (index-miss b) c.args.s.now c.position.result
-    (IsFirst-from_position _ _ _ (λ x. x ≡ b) (λ x. x ≡ b → ⊥) c.position.ensures.ran (YieldsList-from_slice c.args.s.now cc) (λ x q k. search (rules, tests)) (λ x q k. search (rules, tests)))
-    )
+returns c = rw (c.index_of.ensures, c.min.ensures) (ap (λ l. c.args.from + index_of c.args.b l) (rest-from c.args.s.now c.args.from))
+
+pub overflow_add-result : goal.overflow_add-result
+overflow_add-result c = omega (arith, c.index_of.ensures, c.min.ensures, index-le c.args.b (take (length c.args.s.now - c.min.result) (drop c.min.result c.args.s.now)), length-take (length c.args.s.now - c.min.result) (drop c.min.result c.args.s.now))

@@ -4,7 +4,7 @@ use Rattle.text.specs.Text.{index_of}
 use Rattle.text.proofs.find_far.Given as goal
 
 abbrev pub invariant-loop-eight : goal.invariant-loop-eight
-invariant-loop-eight l = (length l.rest ≤ length l.s) × (index_of l.b l.s ≡ length l.s - length l.rest + index_of l.b l.rest)
+invariant-loop-eight l = (length l.rest ≤ length l.all) × (index_of l.b l.all ≡ length l.all - length l.rest + index_of l.b l.rest)
 
 abbrev pub decreases-loop-eight : goal.decreases-loop-eight
 decreases-loop-eight l = length l.rest

@@ -132,7 +132,7 @@ returns c =
       root = ap (λ (o : Option ℕ). unwrap_or o 0) root;
       limit = ap (λ (o : Option ℕ). unwrap_or o 0) limit;
       time = ap (λ (o : Option ℕ). unwrap_or o 0) time;
-      firmwide = c.is-firmwide.ensures ∙ ap (λ (f : List ℕ). same f (bytes "T")) (c.next_field-2.ensures.value ∙ next-is line 5 p5);
+      firmwide = c.is_field-firmwide.ensures ∙ ap (λ (f : List ℕ). same f (bytes "T")) (c.next_field-2.ensures.value ∙ next-is line 5 p5);
       call = call.0;
       month = months.0;
     }

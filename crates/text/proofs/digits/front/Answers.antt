@@ -1,5 +1,5 @@
 -- `text::digits::front` meets its contract: the value is what the bytes before i stand for, which all are digits. Assumes nothing.
-use Rattle.std.proofs.Common.{◌≡◌, ◌≤◌, ◌<◌, ◌-◌, ◌^◌, length, get_or, take, sym, ap, ◌∙◌, arith, length-take}
+use Rattle.std.proofs.Common.{◌≡◌, ◌<◌, length, take, sym, ap, ◌∙◌, arith, length-take}
 use Rattle.std.proofs.lemmas.List.{take_min}
 use Rattle.text.specs.Inner.Taking.{run_read}
 use Rattle.text.proofs.Runs.{running_none, running_more, running-fits, running-off, running-end}
@@ -16,13 +16,13 @@ returns-then-not-is_digit g c =
 
 pub overflow_mul-value : goal.overflow_mul-value
 overflow_mul-value g c =
-    let d = g.met.D.Digits.are_digits in
+    let d = c.requires.digits in
     let early : c.loop-i.i < c.args.most = omega (arith, length-take c.min.result c.args.bytes.now) in
     rw c.BASE.ensures (omega (arith, running-fits c.loop-i.invariant c.args.most 0 early d.some))
 
 pub overflow_add-value : goal.overflow_add-value
 overflow_add-value g c =
-    let d = g.met.D.Digits.are_digits in
+    let d = c.requires.digits in
     let early : c.loop-i.i < c.args.most = omega (arith, length-take c.min.result c.args.bytes.now) in
     let is = d.high _ (sym c.is_digit.ensures ∙ c.if-not-is_digit.false) in
     let below : c.from.result < g.D.Digits.BASE = rw (c.from.ensures, c.NAUGHT.ensures) is in
@@ -30,7 +30,7 @@ overflow_add-value g c =
 
 pub loop-i-preserved : goal.loop-i-preserved
 loop-i-preserved g c =
-    let d = g.met.D.Digits.are_digits in
+    let d = c.requires.digits in
     let is = sym c.is_digit.ensures ∙ c.if-not-is_digit.false in
     let below : c.from.result < g.D.Digits.BASE = rw (c.from.ensures, c.NAUGHT.ensures) (d.high _ is) in
     rw c.BASE.ensures (running_more c.loop-i.invariant c.loop-i-test.true is (rw (← c.NAUGHT.ensures) c.from.ensures) below)

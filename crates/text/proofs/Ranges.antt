@@ -1,7 +1,8 @@
--- The bytes of decimal numbers and those of names are digits. Assumes nothing.
-use Rattle.std.specs.Prelude.{ℕ, ◌≤◌, ◌<◌, ◌≡◌, Bool, true, false, ◌&&◌, ◌||◌, leb}
+-- The bytes of decimal numbers and those of names are digits, and eight bytes of a name fit 64 bits. Assumes nothing.
+use Rattle.std.specs.Prelude.{ℕ, ◌≤◌, ◌≡◌, Bool, true, false, ◌&&◌, ◌||◌, ◌^◌, leb}
 use mathlib.Core.Path.{refl}
 use borrow.Author.Tests.{leb-true}
+use native.Mathlib.Nat.{pow-le-pow_right}
 use native.Mathlib.Omega.{arith}
 use Rattle.laws.proofs.Tests.{and_l, and_r}
 use Rattle.text.specs.Text.{is_digit, is_name_byte}
@@ -38,3 +39,7 @@ name-digits = record {
   byte = omega arith;
   comma = refl;
 }
+
+-- a name of at most eight bytes is held in 64 bits
+pub name-fits : (most : ℕ) → most ≤ 8 → 256 ^ most ≤ 2 ^ 64
+name-fits most h = pow-le-pow_right (omega arith) h
