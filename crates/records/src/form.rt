@@ -1,4 +1,5 @@
-// What the forms of record share: fields read from bytes, written to them, and tested.
+// What the forms of record share: fields read from bytes, written to them, and tested. What goes from bytes to fields and back is inlined, since a call
+// would hand the fields over in memory.
 ghost use Rattle.std.specs.Prelude.{◌≡◌, ℕ, List, true, length};
 ghost use Rattle.records.specs.Form.{Form as FormOf, stands, read_values, read_fields, wrote_values, written_values};
 ghost use Rattle.records.specs.Inner.Lawful.{Held};
@@ -42,6 +43,7 @@ pub(crate) fn event_in<const N: usize, E: Form<N>>(v: &[u64; N]) -> Result<E, Re
 
 // The fields of a record: bytes of the form's number whose fields are an event's.
 #[tactic(auto, unfolding(crate::specs::Form::read_fields, crate::specs::Form::accepts))]
+#[inline(always)]
 pub(crate) fn fields<const N: usize, E: Form<N>>(s: &[u8]) -> Result<[u64; N], Refusal>
     requires held { Held E.form E.BYTES E.WIDTHS }
     ensures { result ≡ read_fields E.form s.now }
@@ -59,6 +61,7 @@ pub(crate) fn fields<const N: usize, E: Form<N>>(s: &[u8]) -> Result<[u64; N], R
 
 // Writes the record of fields that are an event's to the front of a room, or nothing where the room is short.
 #[tactic(auto, unfolding(crate::specs::Form::wrote_values, crate::specs::Form::written_values))]
+#[inline(always)]
 pub(crate) fn put<const N: usize, E: Form<N>>(v: &[u64; N], room: &mut [u8]) -> Result<(), Refusal>
     requires held { Held E.form E.BYTES E.WIDTHS }
     requires stands { stands E.form v.now ≡ true }
@@ -74,6 +77,7 @@ pub(crate) fn put<const N: usize, E: Form<N>>(v: &[u64; N], room: &mut [u8]) -> 
 
 // Writes the record of the event that values of fields stand for to the front of a room. A refusal writes nothing.
 #[tactic(auto, unfolding(crate::specs::Form::wrote_values, crate::specs::Form::written_values))]
+#[inline(always)]
 pub(crate) fn write_values<const N: usize, E: Form<N>>(
     v: &[u64; N],
     room: &mut [u8],
