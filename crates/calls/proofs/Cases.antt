@@ -6,8 +6,9 @@ use lib.ListN.{length, drop}
 use borrow.Author.Tests.{eq-eqb, ne_eqb, le-ltb, lt-ltb}
 use Rattle.tables.specs.Inner.Tables.{zeros}
 use Rattle.std.specs.declared.result.Result.TheVariants.{Ok, Err}
-use Rattle.profile.specs.Profile.{outcome_of, reading_of, Scanned, scan_of, ScanTold}
+use Rattle.profile.specs.Profile.{outcome_of, reading_of, Scanned, scan_of, scan_told}
 use Rattle.profile.specs.Reading.{Refused as NotRead, reading_told}
+use Rattle.profile.specs.declared.Armed.{Armed}
 use Rattle.profile.specs.declared.Fault.{Fault}
 use Rattle.profile.specs.declared.Scan.{Scan}
 use Rattle.profile.proofs.Laws.{lawful, reading-accepted, reading-refused}
@@ -45,19 +46,24 @@ module _ (xs text : List ℕ) where
   unfolding arm_answer arm_memory arm_refusal is_short first_of
   arm-marked h m = (rw (le-ltb _ _ h, ne_eqb _ _ m), rw (le-ltb _ _ h, ne_eqb _ _ m))
 
-  module _ (h : size ≤ length xs) (m : mark_of xs ≡ 0) where
-    pub arm-refused : (fault : Fault) → ScanTold (Err fault) (scan_of text) → (reading_told (Err fault) ≡ arm_answer xs text) × (xs ≡ arm_memory xs text)
-    unfolding arm_answer arm_memory arm_refusal is_short first_of scan_of ScanTold
-    arm-refused fault r =
+  module _ (h : size ≤ length xs) (m : mark_of xs ≡ 0) (scan : Scan) (e : scan_told scan ≡ scan_of text) where
+    read_is : reading_told scan.reading ≡ reading_of (outcome_of text)
+    unfolding scan_of
+    read_is = ap (λ (s : Scanned). s.reading) e
+
+    pub arm-refused : (fault : Fault) → scan.reading ≡ Err fault → (reading_told (Err fault) ≡ arm_answer xs text) × (xs ≡ arm_memory xs text)
+    unfolding arm_answer arm_memory arm_refusal is_short first_of
+    arm-refused fault is =
+        let r : reading_told (Err fault) ≡ reading_of (outcome_of text) = ap reading_told (sym is) ∙ read_is in
         let f = reading-refused (outcome_of text) _ _ (sym r) in
         (rw (le-ltb _ _ h, eq-eqb _ _ m) r, rw (le-ltb _ _ h, eq-eqb _ _ m, ne_eqb _ _ f.0))
 
-    pub arm-accepted : (scan : Scan) → ScanTold (Ok scan) (scan_of text)
-        → (reading_told (Ok scan.armed) ≡ arm_answer xs text)
-        × ((1 ∷ 0 ∷ scan.armed.firm ∷ scan.armed.roots ∷ []) ++ (scan.roots ++ ((scan.armed.rules ∷ []) ++ (scan.rules ++ (zeros rest_size ++ drop size xs)))) ≡ arm_memory xs text)
-    unfolding arm_answer arm_memory arm_refusal is_short first_of scan_of ScanTold
-    arm-accepted scan e =
-        let r : reading_told (Ok scan.armed) ≡ reading_of (outcome_of text) = ap (λ (s : Scanned). s.reading) e in
+    pub arm-accepted : (armed : Armed) → scan.reading ≡ Ok armed
+        → (reading_told (Ok armed) ≡ arm_answer xs text)
+        × ((1 ∷ 0 ∷ armed.firm ∷ armed.roots ∷ []) ++ (scan.roots ++ ((armed.rules ∷ []) ++ (scan.rules ++ (zeros rest_size ++ drop size xs)))) ≡ arm_memory xs text)
+    unfolding arm_answer arm_memory arm_refusal is_short first_of scan_of
+    arm-accepted armed is =
+        let r : reading_told (Ok armed) ≡ reading_of (outcome_of text) = ap reading_told (sym is) ∙ read_is in
         let f = reading-accepted (outcome_of text) _ _ _ (sym r) in (
           rw (le-ltb _ _ h, eq-eqb _ _ m) r,
           rw (le-ltb _ _ h, eq-eqb _ _ m, eq-eqb _ _ f.0)

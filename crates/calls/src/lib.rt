@@ -31,8 +31,8 @@ pub fn arm(m: &mut [u64], text: &[u8]) -> Result<Armed, Fault>
     if m[state::MARK] != 0 {
         return Err(Fault::from(Refusal::ArmedAlready));
     }
-    let scan = profile::read(text, 0)?;
-    let armed = scan.armed;
+    let scan = profile::read(text, 0);
+    let armed = scan.reading?;
     let names = scan.roots;
     let table = scan.rules;
     state::write_armed(m, armed.firm, armed.roots, armed.rules, &names, &table);

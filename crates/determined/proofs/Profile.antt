@@ -12,4 +12,4 @@ pub root-number : Determines 1 root-number-kinds.ps root-number-kinds.r root-num
 root-number κs args asked x y u v p q = (alike p q, refl)
 
 pub read : Determines 1 read-kinds.ps read-kinds.r read-reads.Asked read-reads.Learnt
-read κs args asked x y u v p q = (one_scan x y _ p q, refl)
+read κs args asked x y u v p q = (one_scan x y (alike p q), refl)

@@ -1,14 +1,13 @@
 -- No two answers are told as the same, so that what is told of a reading is one answer. Assumes nothing.
-use Rattle.std.proofs.Common.{◌≡◌, ◌∙◌, sym, ap, ℕ, Result, arith}
+use Rattle.std.proofs.Common.{◌≡◌, ap, Result}
 use Rattle.std.specs.declared.result.Result.TheVariants.{Ok, Err}
-use Rattle.refusals.specs.declared.Refusal.{Refusal}
 use Rattle.refusals.specs.Numbers.{refusal_number}
 use Rattle.refusals.proofs.Once.{one_refusal}
 use Rattle.profile.specs.declared.Armed.{Armed}
 use Rattle.profile.specs.declared.Fault.{Fault}
 use Rattle.profile.specs.declared.Scan.{Scan}
-use Rattle.profile.specs.Reading.{Reading, Accepted, Refused, reading_told}
-use Rattle.profile.specs.Profile.{Scanned, ScanTold}
+use Rattle.profile.specs.Reading.{Accepted, Refused, reading_told}
+use Rattle.profile.specs.Profile.{Scanned, scan_told}
 
 one_armed : (a b : Armed) → Accepted a.firm a.rules a.roots ≡ Accepted b.firm b.rules b.roots → a ≡ b
 one_armed a b e =
@@ -30,12 +29,7 @@ one_reading (Err a) (Err b) e = ap Err (one_fault a b e)
 one_reading (Ok a) (Err b) e = cc
 one_reading (Err a) (Ok b) e = cc
 
-pub one_scan : (a b : Result Scan Fault) (s : Scanned) → ScanTold a s → ScanTold b s → a ≡ b
-unfolding ScanTold
-one_scan (Ok a) (Ok b) s p q =
-    let same = p ∙ sym q in
-    let armed : a.armed ≡ b.armed = one_armed a.armed b.armed (ap (λ (t : Scanned). t.reading) same) in
-    λ i. Ok (record { armed = armed i; roots = (same i).roots; rules = (same i).rules })
-one_scan (Err a) (Err b) s p q = ap Err (one_fault a b (p ∙ sym q))
-one_scan (Ok a) (Err b) s p q = let differ : reading_told (Ok a.armed) ≡ reading_told (Err b) = ap (λ (t : Scanned). t.reading) p ∙ sym q in cc
-one_scan (Err a) (Ok b) s p q = let differ : reading_told (Err a) ≡ reading_told (Ok b.armed) = p ∙ sym (ap (λ (t : Scanned). t.reading) q) in cc
+pub one_scan : (a b : Scan) → scan_told a ≡ scan_told b → a ≡ b
+one_scan a b e =
+    let reading : a.reading ≡ b.reading = one_reading a.reading b.reading (ap (λ (s : Scanned). s.reading) e) in
+    λ i. record { reading = reading i; roots = (e i).roots; rules = (e i).rules }

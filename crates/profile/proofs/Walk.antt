@@ -20,13 +20,13 @@ use Rattle.tables.specs.Inner.Tables.{zeros, flat, table_numbers}
 use Rattle.std.specs.Prelude.{Ok, Err}
 use Rattle.line.proofs.Laws.{line_refused}
 use Rattle.admission.specs.Admission.{how_many}
-use Rattle.profile.specs.Profile.{joined, Outcome, after_line, read_on, start_of, firm_beside, outcome_beside, reading_of, roots_table, scan_beside, ScanTold}
+use Rattle.profile.specs.Profile.{joined, Outcome, after_line, read_on, start_of, firm_beside, outcome_beside, reading_of, roots_table, scan_beside, scan_told}
 use Rattle.machine.specs.State.{Profile}
 use Rattle.admission.specs.Inner.Counting.{no_rules}
 use Rattle.profile.specs.Inner.Held.{Stored, Held, Joins, ReadingTold}
-use Rattle.profile.specs.Reading.{Reading, Accepted, Refused, reading_told}
-use Rattle.profile.specs.declared.Armed.{Armed}
+use Rattle.profile.specs.Reading.{Accepted, Refused, reading_told}
 use Rattle.profile.specs.declared.Fault.{Fault}
+use Rattle.profile.specs.declared.Scan.{Scan}
 use Rattle.refusals.specs.declared.Refusal.TheVariants.{ProfileLength}
 use Rattle.admission.specs.declared.Tally.{Tally}
 use Rattle.std.specs.Prelude.{Option}
@@ -57,23 +57,19 @@ start-held firm = record {
 
 -- a text whose size is none for a profile, and one that was read by its lines
 module _ (other : ℕ) (text : List ℕ) where
-  pub scan-unsized : {fault : Fault} → fault ≡ record { refusal = ProfileLength; line = 0 } → is_in (1 to 65_536) (length text) ≡ false → ScanTold (Err fault) (scan_beside other text)
-  unfolding ScanTold scan_beside outcome_beside reading_of
+  pub scan-unsized : {fault : Fault} → fault ≡ record { refusal = ProfileLength; line = 0 } → is_in (1 to 65_536) (length text) ≡ false
+      → scan_told (record { reading = Err fault; roots = replicate 64 0; rules = replicate 512 0 }) ≡ scan_beside other text
+  unfolding scan_beside outcome_beside reading_of roots_table table_numbers flat zeros
   scan-unsized f e = rw (f, e)
 
   pub first-firm : {line : List ℕ} → line ≡ line_from text 0 → {named firm : ℕ} → named ≡ firm_in line → firm ≡ cond (eqb named other) 0 named → firm ≡ firm_beside other text
   unfolding line_from firm_beside
   first-firm is {named} {firm} n f = let at : named ≡ firm_in (get_or (lines text) 0 []) = n ∙ ap firm_in is in f ∙ ap (λ (k : ℕ). cond (eqb k other) 0 k) at
 
-  module _ {firm : ℕ} {roots rules : List ℕ} (e : is_in (1 to 65_536) (length text) ≡ true) (f : firm ≡ firm_beside other text) where
-    pub scan-refused : (fault : Fault) → ReadingTold (read_on (start_of firm) 0 (lines text)) (reading_told (Err fault)) roots rules → ScanTold (Err fault) (scan_beside other text)
-    unfolding ScanTold scan_beside outcome_beside
-    scan-refused fault told = rw (e, ← f) told.reading-is
-
-    pub scan-told : (armed : Armed) → ReadingTold (read_on (start_of firm) 0 (lines text)) (reading_told (Ok armed)) roots rules
-        → ScanTold (Ok (record { armed = armed; roots = roots; rules = rules })) (scan_beside other text)
-    unfolding ScanTold scan_beside outcome_beside
-    scan-told armed told = rw (e, ← f) (λ i. record { reading = told.reading-is i; roots = told.stored.roots-in i; rules = told.stored.rules-in i })
+  pub scan-told : {firm : ℕ} (scan : Scan) → is_in (1 to 65_536) (length text) ≡ true → firm ≡ firm_beside other text
+      → ReadingTold (read_on (start_of firm) 0 (lines text)) (reading_told scan.reading) scan.roots scan.rules → scan_told scan ≡ scan_beside other text
+  unfolding scan_beside outcome_beside
+  scan-told scan e f told = rw (e, ← f) (λ i. record { reading = told.reading-is i; roots = told.stored.roots-in i; rules = told.stored.rules-in i })
 
 -- a fault tells of itself and its line
 refused-told : (p : Profile) (k n : ℕ) {o : Outcome} {roots rules : List ℕ} → 6 ≤ k → o ≡ record { profile = p; refusal = k; line = n } → Stored p roots rules

@@ -1,5 +1,5 @@
 -- A whole profile: line by line, each adds its rule, until one has a fault or is one too many. Assumes nothing.
-use Rattle.std.specs.Prelude.{ℕ, ◌≡◌, ◌+◌, Bool, cond, List, [], ◌∷◌, ◌++◌, length, get_or, eqb, ltb, Result, Ok, Err}
+use Rattle.std.specs.Prelude.{ℕ, ◌+◌, Bool, cond, List, [], ◌∷◌, ◌++◌, length, get_or, eqb, ltb, Result, Ok, Err}
 use Rattle.measures.specs.Ranges.{◌to◌, is_in}
 use Rattle.rules.specs.declared.Scope.{Scope}
 use Rattle.rules.specs.declared.Scope.TheVariants.{EveryFill, WholeRoot, OneUnit}
@@ -11,7 +11,6 @@ use Rattle.line.specs.Line.{firm_in, line_of}
 use Rattle.tables.specs.Inner.Tables.{table_numbers}
 use Rattle.packing.specs.RulePlace.{rules_table}
 use Rattle.profile.specs.declared.Scan.{Scan}
-use Rattle.profile.specs.declared.Fault.{Fault}
 use Rattle.profile.specs.Reading.{Reading, Accepted, Refused, reading_told}
 
 -- the roots with a name among them: at the end, where it is new
@@ -111,7 +110,6 @@ scan_beside other text = record {
   rules = rules_table (outcome_beside other text).profile.rules;
 }
 
--- what the library hands back of it: all of it where the text is accepted, otherwise the answer alone
-unfoldable pub ScanTold : Result Scan Fault → Scanned → Type 0
-ScanTold (Ok scan) s = record { reading = reading_told (Ok scan.armed); roots = scan.roots; rules = scan.rules } ≡ s
-ScanTold (Err fault) s = reading_told (Err fault) ≡ s.reading
+-- what the library hands back of it, its refusal by its number
+abbrev pub scan_told : Scan → Scanned
+scan_told scan = record { reading = reading_told scan.reading; roots = scan.roots; rules = scan.rules }

@@ -9,7 +9,7 @@ ghost use Rattle.rules.specs.Valid.{is_rule};
 ghost use Rattle.machine.specs.State.{Profile};
 ghost use Rattle.admission.specs.Inner.Counting.{no_rules};
 ghost use Rattle.profile.specs.Reading.{reading_told};
-ghost use Rattle.profile.specs.Profile.{numbered, read_on, start_of, scan_beside, ScanTold};
+ghost use Rattle.profile.specs.Profile.{numbered, read_on, start_of, scan_beside, scan_told};
 ghost use Rattle.profile.specs.Inner.Lawful.{Said, NewestOnce};
 ghost use Rattle.profile.specs.Inner.Held.{Held, HoldsSome, Joins, ReadingTold};
 
@@ -41,10 +41,10 @@ impl From<Refusal> for Fault {
     }
 }
 
-// What was read: what the profile has, the roots' names and the rules in their places. Nothing of the caller's is written.
+// What was read: the answer, the roots' names and the rules in their places. Nothing of the caller's is written.
 #[derive(Drop)]
 pub struct Scan {
-    pub armed: Armed,
+    pub reading: Result<Armed, Fault>,
     pub roots: [u64; 64],
     pub rules: [u64; 512],
 }
@@ -186,20 +186,24 @@ fn firm_beside(named: u64, other: u64) -> u64
 }
 
 // Reads a whole profile, beside a firm of another name; 0 for none.
-pub fn read(text: &[u8], other: u64) -> Result<Scan, Fault>
-    ensures { ScanTold result (scan_beside other text.now) }
+pub fn read(text: &[u8], other: u64) -> Scan
+    ensures { scan_told result ≡ scan_beside other text.now }
 {
-    if !((1 <= text.len()) & (text.len() <= 65_536)) {
-        return Err(Fault::from(Refusal::ProfileLength));
-    }
     let mut roots = [0u64; 64];
     let mut rules = [0u64; 512];
     let mut counts = [0u64; 64];
+    if !((1 <= text.len()) & (text.len() <= 65_536)) {
+        return Scan {
+            reading: Err(Fault::from(Refusal::ProfileLength)),
+            roots,
+            rules,
+        };
+    }
     let firm = firm_beside(line::firm_of(reader::line_from(text, 0)), other);
-    let armed = read_lines(text, firm, &mut roots, &mut rules, &mut counts)?;
-    Ok(Scan {
-        armed,
+    let reading = read_lines(text, firm, &mut roots, &mut rules, &mut counts);
+    Scan {
+        reading,
         roots,
         rules,
-    })
+    }
 }

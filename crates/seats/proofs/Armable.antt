@@ -14,8 +14,9 @@ use Rattle.shapes.proofs.Tables.{length-zeros}
 use Rattle.machine.specs.State.{Profile, State, armed}
 use Rattle.machine.specs.Refusals.{first_of}
 use Rattle.std.specs.declared.result.Result.TheVariants.{Ok, Err}
-use Rattle.profile.specs.Profile.{Outcome, reading_of, outcome_of, outcome_beside, Scanned, scan_beside, ScanTold}
+use Rattle.profile.specs.Profile.{Outcome, reading_of, outcome_of, outcome_beside, Scanned, scan_beside, scan_told}
 use Rattle.profile.specs.declared.Scan.{Scan}
+use Rattle.profile.specs.declared.Armed.{Armed}
 use Rattle.profile.specs.declared.Fault.{Fault}
 use Rattle.profile.specs.Reading.{Refused as NotRead, reading_told}
 use Rattle.profile.proofs.Laws.{lawful, reading-accepted, reading-refused}
@@ -204,10 +205,15 @@ module _ (xs : List ℕ) (firm : ℕ) (a : Armable xs firm) where
     unfolding given_to
     given_is = ap (λ (n : ℕ). outcome_beside n text) name-is
 
-    pub text-refused : (fault : Fault) → ScanTold (Err fault) (scan_beside name text) → (reading_told (Err fault) ≡ arm_answer xs firm text) × (xs ≡ arm_memory xs firm text)
-    unfolding arm_answer arm_memory scan_beside ScanTold
-    text-refused fault told =
-        let r : reading_told (Err fault) ≡ reading_of given = told ∙ ap reading_of given_is in
+    read_is : (scan : Scan) → scan_told scan ≡ scan_beside name text → reading_told scan.reading ≡ reading_of given
+    unfolding scan_beside
+    read_is scan e = ap (λ (s : Scanned). s.reading) e ∙ ap reading_of given_is
+
+    pub text-refused : (scan : Scan) → scan_told scan ≡ scan_beside name text → (fault : Fault) → scan.reading ≡ Err fault
+        → (reading_told (Err fault) ≡ arm_answer xs firm text) × (xs ≡ arm_memory xs firm text)
+    unfolding arm_answer arm_memory
+    text-refused scan e fault is =
+        let r : reading_told (Err fault) ≡ reading_of given = ap reading_told (sym is) ∙ read_is scan e in
         let f = reading-refused given _ _ (sym r) in
         (rw a.none r, rw (a.none, ne_eqb _ _ f.0))
 
@@ -240,22 +246,20 @@ module _ (xs : List ℕ) (firm : ℕ) (a : Armable xs firm) where
       pub armed-asked : size ≤ length lent_own
       armed-asked = omega (arith, own-long)
 
-      pub text-accepted : (scan : Scan) → ScanTold (Ok scan) (scan_beside name text)
+      pub text-accepted : (scan : Scan) → scan_told scan ≡ scan_beside name text → (armed' : Armed) → scan.reading ≡ Ok armed'
           → {ys : List ℕ}
-          → ys ≡ (1 ∷ 0 ∷ scan.armed.firm ∷ scan.armed.roots ∷ []) ++ (scan.roots ++ ((scan.armed.rules ∷ []) ++ (scan.rules ++ (zeros rest_size ++ drop size lent_own))))
-          → (reading_told (Ok scan.armed) ≡ arm_answer xs firm text)
+          → ys ≡ (1 ∷ 0 ∷ armed'.firm ∷ armed'.roots ∷ []) ++ (scan.roots ++ ((armed'.rules ∷ []) ++ (scan.rules ++ (zeros rest_size ++ drop size lent_own))))
+          → (reading_told (Ok armed') ≡ arm_answer xs firm text)
           × (take (firm * size) between ++ (ys ++ drop (firm * size + size - firm * size) (drop (firm * size) between)) ≡ arm_memory xs firm text)
-      unfolding arm_answer arm_memory scan_beside stored given_to ScanTold
-      text-accepted scan e {ys} y =
-          let r : reading_told (Ok scan.armed) ≡ reading_of given = ap (λ (s : Scanned). s.reading) e ∙ ap reading_of given_is in
+      unfolding arm_answer arm_memory scan_beside stored given_to
+      text-accepted scan e armed' is {ys} y =
+          let r : reading_told (Ok armed') ≡ reading_of given = ap reading_told (sym is) ∙ read_is scan e in
           let f = reading-accepted given _ _ _ (sym r) in
           let p = given.profile in
           let ok : (outcome_beside name text).refusal ≡ 0 = ap (λ (o : Outcome). o.refusal) given_is ∙ f.0 in
           let few = subst (λ (o : Outcome). length o.profile.rules ≤ 256) (sym (accepted-beside text name ok) ∙ given_is) (lawful text).rules-most in
           let differs : p.firm ≡ name_of beside → ⊥ = λ z. accepted-other text name ok (ap (λ (o : Outcome). o.profile.firm) given_is ∙ (z ∙ sym name-is)) in
-          let scanned : ◌≡◌ {A = Scanned} (record { reading = reading_told (Ok scan.armed); roots = scan.roots; rules = scan.rules }) (scan_beside (name_of beside) text) =
-          e ∙ ap (λ (n : ℕ). scan_beside n text) name-is
-          in
+          let scanned : scan_told scan ≡ scan_beside (name_of beside) text = e ∙ ap (λ (n : ℕ). scan_beside n text) name-is in
           let numbers : ys ≡ encode (armed p) ++ drop size lent_own =
           y
           ∙ ((λ i. (1 ∷ 0 ∷ f.1 i ∷ f.3 i ∷ []) ++ ((scanned i).roots ++ ((f.2 i ∷ []) ++ ((scanned i).rules ++ (zeros rest_size ++ drop size lent_own)))))

@@ -150,8 +150,8 @@ pub fn arm(m: &mut [u64], firm: u64, text: &[u8]) -> Result<Armed, Fault>
     let other = state::SIZE - at;
     let close = other + state::SIZE;
     let name = arming::name_in(&m[other..close]);
-    let scan = profile::read(text, name)?;
-    let armed = scan.armed;
+    let scan = profile::read(text, name);
+    let armed = scan.reading?;
     let names = scan.roots;
     let table = scan.rules;
     arming::clean(&mut m[other..close]);

@@ -13,12 +13,12 @@ pub returns-then-m-ne0 : goal.returns-then-m-ne0
 returns-then-m-ne0 c =
     let p = arm-marked _ _ c.if-m-lt-SIZE.false c.if-m-ne0.true in record { value = rw c.from-then-m-ne0.ensures p.0; m_after = p.1 }
 
-pub returns-in_err-scan : goal.returns-in_err-scan
-returns-in_err-scan c =
+pub returns-in_err-armed : goal.returns-in_err-armed
+returns-in_err-armed c =
     let q = err_from_is_err_and c.from_residual.result c.from_residual.ensures.1 in
-    let p = arm-refused _ _ c.if-m-lt-SIZE.false c.if-m-ne0.false _ (rw scan-none at c.in_err-scan.ensures) in
+    let p = arm-refused _ _ c.if-m-lt-SIZE.false c.if-m-ne0.false _ (c.read-scan.ensures ∙ scan-none _) _ c.in_err-armed.was in
     record { value = rw (q.1, q.2) p.0; m_after = p.1 }
 
 pub returns : goal.returns
 returns c =
-    let d = arm-accepted _ _ c.if-m-lt-SIZE.false c.if-m-ne0.false _ (rw scan-none at c.in_ok-scan.ensures) in record { value = d.0; m_after = c.write_armed.ensures ∙ d.1 }
+    let d = arm-accepted _ _ c.if-m-lt-SIZE.false c.if-m-ne0.false _ (c.read-scan.ensures ∙ scan-none _) _ c.in_ok-armed.was in record { value = d.0; m_after = c.write_armed.ensures ∙ d.1 }

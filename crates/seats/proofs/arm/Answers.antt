@@ -45,14 +45,14 @@ write_armed-requires c =
     let a = (armable _ _ (sym c.in_ok-arm_refusal.ensures)) in
     (armed-asked _ _ a c.args.text.now c.name_in-name.ensures c.clean.ensures (clean-long _ _ a c.clean.ensures), search rules, search rules)
 
-pub returns-in_err-scan : goal.returns-in_err-scan
-returns-in_err-scan c =
-    let q = err_from_is_err_and c.from_residual-in_err-scan.result c.from_residual-in_err-scan.ensures.1 in
-    let p = text-refused _ _ (armable _ _ (sym c.in_ok-arm_refusal.ensures)) _ c.name_in-name.ensures _ c.in_err-scan.ensures in
+pub returns-in_err-armed : goal.returns-in_err-armed
+returns-in_err-armed c =
+    let q = err_from_is_err_and c.from_residual-in_err-armed.result c.from_residual-in_err-armed.ensures.1 in
+    let p = text-refused _ _ (armable _ _ (sym c.in_ok-arm_refusal.ensures)) _ c.name_in-name.ensures _ c.read-scan.ensures _ c.in_err-armed.was in
     record { value = rw (q.1, q.2) p.0; m_after = p.1 }
 
 pub returns : goal.returns
 returns c =
     let a = armable _ _ (sym c.in_ok-arm_refusal.ensures) in
-    let p = text-accepted _ _ a _ c.name_in-name.ensures c.clean.ensures (clean-long _ _ a c.clean.ensures) _ c.in_ok-scan.ensures c.write_armed.ensures in
+    let p = text-accepted _ _ a _ c.name_in-name.ensures c.clean.ensures (clean-long _ _ a c.clean.ensures) _ c.read-scan.ensures _ c.in_ok-armed.was c.write_armed.ensures in
     record { value = p.0; m_after = p.1 }
