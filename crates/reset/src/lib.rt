@@ -44,6 +44,7 @@ pub fn effect_of(reset: u64) -> Effect
 }
 
 // Whether the effect of an order for a root zeroes the counters of a rule.
+#[tactic(auto, unfolding(rules::specs::Rules::level_of, machine::specs::Effects::zeroing))]
 fn zeroes(rule: Rule, root: u64, effect: Effect) -> bool
     ensures { result ≡ zeroing effect root (level_of rule.scope) }
 {
