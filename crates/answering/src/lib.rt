@@ -106,7 +106,7 @@ fn put_line(place: u64, answer: Result<Accepted, Refusal>, room: &mut [u8], at: 
     ensures room_after { room.new ≡ sets room.old at (record_line place (answer_told answer)) }
 {
     let mut row = [0u64; 5];
-    rows::put_answer(answer, &mut row);
+    rows::put_answer(answer.map_err(Refusal::number), &mut row);
     let next = text::put_decimal(place, room, at);
     put_spaced(&row, room, next)
 }

@@ -6,6 +6,7 @@ ghost use Rattle.accounted.specs.Accounted.{call_of, accounted_answer, accounted
 
 use accounted::Event;
 use machine::Offer;
+use refusals::Refusal;
 
 // Applies an event and counts it, and writes the row of the answer.
 fn put_applied(m: &mut [u64], account: &mut [u64], e: Event, row: &mut [u64; 5])
@@ -14,7 +15,7 @@ fn put_applied(m: &mut [u64], account: &mut [u64], e: Event, row: &mut [u64; 5])
     ensures row_after { row.new ≡ numbers (accounted_answer m.old account.old (call_of e)) }
 {
     let answer = accounted::apply(m, account, e);
-    rows::put_answer(answer, row)
+    rows::put_answer(answer.map_err(Refusal::number), row)
 }
 
 // An order: refusal, verdict.

@@ -46,7 +46,7 @@ pub fn mbrumzheg_status(m: &[u64], row: &mut [u64; 5])
     ensures { row.new ≡ numbers (call_answer m.now Call.status) }
 {
     let answer = calls::status(m);
-    rows::put_answer(answer, row)
+    rows::put_answer(answer.map_err(Refusal::number), row)
 }
 
 // Writes the row of what was written to a room.
@@ -75,7 +75,7 @@ pub fn mbrumzheg_order(m: &mut [u64], time: u64, root: u64, reset: u64, row: &mu
     ensures row_after { row.new ≡ numbers (call_answer m.old (Call.order time root reset)) }
 {
     let answer = calls::order(m, time, root, reset);
-    rows::put_answer(answer, row)
+    rows::put_answer(answer.map_err(Refusal::number), row)
 }
 
 // An offered fill: refusal, verdict, grant, root trip, firm trip.
@@ -99,7 +99,7 @@ pub fn mbrumzheg_offer(
         contracts,
     };
     let answer = calls::offer(m, o);
-    rows::put_answer(answer, row)
+    rows::put_answer(answer.map_err(Refusal::number), row)
 }
 
 // A lockout: refusal, verdict.
@@ -108,7 +108,7 @@ pub fn mbrumzheg_lockout(m: &mut [u64], time: u64, level: u64, root: u64, row: &
     ensures row_after { row.new ≡ numbers (call_answer m.old (Call.lockout time level root)) }
 {
     let answer = calls::lockout(m, time, level, root);
-    rows::put_answer(answer, row)
+    rows::put_answer(answer.map_err(Refusal::number), row)
 }
 
 // What remains of a rule's limit: refusal, the number.
@@ -116,7 +116,7 @@ pub fn mbrumzheg_remaining(m: &[u64], time: u64, rule: u64, unit: u64, row: &mut
     ensures { row.new ≡ numbers (call_answer m.now (Call.remaining time rule unit)) }
 {
     let answer = calls::remaining(m, time, rule, unit);
-    rows::put_answer(answer, row)
+    rows::put_answer(answer.map_err(Refusal::number), row)
 }
 
 // An order to be sent away: refusal, verdict.
@@ -142,7 +142,7 @@ pub fn mbrumzheg_send(
         contracts,
     };
     let answer = calls::send(m, o, identity, reports);
-    rows::put_answer(answer, row)
+    rows::put_answer(answer.map_err(Refusal::number), row)
 }
 
 // A fill that came back from an away market: refusal, verdict, grant, root trip, firm trip.
@@ -151,7 +151,7 @@ pub fn mbrumzheg_report(m: &mut [u64], time: u64, identity: u64, contracts: u64,
     ensures row_after { row.new ≡ numbers (call_answer m.old (Call.report time identity contracts)) }
 {
     let answer = calls::report(m, time, identity, contracts);
-    rows::put_answer(answer, row)
+    rows::put_answer(answer.map_err(Refusal::number), row)
 }
 
 // The order of an identity is closed: refusal, verdict.
@@ -160,5 +160,5 @@ pub fn mbrumzheg_close(m: &mut [u64], time: u64, identity: u64, row: &mut [u64; 
     ensures row_after { row.new ≡ numbers (call_answer m.old (Call.close time identity)) }
 {
     let answer = calls::close(m, time, identity);
-    rows::put_answer(answer, row)
+    rows::put_answer(answer.map_err(Refusal::number), row)
 }

@@ -2,11 +2,10 @@
 #![tactic(auto)]
 
 ghost use Rattle.std.specs.Prelude.{◌≡◌, [], ◌∷◌};
-ghost use Rattle.machine.specs.Answer.{answer_told};
 ghost use Rattle.machine.specs.Judge.{numbers};
+ghost use Rattle.rows.specs.Inner.Told.{answer_numbered};
 
 use machine::Accepted;
-use refusals::Refusal;
 
 // Writes five numbers to a row.
 pub fn put_row(row: &mut [u64; 5], a: u64, b: u64, c: u64, d: u64, e: u64)
@@ -15,13 +14,13 @@ pub fn put_row(row: &mut [u64; 5], a: u64, b: u64, c: u64, d: u64, e: u64)
     *row = [a, b, c, d, e];
 }
 
-// Writes the row of an answer.
+// Writes the row of an answer, its refusal by any number.
 #[tactic(auto, unfolding(machine::specs::Judge::numbers))]
-pub fn put_answer(answer: Result<Accepted, Refusal>, row: &mut [u64; 5])
-    ensures { row.new ≡ numbers (answer_told answer) }
+pub fn put_answer(answer: Result<Accepted, u64>, row: &mut [u64; 5])
+    ensures { row.new ≡ numbers (answer_numbered answer) }
 {
     *row = match answer {
-        Err(refusal) => [refusal.number(), 0, 0, 0, 0],
+        Err(number) => [number, 0, 0, 0, 0],
         Ok(
             Accepted::Judged {
                 verdict,
