@@ -11,6 +11,8 @@ PATH = re.compile(rf"(?<![\w/.:<-])((?:{FOLDERS})/[\w.*/-]*)")
 ANY = re.compile(r"\b(CRATE|FILE|FUNCTION|NAME|FOLDER|X)\b|(?<=crates/)crate(?=/)")
 CITE = re.compile(r"(?:`([a-z]+)`\s+)?((?:specs|proofs)/(?:Inner/)?(?!CRATE|FILE|FUNCTION|X\b)[A-Z][A-Za-z0-9]+)((?:,?\s+`[^`]+`(?!\s+(?:specs|proofs|src)/))*)")
 IN_CODE = re.compile(r"`([a-z]+)`\s+src/([a-z_]+)(?:\.rt)?((?:,?\s+`[^`]+`(?!\s+(?:specs|proofs|src)/))*)")
+# a crate's name with the name of a function, or of a wrong version, beside it
+BESIDE = re.compile(r"`([a-z]+)`\s+`(\w+)`(?!\s+(?:specs|proofs|src)/)")
 QUALIFIED = re.compile(r"\b(?:[A-Za-z]\w*::)+\w+")
 # what looks like a name: words joined by _ or -, or a capital inside
 NAME = re.compile(r"`((?:[A-Za-z_]\w*[._-]|[A-Za-z]*[a-z0-9][A-Z])[\w.-]*)`")
@@ -68,7 +70,7 @@ def is_declared(crate, rest, sources):
 
 
 def qualified(paper, text, sources):
-    types = {function.type: function.crate for function in sources.functions if function.type}
+    types = {function.type: function.crate for function in sources.functions if function.type and function.public}
     for path in [path for letters in in_letters(text) for path in QUALIFIED.findall(letters)]:
         first, *rest = path.split("::")
         if first in sources.crates:
@@ -78,6 +80,14 @@ def qualified(paper, text, sources):
         else:
             there = {first, *rest} <= sources.words
         yield None if there else f"{paper} names {path}, and there is none"
+
+
+def beside(paper, text, sources):
+    """The names that stand beside their crate's."""
+    for crate, name in BESIDE.findall(text):
+        if crate in sources.crates:
+            there = name in sources.declared(crate) or (crate, name) in sources.edits
+            yield None if there else f"{paper} names {name} of {crate}, and it is not there"
 
 
 def bare(paper, text, sources):
@@ -100,8 +110,16 @@ def lists_of_wrong(paper, text, sources):
                 yield f"{paper}: a list of wrong versions has '{item[:60]}', which is not a crate and its files"
                 continue
             for name in in_letters(match[2]):
-                there = any((sources.root / "crates" / match[1] / folder / f"{name}.edit").is_file() for folder in ("wrong", "must-fail"))
+                there = (match[1], name) in sources.edits
                 yield None if there else f"{paper} lists the wrong version {name} of {match[1]}, and there is none"
+
+
+def unlisted(root, sources):
+    """The promises list every wrong version by its crate and its name."""
+    items = [item for block in WRONG_LIST.findall((root / "docs" / "PROMISES.md").read_text()) for item in re.sub(r"\n +", " ", block).splitlines()]
+    listed = {(match[1], name) for match in map(WRONG.match, items) if match for name in in_letters(match[2])}
+    for crate, name in sorted(sources.edits):
+        yield None if (crate, name) in listed else f"docs/PROMISES.md does not list the wrong version {name} of {crate}"
 
 
 def untold_tries(paper, text, sources):
@@ -140,8 +158,9 @@ def faults(root):
             continue
         paper, text = file.relative_to(root), file.read_text()
         told += paths(paper, text, sources)
-        for kind in (cites, in_code, qualified, bare, lists_of_wrong, untold_tries):
+        for kind in (cites, in_code, qualified, beside, bare, lists_of_wrong, untold_tries):
             told += kind(paper, EXAMPLE.sub("", text), sources)
+    told += unlisted(root, sources)
     told += asking(root, sources)
     told += lines_of_code(root)
     found = [fault for fault in told if fault]

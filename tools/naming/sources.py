@@ -31,7 +31,8 @@ def functions_of(file):
     """The functions of a source file, each with whether its contract has a `requires`."""
     crate, module, type_, found, open_ = file.parts[-3], file.stem, "", [], None
     for line in file.read_text().splitlines():
-        if match := re.match(r"impl(?:<[^>]*>)? (\w+)", line):
+        # of an impl of a trait the type stands behind the trait
+        if match := re.match(r"impl(?:<[^>]*>)? (?:.* for )?(\w+)", line):
             type_ = match[1]
         elif line.startswith("}"):
             type_ = ""
@@ -65,6 +66,11 @@ class Sources:
             for path in sorted(self.root.rglob("*"))
             if path.is_file() and path.suffix in CODE and not UNREAD & set(path.relative_to(self.root).parts[:-1])
         ]
+
+    @cached_property
+    def edits(self):
+        """Every wrong version, as its crate and its name."""
+        return {(path.parts[-3], path.stem) for folder in ("wrong", "must-fail") for path in self.root.glob(f"crates/*/{folder}/*.edit")}
 
     @cached_property
     def words(self):
