@@ -1,9 +1,11 @@
--- No two refusals have one number, so that an answer told by numbers is one answer. Assumes nothing.
+-- No two refusals have one number, so that an answer told by numbers is one answer, and no two have one text. Assumes nothing.
 use Rattle.std.proofs.Common.{◌≡◌, ◌∙◌, sym, ap, refl, ℕ, List, [], ◌∷◌, get_or, Result, arith}
+use Rattle.std.specs.Prelude.{unwrap_or, find, bytes_eq}
 use Rattle.std.specs.declared.result.Result.TheVariants.{Ok, Err}
 use Rattle.refusals.specs.declared.Refusal.{Refusal}
 use Rattle.refusals.specs.declared.Refusal.TheVariants.{NoRoom, Unsound, ArmedAlready, NotArmed, ProfileLength, Malformed, OtherFirm, OutOfRange, LevelClash, UnitClash, TooMany, BadTime, Unknown, BadAmount, LogFull, FaultyRecord, RegisterFull, IdentityClash, OverReported, Unfit, AccountFull}
 use Rattle.refusals.specs.Numbers.{refusal_number, refused_with, numbered}
+use Rattle.refusals.specs.Inner.Texts.{refusal_text}
 
 -- the refusals in the order of their numbers, the first of which is 1
 abbrev in_order : List Refusal
@@ -56,3 +58,34 @@ one_tested (Ok x) (Ok y) e = refl
 one_tested (Err r) (Err t) e = ap Err (one_refusal r t e)
 one_tested (Ok x) (Err t) e = absurd (some_number t (sym e))
 one_tested (Err r) (Ok y) e = absurd (some_number r e)
+
+-- the refusal of a text
+abbrev spelled : List ℕ → Refusal
+spelled text = unwrap_or (find (λ r. bytes_eq (refusal_text r) text) in_order) NoRoom
+
+pub spelled_text : (r : Refusal) → spelled (refusal_text r) ≡ r
+spelled_text NoRoom = refl
+spelled_text Unsound = refl
+spelled_text ArmedAlready = refl
+spelled_text NotArmed = refl
+spelled_text ProfileLength = refl
+spelled_text Malformed = refl
+spelled_text OtherFirm = refl
+spelled_text OutOfRange = refl
+spelled_text LevelClash = refl
+spelled_text UnitClash = refl
+spelled_text TooMany = refl
+spelled_text BadTime = refl
+spelled_text Unknown = refl
+spelled_text BadAmount = refl
+spelled_text LogFull = refl
+spelled_text FaultyRecord = refl
+spelled_text RegisterFull = refl
+spelled_text IdentityClash = refl
+spelled_text OverReported = refl
+spelled_text Unfit = refl
+spelled_text AccountFull = refl
+
+-- a text is that of one refusal
+pub one_text : (a b : Refusal) → refusal_text a ≡ refusal_text b → a ≡ b
+one_text a b e = sym (spelled_text a) ∙ ap spelled e ∙ spelled_text b

@@ -1,8 +1,9 @@
 // The refusals that the calls meet, each under its name, and the number that a row gives it.
 #![tactic(auto)]
 
-ghost use Rattle.std.specs.Prelude.{◌≡◌};
+ghost use Rattle.std.specs.Prelude.{◌≡◌, Some};
 ghost use Rattle.refusals.specs.Numbers.{refusal_number};
+ghost use Rattle.refusals.specs.Inner.Texts.{refusal_text};
 
 use std::error::Error;
 use std::fmt;
@@ -85,7 +86,12 @@ impl Refusal {
     }
 }
 
+// A refusal in words, whatever options it is printed with.
 impl fmt::Display for Refusal {
+    ghost output = { λ r. Some (refusal_text r) };
+
+    ghost styled_output = { λ r _. Some (refusal_text r) };
+
     fn fmt<W: fmt::Write>(&self, f: &mut fmt::Formatter<W>) -> fmt::Result {
         f.write_str(match self {
             Refusal::NoRoom => "the memory, the account or the room is short",
