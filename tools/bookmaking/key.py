@@ -31,6 +31,9 @@ KEY = [
     ("f-kinds, f-reads", "What the check makes of the function `f`'s own types and clauses: `Asked` is what `f` requires, `Learnt` what it ensures. "
      "Of the words in `Determines`, `κs` are how long loans last, `args` what is handed in, `res_t` is the answer's type, and `at_exit` what was lent, as the call leaves it.",
      "ParamKind ResultKind In Out Dens res_t ended_of Lfts Lasts at_exit"),
+    ("WritesInCalls took w bs v", "Some calls, each as `took` tells of it, take the writer `w` to `v`, and write the bytes `bs` together. A `Formatter` prints to a writer, which is its "
+     "`formatter_writer`, and `IsFlush` is: it indents nothing. `IsOk r` is: the answer `r` is an `Ok`, and not an `Error`. Of a writer's type `W` the check has its `Laws` and, in `Ghosts` and `Dict`, "
+     "what it says of its own calls: `write_str_gives` tells of one.", "WritesInCalls Formatter formatter_writer IsFlush IsOk Error RattleType Laws Ghosts Dict"),
     ("pub, abbrev, unfoldable", "Words for the checker. A reader may pass over them.", ""),
 ]
 

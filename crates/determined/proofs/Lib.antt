@@ -30,3 +30,5 @@ pub mod Records
 pub mod Rows
 pub mod Answering
 pub mod Tabled
+pub mod Inputs
+pub mod Printed
