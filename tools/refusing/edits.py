@@ -78,16 +78,33 @@ def apply(edit, texts):
         texts[file] = text
 
 
+def words_of(text, own):
+    """The words of a type as the check joins them, as in `ArrayU64ROW`, without an impl's own parameters."""
+    text = re.sub(r"\[([^\[\];]*);", r"array \1 ", text).replace("&", " ref ")
+    return "".join(word[0].upper() + word[1:] for word in re.findall(r"(?<!')\b[A-Za-z_]\w*(?!\w|::)|\d+", text) if word not in own)
+
+
+def impl_of(head):
+    """The type of an impl, by what stands between its first word and its brace, and of a trait's impl the name that the check gives it."""
+    own, rest = re.match(r"(?:<((?:[^<>]|<[^<>]*>)*)>)?\s*(.*)", head, re.S).groups()
+    trait, of, type_ = re.split(r"\bwhere\b", rest)[0].partition(" for ")
+    if not of:
+        return re.match(r"\w+", rest)[0], ""
+    named, given = re.match(r"(?:\w+::)*(\w+)(.*)", trait, re.S).groups()
+    parameters = set(re.findall(r"(?:^|,)\s*(?:const )?(\w+)", own or ""))
+    return "", words_of(type_, parameters) + named + words_of(given, parameters)
+
+
 def name_of(crate, file, text, head):
     """A function as the check names it, by the place of its head in its file."""
     place = [crate] + ([] if file in ("src/lib.rt", "src/main.rt") else [Path(file).stem])
     if head[1]:
         # an impl of a trait goes by its type and the trait, as in `LettersDigits`, with what the trait is given, as in `EventFromEvent16`
-        named, given, of = re.findall(r"^impl(?:<[^>]*>)? (\w+)(?:<([^{}]*?)>)?(?: for (\w+))?", text[: head.start()], re.M)[-1]
-        # and one whose type another file declares, by the crate alone
-        if not re.search(rf"\b(?:struct|enum) {of or named}\b", text):
+        type_, impl = impl_of(re.findall(r"^impl\b([^{]*)\{", text[: head.start()], re.M)[-1])
+        # and one of a type alone that another file declares, by the crate alone
+        if type_ and not re.search(rf"\b(?:struct|enum) {type_}\b", text):
             place = [crate]
-        place.append(of + named + "".join(re.findall(r"\w+", given)) if of else named)
+        place.append(type_ or impl)
     return "::".join(place + [head[2]])
 
 
