@@ -1,5 +1,5 @@
 -- The contracts of `text` determine what a call gives: one theorem for each public function. Assumes nothing.
-use Rattle.std.specs.Prelude.{ℕ, ◌≡◌, List, cond, drop, Option, is_some}
+use Rattle.std.specs.Prelude.{ℕ, ◌≡◌, Bool, List, cond, drop, Option, is_some}
 use mathlib.Core.Path.{refl, sym, ap, ◌∙◌}
 use Rattle.determined.specs.Determines.{DeterminesSeen, Determines}
 use Rattle.laws.proofs.One.{alike}
@@ -13,6 +13,8 @@ use Rattle.text.proofs.fields.Fields.is_empty.Kinds as fields-is-empty-kinds
 use Rattle.text.proofs.fields.Fields.is_empty.Reads as fields-is-empty-reads
 use Rattle.text.proofs.fields.Fields.next_field.Kinds as fields-next-field-kinds
 use Rattle.text.proofs.fields.Fields.next_field.Reads as fields-next-field-reads
+use Rattle.text.proofs.fields.Fields.passes.Kinds as fields-passes-kinds
+use Rattle.text.proofs.fields.Fields.passes.Reads as fields-passes-reads
 use Rattle.text.proofs.fields.Fields.number.Kinds as fields-number-kinds
 use Rattle.text.proofs.fields.Fields.number.Reads as fields-number-reads
 use Rattle.text.proofs.fields.Fields.name.Kinds as fields-name-kinds
@@ -44,9 +46,12 @@ find κs args asked x y u v p q = (alike p q, refl)
 pub find-far : Determines 1 find-far-kinds.ps find-far-kinds.r find-far-reads.Asked find-far-reads.Learnt
 find-far κs args asked x y u v p q = (alike p q, refl)
 
--- which fields are left follows from whether one was read
+-- which fields are left follows from whether one was passed, or read
+left-passed : {A : Type 0} (old : List A) {now then : List A} {x y : Bool} → x ≡ y → now ≡ cond x (drop 1 old) old → then ≡ cond y (drop 1 old) old → now ≡ then
+left-passed old e p q = p ∙ ap (λ (r : Bool). cond r (drop 1 old) old) e ∙ sym q
+
 left-alike : {A : Type 0} (old : List A) {now then : List A} {x y : Option ℕ} → x ≡ y → now ≡ cond (is_some x) (drop 1 old) old → then ≡ cond (is_some y) (drop 1 old) old → now ≡ then
-left-alike old e p q = p ∙ ap (λ (r : Option ℕ). cond (is_some r) (drop 1 old) old) e ∙ sym q
+left-alike old e p q = left-passed old (ap is_some e) p q
 
 pub fields-of : Determines 1 fields-of-kinds.ps fields-of-kinds.r fields-of-reads.Asked fields-of-reads.Learnt
 fields-of κs args asked x y u v p q = (alike p q, refl)
@@ -57,6 +62,9 @@ fields-is-empty κs args asked x y u v p q = (alike p q, refl)
 -- the answer is a part of the line that was lent: the bytes in it are determined, and where it lies is not said
 pub fields-next-field : DeterminesSeen 2 fields-next-field-kinds.ps fields-next-field-kinds.r (λ κs. List ℕ) (λ κs part. part.now) fields-next-field-reads.Asked fields-next-field-reads.Learnt
 fields-next-field κs args asked x y u v p q = (alike p.0 q.0, λ i. (alike p.1 q.1 i, v.1))
+
+pub fields-passes : Determines 3 fields-passes-kinds.ps fields-passes-kinds.r fields-passes-reads.Asked fields-passes-reads.Learnt
+fields-passes κs args asked x y u v p q = (alike p.0 q.0, λ i. (left-passed args.0.now (alike p.0 q.0) p.1 q.1 i, v.1))
 
 pub fields-number : Determines 2 fields-number-kinds.ps fields-number-kinds.r fields-number-reads.Asked fields-number-reads.Learnt
 fields-number κs args asked x y u v p q = (alike p.0 q.0, λ i. (left-alike args.0.now (alike p.0 q.0) p.1 q.1 i, v.1))

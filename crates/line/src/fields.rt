@@ -1,5 +1,5 @@
 // The fields of a line, read one after the other: the four that it must have, and the four that it may have.
-ghost use Rattle.std.specs.Prelude.{◌≡◌, true, cond, [], get_or, drop, is_some, MatchOption};
+ghost use Rattle.std.specs.Prelude.{◌≡◌, true, false, cond, [], get_or, drop, eqb, is_some, MatchOption};
 ghost use Rattle.line.specs.Line.{malformed, time_of, letter_of};
 ghost use Rattle.line.specs.Inner.Parts.{chosen, Says};
 
@@ -33,18 +33,20 @@ pub(crate) struct Said {
     pub(crate) month: Option<Month>,
 }
 
-// What a field says that has one of two letters or none; nothing for anything else.
-#[tactic(auto, unfolding(crate::specs::Line::letter_of))]
-fn letter<T: Copy>(field: &[u8], one: (u8, T), two: (u8, T)) -> Option<Option<T>>
-    ensures { result ≡ chosen one.1 two.1 (letter_of one.0 two.0 field.now) }
+// What the next field says that has one of two letters or none; nothing for anything else, and the field is then left.
+#[tactic(auto, unfolding(crate::specs::Line::letter_of, text::specs::Text::index_of))]
+fn letter<T: Copy>(fields: &mut Fields, one: (u8, T), two: (u8, T)) -> Option<Option<T>>
+    requires { (eqb one.0 44 ≡ false) × (eqb two.0 44 ≡ false) }
+    ensures value { result ≡ chosen one.1 two.1 (letter_of one.0 two.0 (get_or fields.old 0 [])) }
+    ensures left { fields.new ≡ cond (is_some result) (drop 1 fields.old) fields.old }
 {
-    if is_field(field, b"") {
+    if fields.passes(b"") {
         return Some(None);
     }
-    if is_field(field, &[one.0]) {
+    if fields.passes(&[one.0]) {
         return Some(Some(one.1));
     }
-    if is_field(field, &[two.0]) {
+    if fields.passes(&[two.0]) {
         return Some(Some(two.1));
     }
     None
@@ -69,17 +71,13 @@ pub(crate) fn read(line: &[u8]) -> Option<Said>
 {
     let mut fields = Fields::of(line);
     let firm = fields.firm()?;
-    let named = LimitType::named(fields.next_field())?;
+    let named = LimitType::named(&mut fields)?;
     let root = fields.root()?;
     let limit = fields.number(1)?;
     let time = time(&mut fields, named.is_absolute())?;
     let firmwide = is_field(fields.next_field(), b"T");
-    let call = letter(fields.next_field(), (b'C', Side::Call), (b'P', Side::Put))?;
-    let month = letter(
-        fields.next_field(),
-        (b'F', Month::Front),
-        (b'T', Month::Trailing),
-    )?;
+    let call = letter(&mut fields, (b'C', Side::Call), (b'P', Side::Put))?;
+    let month = letter(&mut fields, (b'F', Month::Front), (b'T', Month::Trailing))?;
     if !fields.is_empty() {
         return None;
     }

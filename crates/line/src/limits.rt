@@ -1,30 +1,31 @@
 // The six types of limit: the field that names one, and what a number and a time are to each.
-ghost use Rattle.std.specs.Prelude.{◌≡◌};
+ghost use Rattle.std.specs.Prelude.{◌≡◌, [], cond, is_some, get_or, drop};
 ghost use Rattle.line.specs.Line.{type_of, is_absolute, kind_of};
 ghost use Rattle.line.specs.Inner.Parts.{limit_read};
 
 use crate::LimitType;
 use measures::{Contracts, Dollars, Executions, Time};
 use rules::{Kind, Limit};
-use text::is_field;
+use text::Fields;
 
 impl LimitType {
-    // The type that a field names.
-    #[tactic(auto, unfolding(crate::specs::Line::type_of))]
-    pub(crate) fn named(field: &[u8]) -> Option<LimitType>
-        ensures { result ≡ type_of field.now }
+    // The type that the next field names. The field is passed if it names one.
+    #[tactic(auto, unfolding(crate::specs::Line::type_of, text::specs::Text::index_of))]
+    pub(crate) fn named(fields: &mut Fields) -> Option<LimitType>
+        ensures value { result ≡ type_of (get_or fields.old 0 []) }
+        ensures left { fields.new ≡ cond (is_some result) (drop 1 fields.old) fields.old }
     {
-        if is_field(field, b"rate_ntnl") {
+        if fields.passes(b"rate_ntnl") {
             Some(LimitType::RateNtnl)
-        } else if is_field(field, b"rate_vol") {
+        } else if fields.passes(b"rate_vol") {
             Some(LimitType::RateVol)
-        } else if is_field(field, b"rate_count") {
+        } else if fields.passes(b"rate_count") {
             Some(LimitType::RateCount)
-        } else if is_field(field, b"abs_ntnl") {
+        } else if fields.passes(b"abs_ntnl") {
             Some(LimitType::AbsNtnl)
-        } else if is_field(field, b"abs_vol") {
+        } else if fields.passes(b"abs_vol") {
             Some(LimitType::AbsVol)
-        } else if is_field(field, b"abs_count") {
+        } else if fields.passes(b"abs_count") {
             Some(LimitType::AbsCount)
         } else {
             None

@@ -4,15 +4,14 @@ use mathlib.Core.Path.{◌≡◌, refl, sym, ap, ◌∙◌}
 use mathlib.Core.Bool.{Bool, true, false, cond, ◌&&◌, ◌||◌, false≢true}
 use mathlib.Core.List.{List, [], ◌∷◌, ◌++◌}
 use lib.ListN.{length, get_or, take, drop, length-drop, length-append, take-append-drop}
-use lib.Seq.{drop-drop, get_or-drop, length-take-le}
+use lib.Seq.{get_or-drop}
 use lib.Dec.{eqb, leb, leb-suc-suc}
 use borrow.Author.Tests.{eqb-false, leb-false, le-leb, lt-leb, eq-eqb, ne_eqb}
-use native.Mathlib.Decide.{dec_lt}
 use native.Mathlib.Nat.{add_assoc, add-zero, zero-add, suc-add}
 use native.Mathlib.Omega.{arith}
 use native.Mathlib.Numerals.{add-one}
 use Rattle.std.specs.Cmp.Lexicographic.{pointwise}
-use Rattle.std.specs.Prelude.{min}
+use Rattle.std.specs.Prelude.{min, Option, Some, None, unwrap_or, IfSome, MatchOption}
 use Rattle.std.proofs.lemmas.List.{take_rest, drop_min}
 use Rattle.laws.specs.Lists.{same}
 use Rattle.laws.proofs.Lists.{from, ended}
@@ -50,6 +49,11 @@ index-past b (x ∷ s) t e = go (eqb x b) (index-past b s t) e
         → cond q zero (suc (index_of b (s ++ t))) ≡ suc (length s) + index_of b t
     go true more e = absurd (omega arith)
     go false more e = omega (arith, more (omega arith))
+
+-- what a search for the first b answers tells how many bytes stand before it
+pub place-told : (found : Option ℕ) (n k : ℕ) → k ≡ unwrap_or found n → IfSome found (λ i. i < n) → MatchOption found (k ≡ n) (λ i. (i ≡ k) × (i < n))
+place-told None n k e h = e
+place-told (Some i) n k e h = (sym e, h)
 
 -- some bytes from a place on that are joined by | into one test are none of them b where the test fails, so the index of b lies past them
 pub index-behind : (b : ℕ) (s : List ℕ) (at i : ℕ) {n : ℕ} (near : Bool) → (near ≡ false → n ≡ at + i + index_of b (drop (at + i) s)) → at + i < length s

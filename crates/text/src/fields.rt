@@ -1,11 +1,12 @@
 // The fields of a line, read one after the other. The loop that reads a number or a name finds its end, so that each of its bytes is looked at once.
-// Any other field is cut off at its comma first, and then compared.
-ghost use Rattle.std.specs.Prelude.{◌≡◌, ℕ, List, [], ◌+◌, ◌^◌, ◌≤◌, cond, is_some, is_none, length, get_or, drop, eqb};
+// A word is compared where it stands. Any other field is cut off at its comma first, and then compared.
+ghost use Rattle.std.specs.Prelude.{◌≡◌, ℕ, List, [], ◌+◌, ◌^◌, ◌≤◌, ◌<◌, cond, is_some, is_none, length, get_or, drop, eqb, MatchOption};
+ghost use Rattle.laws.specs.Lists.{same};
 ghost use Rattle.text.specs.Text.{fields, index_of, is_digit, name_of};
 ghost use Rattle.text.specs.Inner.Taking.{fields_in, read_as, AreDigits};
 
 use crate::digits::{Decimal, Digits, Letters, front};
-use crate::index_of;
+use crate::place_of;
 use std::marker::Model;
 
 // The fields of a line that are still to be read. One that is absent reads as empty.
@@ -21,16 +22,30 @@ impl<'a> Model for Fields<'a> {
     ghost view = { λ f. fields_in f.left };
 }
 
-// What is left of a line after a field that ends at a place.
-fn after(rest: &[u8], end: usize) -> Option<&[u8]>
-    requires { end ≡ index_of 44 rest.now }
-    ensures { fields_in result ≡ drop 1 (fields rest.now) }
+// What is left of a line behind a field, by the bytes that stand there: nothing if there are none. `None` if a comma is not the first of them.
+fn behind(more: &[u8]) -> Option<Option<&[u8]>>
+    ensures { MatchOption result (0 < index_of 44 more.now) (λ left. (0 ≡ index_of 44 more.now) × (fields_in left ≡ drop 1 (fields more.now))) }
 {
-    if end < rest.len() {
-        Some(&rest[end + 1..])
-    } else {
-        None
+    let Some((first, others)) = more.split_first() else {
+        return Some(None);
+    };
+    if *first != b',' {
+        return None;
     }
+    Some(Some(others))
+}
+
+// True if two words of one length are the same. The loop has no early exit, so that all bytes are compared at once.
+#[inline(always)]
+fn is_same(one: &[u8], other: &[u8]) -> bool
+    requires { length one.now ≡ length other.now }
+    ensures { result ≡ same one.now other.now }
+{
+    let mut alike = true;
+    for (x, y) in one.iter().zip(other) {
+        alike &= *x == *y;
+    }
+    alike
 }
 
 impl<'a> Fields<'a> {
@@ -63,9 +78,33 @@ impl<'a> Fields<'a> {
         ensures left { self.new ≡ drop 1 self.old }
     {
         let rest = self.rest();
-        let end = index_of(rest, b',');
-        self.left = after(rest, end);
+        let Some(end) = place_of(rest, b',') else {
+            self.left = None;
+            return rest;
+        };
+        self.left = Some(&rest[end + 1..]);
         &rest[..end]
+    }
+
+    // True if the next field holds a word, which has no comma. The field is then passed; nothing searches for its end.
+    // It is inlined, so that a word that is known is compared at once.
+    #[inline(always)]
+    pub fn passes(&mut self, word: &[u8]) -> bool
+        requires { index_of 44 word.now ≡ length word.now }
+        ensures value { result ≡ same (get_or self.old 0 []) word.now }
+        ensures left { self.new ≡ cond result (drop 1 self.old) self.old }
+    {
+        let Some((front, more)) = self.rest().split_at_checked(word.len()) else {
+            return false;
+        };
+        if !is_same(front, word) {
+            return false;
+        }
+        let Some(left) = behind(more) else {
+            return false;
+        };
+        self.left = left;
+        true
     }
 
     // The next field as the number of least to most digits, or nothing, and all fields are left.
@@ -77,13 +116,11 @@ impl<'a> Fields<'a> {
     {
         let rest = self.rest();
         let (value, end) = front::<D>(rest, most);
-        if end < rest.len() && rest[end] != b',' {
-            return None;
-        }
+        let left = behind(&rest[end..])?;
         if end < least {
             return None;
         }
-        self.left = after(rest, end);
+        self.left = left;
         Some(value)
     }
 

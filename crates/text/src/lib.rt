@@ -1,7 +1,7 @@
 // The bytes of a profile: lines, fields, names and numbers.
 #![tactic(auto)]
 
-ghost use Rattle.std.specs.Prelude.{◌≡◌, false, ◌+◌, ◌≤◌, length, drop};
+ghost use Rattle.std.specs.Prelude.{◌≡◌, false, ◌+◌, ◌≤◌, ◌<◌, length, drop, MatchOption};
 ghost use Rattle.std.proofs.lemmas.List.Edits.{sets};
 ghost use Rattle.laws.specs.Lists.{same};
 ghost use Rattle.text.specs.Digits.{name_bytes, decimal};
@@ -13,11 +13,18 @@ mod fields;
 use digits::{Decimal, Letters, front, put_last};
 pub use fields::Fields;
 
+// How many bytes stand before the first b, if there is one.
+pub(crate) fn place_of(s: &[u8], b: u8) -> Option<usize>
+    ensures { MatchOption result (index_of b s.now ≡ length s.now) (λ at. (at ≡ index_of b s.now) × (at < length s.now)) }
+{
+    s.iter().position(|x| *x == b)
+}
+
 // How many bytes stand before the first b: all, if there is none.
-pub(crate) fn index_of(s: &[u8], b: u8) -> usize
+fn index_of(s: &[u8], b: u8) -> usize
     ensures { result ≡ index_of b s.now }
 {
-    s.iter().position(|x| *x == b).unwrap_or(s.len())
+    place_of(s, b).unwrap_or(s.len())
 }
 
 // The place of the first b from a place on, or the end; a place past the end is told as it is.
