@@ -1,16 +1,17 @@
 -- Laws of lists of bytes: places, the pieces of a text, and the fields of a line. Assumes nothing.
-use Prim.Native.Nat.{ℕ, zero, suc, ◌+◌, ◌-◌, ◌≤◌, ◌<◌}
+use Prim.Native.Nat.{ℕ, zero, suc, ◌+◌, ◌-◌, ◌*◌, ◌≤◌, ◌<◌}
 use mathlib.Core.Path.{◌≡◌, refl, sym, ap, ◌∙◌}
 use mathlib.Core.Bool.{Bool, true, false, cond, ◌&&◌, ◌||◌, false≢true}
 use mathlib.Core.List.{List, [], ◌∷◌, ◌++◌}
 use lib.ListN.{length, get_or, take, drop, length-drop, length-append, take-append-drop}
-use lib.Seq.{get_or-drop}
+use lib.Seq.{drop-drop, get_or-drop}
 use lib.Dec.{eqb, leb, leb-suc-suc}
 use borrow.Author.Tests.{eqb-false, leb-false, le-leb, lt-leb, eq-eqb, ne_eqb}
 use native.Mathlib.Nat.{add_assoc, add-zero, zero-add, suc-add}
 use native.Mathlib.Omega.{arith}
 use native.Mathlib.Numerals.{add-one}
 use Rattle.std.specs.Cmp.Lexicographic.{pointwise}
+use Rattle.std.specs.Simd.{first_chunks}
 use Rattle.std.specs.Prelude.{min, Option, Some, None, unwrap_or, IfSome, MatchOption}
 use Rattle.std.proofs.lemmas.List.{take_rest, drop_min}
 use Rattle.laws.specs.Lists.{same}
@@ -69,6 +70,18 @@ index-on b rest first more n e f far =
     let long : length first + length more ≡ length rest = sym (length-append first more) ∙ ap length whole in
     let is : index_of b rest ≡ length first + index_of b more = ap (index_of b) (sym whole) ∙ index-past b first more far in
     (omega arith, omega arith)
+
+-- the i-th eight bytes of k that stand side by side, and those behind them where they have no b
+pub eight-at : (k i : ℕ) (s : List ℕ) → i < k → get_or (first_chunks 8 k s) i [] ≡ take 8 (drop (i * 8) s)
+eight-at zero i s h = absurd (omega arith)
+eight-at (suc k) zero s h = refl
+eight-at (suc k) (suc i) s h = eight-at k i (drop 8 s) (omega arith) ∙ ap (take 8) (drop-drop (i * 8) 8 s ∙ ap (λ (n : ℕ). drop n s) (omega arith))
+
+pub eight-behind : (b : ℕ) (s eight : List ℕ) (at : ℕ) → eight ≡ take 8 (drop at s) → at + 8 ≤ length s → index_of b eight ≡ length eight
+    → at + index_of b (drop at s) ≡ at + 8 + index_of b (drop (at + 8) s)
+eight-behind b s eight at e h far =
+    let on = index-on b (drop at s) eight (drop 8 (drop at s)) 8 e refl far in
+    omega (arith, on.1, ap (index_of b) (drop-drop 8 at s), length-drop at s, length-drop 8 (drop at s))
 
 -- one byte more that is not b
 pub index-further : (b : ℕ) (s : List ℕ) (x : ℕ) (near : Bool) → (near ≡ false → index_of b s ≡ length s) → (near || eqb x b) ≡ false

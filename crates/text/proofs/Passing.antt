@@ -103,3 +103,11 @@ module _ (s w : List ℕ) where
 
     pub others : drop 1 (fields more) ≡ drop 1 (fields s)
     others = same-others s more (length w) (omega (arith, sym (ap length whole) ∙ length-append w more)) behind end
+
+  -- a line in which the word's length has no end of a field behind it
+  pub unended : index_of 44 w ≡ length w → (more : List ℕ) → more ≡ drop (length w) s → 0 < index_of 44 more → same (get_or (fields s) 0 []) w ≡ false
+  unended plain more behind h = go (same (take (length w) s) w) refl
+    where
+      go : (t : Bool) → same (take (length w) s) w ≡ t → same (get_or (fields s) 0 []) w ≡ false
+      go true begins = goes-on plain more begins behind h
+      go false off = not-begun off

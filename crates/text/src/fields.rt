@@ -87,7 +87,7 @@ impl<'a> Fields<'a> {
     }
 
     // True if the next field holds a word, which has no comma. The field is then passed; nothing searches for its end.
-    // It is inlined, so that a word that is known is compared at once.
+    // Its end is looked at first, since most fields are of another length. It is inlined, so that a known word is compared at once.
     #[inline(always)]
     pub fn passes(&mut self, word: &[u8]) -> bool
         requires { index_of 44 word.now ≡ length word.now }
@@ -97,12 +97,12 @@ impl<'a> Fields<'a> {
         let Some((front, more)) = self.rest().split_at_checked(word.len()) else {
             return false;
         };
-        if !is_same(front, word) {
-            return false;
-        }
         let Some(left) = behind(more) else {
             return false;
         };
+        if !is_same(front, word) {
+            return false;
+        }
         self.left = left;
         true
     }

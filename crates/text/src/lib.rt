@@ -46,14 +46,14 @@ pub fn find_far(s: &[u8], from: usize, b: u8) -> usize
     ensures { result ≡ from + index_of b (drop from s.now) }
 {
     let all = &s[from.min(s.len())..];
-    let mut rest = all;
-    while let Some((eight, more)) = rest.split_first_chunk::<8>() {
+    let mut far = 0;
+    for eight in all.as_chunks::<8>().0 {
         if is_near(eight, b) {
             break;
         }
-        rest = more;
+        far += 8;
     }
-    from + (all.len() - rest.len()) + index_of(rest, b)
+    from + far + index_of(&all[far..], b)
 }
 
 // Whether a field holds a word and nothing else.
